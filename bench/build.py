@@ -17,13 +17,13 @@ PROGRAMS = TOP / "bench/programs"
 
 # what each program stands on, and the texts beside its own that are its modules
 BELOW = {
-    "answer_frames": "vp_decoding vp_wire vp_trace vp_catalog vp_base bytes",
-    "time_frames": "vp_decoding vp_wire vp_base bytes",
+    "answer_frames": "vp_wire vp_trace vp_catalog vp_base bytes",
+    "time_frames": "vp_wire vp_base bytes",
     "answer_batches": "vp_records vp_base",
     "answer_logs": "vp_stable vp_disks vp_records vp_outside vp_base",
     "time_logs": "vp_stable vp_disks vp_records vp_outside vp_base",
-    "answer_stops": "vp_stopping vp_hosts vp_schedule vp_onecopy vp_world vp_catalog vp_base",
-    "time_runs": "vp_cluster vp_playing vp_schedule vp_world vp_places vp_base",
+    "answer_stops": "vp_stopping vp_cluster vp_schedule vp_onecopy vp_world vp_catalog vp_base",
+    "time_runs": "vp_cluster vp_playing vp_schedule vp_world vp_base",
 }
 MODULES = {"answer_batches": ["record_text"], "answer_logs": ["record_text"]}
 

@@ -4,13 +4,15 @@
 usage: try_edits.py [--apply] [FOLDER] [CRATE | CRATE/EDIT ..]
 
 First it looks whether each edit of each CRATE can be applied, those of the crate's must-fail/ too, and prints each that can't; if no CRATE
-is named, those of all. With --apply this is all, and nothing is proved. Else it copies the repository FOLDER (the one of this script, if
+is named, those of all. It prints how many of those outside the gate are in edits/TRIED.csv, which has a line for each that was tried as it
+is now, with the goal that refused it. With --apply this is all, and nothing is proved. Else it copies the repository FOLDER (the one of this script, if
 none is named) as it stands, with what isn't committed, into a new folder, which is removed in the end. There it puts the edits of
 bench/edits/CRATE beside those of the CRATE's must-fail/, or leaves only those that are named as CRATE/EDIT, and runs
 `rt must-fail CRATE ..`, whose output is passed on. What the crates stand on is built there first, but for libraries that stand in FOLDER.
 
 The status is the run's: 1 where an edit isn't refused, or can't be applied.
 """
+import csv
 import os
 import pathlib
 import shutil
@@ -25,6 +27,12 @@ TOP = pathlib.Path(__file__).resolve().parent.parent
 def edits_of(top, crate):
     """The edits of a crate that stand outside the gate."""
     return sorted((top / "bench/edits" / crate).glob("*.edit"))
+
+
+def tried(top):
+    """The edits outside the gate that TRIED.csv lists, each as its crate and its name."""
+    with open(top / "bench/edits/TRIED.csv", newline="", encoding="utf-8") as lines:
+        return [(line["crate"], line["edit"]) for line in csv.DictReader(lines)]
 
 
 def why_not(edit, crate):
@@ -54,6 +62,11 @@ def why_not(edit, crate):
 def look(top, crates):
     """Prints which edits of the crates can't be applied, and returns whether there are any."""
     seen, faults = 0, 0
+    listed, known = tried(top), {(name, edit.stem) for name in crates for edit in edits_of(top, name)}
+    for name, edit in listed:
+        if name in crates and (name, edit) not in known or listed.count((name, edit)) > 1:
+            print(f"bench/edits/TRIED.csv: {name},{edit}: there is no such edit, or another line of it")
+            faults += 1
     for name in crates:
         crate, outside = top / "crates" / name, edits_of(top, name)
         inside = sorted(crate.glob("must-fail/*.edit"))
@@ -64,7 +77,8 @@ def look(top, crates):
             if why:
                 print(f"{edit.relative_to(top)}: {why}")
             seen, faults = seen + 1, faults + bool(why)
-    print(f"{seen} edits, {faults} that can't be applied", flush=True)
+    print(f"{len(known & set(listed))} of the {len(known)} edits outside the gate were tried as they are now (bench/edits/TRIED.csv)")
+    print(f"{seen} edits, {faults} faults", flush=True)
     return faults > 0
 
 

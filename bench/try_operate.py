@@ -97,15 +97,19 @@ def try_what_is_said(program, folder):
 
 
 def try_wake(program, folder):
-    """A client whose answer never comes ends with `no answer` after its TURNS of datagrams that are none."""
+    """A client whose answer never comes ends with `no answer` after its TURNS of datagrams that are none, and a gateway answers so and goes on."""
     nobody, client = free_ports(2)
     path = catalogue_in(folder, {1: nobody})
     with beating(path, f"{folder}/said", "--wake", client, "--wake-every", "0.2"):
         start = time.monotonic()
         with open(path, "rb") as given:
             done = subprocess.run([program, "client", str(client), "5", "1", "begin"], stdin=given, capture_output=True, timeout=60)
+        seconds = time.monotonic() - start
+        session = pathlib.Path(path).read_bytes() + b"session\nbegin\nhello\n"
+        answered = subprocess.run([program, "gateway", str(client), "5", "1"], input=session, capture_output=True, timeout=60)
     insist(done.returncode == NO_ANSWER and done.stdout == b"no answer\n", "another end of a client", done)
-    return f"a client of 5 turns ended after {time.monotonic() - start:.1f} s"
+    insist(answered.returncode == 0 and answered.stdout == b"no answer\nbad at 1\n", "another session", answered)
+    return f"a client of 5 turns ended after {seconds:.1f} s, and a gateway answered after as many"
 
 
 def try_ends_of_call(program, folder):

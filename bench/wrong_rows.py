@@ -77,20 +77,34 @@ def without_worked_schedules(copy):
     shutil.rmtree(crate / "must-fail", ignore_errors=True)
 
 
+def without_claim(laws, name):
+    claims = laws / "src/claims.rt"
+    claims.write_text(re.sub(r"(///.*\n)+pub fn %s\(\)\n(    .*\n)+\{\}\n" % name, "", claims.read_text()))
+
+
 def without_shapes(copy):
-    """Takes out the laws of well-formed sites, so that the crates of frames and log records need no proof first."""
+    """Takes out the laws of well-formed sites, and that of routes over them, so that the crates of frames and log records need no proof first."""
     crate = copy / "crates/vp_laws"
-    for path in [*crate.glob("specs/Shape*.antt"), crate / "src/shaped.rt"]:
+    for path in [*crate.glob("specs/Shape*.antt"), crate / "specs/Routes.antt", crate / "src/shaped.rt"]:
         path.unlink()
-    for name in ("Shapes", "Lists/Items"):
+    for name in ("Shapes", "Routes"):
         (crate / f"proofs/{name}.antt").unlink()
-    for name in ("Shapes", "shaped"):
+    for name in ("Shapes", "shaped", "Routes", "claims/messages_go_between_sites"):
         shutil.rmtree(crate / "proofs" / name)
-    replaced(crate / "proofs/Lists.antt", "pub mod Items\n", "")
+    without_claim(crate, "messages_go_between_sites")
+    replaced(crate / "src/claims.rt", "ghost use Rattle.vp_laws.specs.Routes.{MessagesGoBetweenSites};\n", "")
     shutil.rmtree(crate / "must-fail", ignore_errors=True)
-    for path, word in [("proofs/Lib.antt", "Shape"), ("specs/Lib.antt", "Shape"), ("src/lib.rt", "shaped")]:
-        kept = [line for line in (crate / path).read_text().splitlines() if word not in line]
+    for path in ("proofs/Lib.antt", "specs/Lib.antt", "src/lib.rt"):
+        kept = [line for line in (crate / path).read_text().splitlines() if not re.search(r"mod (Shape|Route|shaped)", line)]
         (crate / path).write_text("\n".join(kept) + "\n")
+    # of the items of lists what doesn't speak of shapes, and of log records which copies they leave
+    items = crate / "proofs/Lists/Items.antt"
+    kept = items.read_text().split("\n  pub all_append")[0].splitlines()
+    items.write_text("\n".join(line for line in kept if "specs.Shapes" not in line) + "\n")
+    shutil.copy(TOP / "crates/vp_records/proofs/Held.antt", crate / "proofs/Lists")
+    replaced(crate / "proofs/Lists.antt", "pub mod Items\n", "pub mod Items\npub mod Held\n")
+    for name in ("Listed", "Locks"):
+        replaced(crate / f"proofs/Table/{name}.antt", "Rattle.vp_records.proofs.Held", "Rattle.vp_laws.proofs.Lists.Held")
     crates = copy / "crates.txt"
     kept = [line for line in crates.read_text().splitlines() if line.split(":")[0] in CRATES]
     crates.write_text("\n".join(re.sub(" vp_(wire|records|bytes)", "", line) for line in kept) + "\n")
@@ -109,8 +123,7 @@ def without_catalogues(copy):
         lib.write_text("".join(line + "\n" for line in lib.read_text().splitlines() if not gone.match(line)))
     shutil.rmtree(crate / "must-fail", ignore_errors=True)
     laws = copy / "crates/vp_laws"
-    claims = laws / "src/claims.rt"
-    claims.write_text(re.sub(r"(///.*\n)+pub fn sites_are_apart\(\)\n(    .*\n)+\{\}\n", "", claims.read_text()))
+    without_claim(laws, "sites_are_apart")
     shutil.rmtree(laws / "proofs/claims/sites_are_apart")
     (laws / "proofs/Lists/Catalogues.antt").unlink()
     replaced(laws / "proofs/Lists.antt", "pub mod Catalogues\n", "")

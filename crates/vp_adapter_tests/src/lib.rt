@@ -1,4 +1,4 @@
-//! The tests of a socket as a link and of files as a disk, outside the crate that has them: a crate with tests is proved twice.
+//! The tests of a socket as a link and of files as a disk, outside their crate: a crate with tests is proved twice.
 #![tactic(auto)]
 
 #[cfg(test)]

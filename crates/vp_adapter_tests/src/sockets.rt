@@ -13,7 +13,7 @@ fn free_port(rt: &HostRuntime) -> io::Result<u16> {
     Ok(socket.local_addr()?.port())
 }
 
-/// What comes back of a piece that the link hands to its own port: the sender's port, the count, and the buffer's first and last byte.
+/// What comes back of a piece that the link sends to its own port: the sender's port, the count, and the buffer's first and last byte.
 fn echoed<L: Link>(link: &mut L, port: u16, piece: &[u8]) -> Result<(u16, usize, u8, u8), OutFault>
     requires { (L.state link.old).asked ≡ None }
 {
@@ -51,7 +51,7 @@ fn what_a_socket_can_not_do_is_counted(rt: HostRuntime) {
     assert!(rt; link.faults() == 0 && link.losses() == 1);
 }
 
-/// The port and the count of the next datagram that comes to the port, which a socket of 127.0.0.2 with this port handed over.
+/// The port and the count of the next datagram that comes to the port, sent by a socket of 127.0.0.2 with this port.
 fn from_elsewhere<L: Link>(rt: &HostRuntime, link: &mut L, port: u16) -> io::Result<(u16, usize)>
     requires { (L.state link.old).asked ≡ None }
 {

@@ -1,4 +1,4 @@
--- What is told of a disk over files stays when a log is changed.
+-- What the state of a disk over files says stays the same when a log is changed.
 use Rattle.std.proofs.Common.{refl, inl, arith, ℕ, Bool, List, Option, None, Result, OnOk, OnErr, Ok, Err}
 use Rattle.std.proofs.lemmas.List.{take_min}
 use Rattle.vp_outside.specs.Disk.{Torn, MaybeCut, Untouched}
@@ -31,7 +31,7 @@ on-err : (result : Result (Unit {0}) OutFault) → OnErr result (Unit {0})
 on-err (Ok _) = tt
 on-err (Err _) = tt
 
--- it isn't to stop
+-- it is not planned to stop
 no_stop : (result : Result (Unit {0}) OutFault) → KeepsToStop None None result
 no_stop (Ok _) = record { done = refl; not_done = tt; at_stop = λ _. tt }
 no_stop (Err _) = record { done = tt; not_done = refl; at_stop = λ _. tt }

@@ -1,8 +1,8 @@
--- What a disk over files tells: nothing of their content.
+-- What the state of a disk over files says: nothing of their content.
 use Rattle.std.specs.Prelude.{ℕ, Bool, List, Option, None}
 use Rattle.vp_outside.specs.Disk.{DiskState, IsDisk}
 
--- It tells no bytes, doesn't claim that a sync is kept, and takes it that a crash may leave anything.
+-- It says no bytes, doesn't claim that a sync is kept, and allows a crash to leave anything.
 abbrev pub of_files : Option (List ℕ) → Bool → ℕ → DiskState
 of_files asked attached faults = record {
   logs = λ _. None;

@@ -1,4 +1,4 @@
-//! The world outside as it is: a UDP socket as a link, two files as a disk, the words of the command line, and standard streams that are
+//! The real world outside: a UDP socket as a link, two files as a disk, the words of the command line, and standard streams that are
 //! closed.
 #![tactic(auto)]
 

@@ -15,10 +15,10 @@ use std::{io, str};
 use vp_base::{NoMemory, Word};
 use vp_outside::{Disk, Failed, OutFault};
 
-/// No half is written past here.
+/// The length in bytes beyond which no half is written.
 const LONGEST: u64 = 1 << 62;
 
-/// Which halves may have what no sync has kept.
+/// Which halves may have bytes that were never synced.
 #[derive(Drop)]
 struct Unsynced {
     first: bool,
@@ -26,7 +26,7 @@ struct Unsynced {
 }
 
 impl Unsynced {
-    /// What a process before may have left.
+    /// What an earlier process may have left: both halves are unsynced.
     fn both() -> Unsynced {
         Unsynced {
             first: true,
@@ -34,7 +34,7 @@ impl Unsynced {
         }
     }
 
-    /// A half is about to change.
+    /// Notes that a half is about to change.
     fn mark(&mut self, half: u8) {
         if half == 0 {
             self.first = true;
@@ -70,8 +70,8 @@ impl Halves {
     }
 }
 
-/// A disk whose log NAME is the files NAME.0 and NAME.1. It tells nothing of what they hold. While a log is attached the first file is
-/// locked, and no other disk can attach the log.
+/// A disk whose log NAME is the files NAME.0 and NAME.1. Its state says nothing of what they hold. While a log is attached its first file
+/// is locked, and no other disk can attach the log.
 #[derive(Drop)]
 pub struct LogFiles<R> {
     files: R,
@@ -82,6 +82,7 @@ pub struct LogFiles<R> {
 }
 
 impl<R: Files<File = File>> LogFiles<R> {
+    /// Makes a disk over the file system, with no log attached.
     pub fn new(files: R) -> LogFiles<R>
         ensures asked { (⟦<LogFiles<R> as Disk>⟧.state result).asked ≡ None }
         ensures attached { (⟦<LogFiles<R> as Disk>⟧.state result).attached ≡ false }
@@ -97,7 +98,7 @@ impl<R: Files<File = File>> LogFiles<R> {
     }
 
     /// Opens the files of a log, and makes those that are missing, unless another process has the lock of the first one. Their folder is
-    /// synced at each call, since the one that made them may have been stopped before it was.
+    /// synced at each call, since the process that made them may have been stopped before it was.
     fn open(&self, first: &[u8], second: &[u8]) -> io::Result<Halves> {
         let halves = Halves {
             first: self.open_locked(first)?,
@@ -107,7 +108,7 @@ impl<R: Files<File = File>> LogFiles<R> {
         Ok(halves)
     }
 
-    /// The lock goes with the file where it is closed, and with the process.
+    /// Opens the file and locks it. The lock is freed when the file is closed, and when the process ends.
     fn open_locked(&self, path: &[u8]) -> io::Result<File> {
         let file = self.open_half(path)?;
         file.try_lock()?;
@@ -158,7 +159,7 @@ fn write_piece(file: &File, at: u64, piece: &[u8]) -> io::Result<()>
     }
 }
 
-/// A file that is no longer than that stays as it is.
+/// Cuts the file to this length. A file that is no longer than that stays as it is.
 fn cut_file(file: &File, length: u64) -> io::Result<()> {
     if file.metadata()?.len() > length {
         file.set_len(length)?;
@@ -166,7 +167,7 @@ fn cut_file(file: &File, length: u64) -> io::Result<()> {
     Ok(())
 }
 
-/// Counts the call's failure.
+/// Counts the call as failed, if it is.
 fn counted<T>(faults: &mut u64, answer: io::Result<T>) -> Result<T, Failed>
     ensures ok { IfOk result (λ value. answer ≡ Ok value) }
     ensures cause { HasCause faults.old faults.new result }
@@ -189,7 +190,7 @@ impl<R: Files<File = File>> Disk for LogFiles<R> {
         self.faults
     }
 
-    /// It keeps the name and makes two paths of it, and answers want of memory where there is none for these. No other call answers that.
+    /// Keeps the name, makes two paths of it, and opens the files. Only this call may run out of memory, for the paths.
     fn attach(&mut self, name: &Word) -> Result<(), OutFault> {
         let asked = name.as_slice().to_vec(name.allocator())?;
         let first = path_of(name, b".0")?;

@@ -7,7 +7,7 @@ ghost use Rattle.vp_outside.specs.declared.sink.OutFault.TheVariants.{NoMemory a
 use std::net::{IpAddr, Ipv4Addr, Net, SocketAddr, UdpSocket};
 use vp_outside::{Failed, Link, MOST_GIVEN, OutFault};
 
-/// A UDP socket of 127.0.0.1 as a link. It tells neither what it has left nor what was handed to it.
+/// A UDP socket of 127.0.0.1 as a link. Its state doesn't say what it has left or what was handed to it.
 #[derive(Drop)]
 pub struct Socket<N> {
     net: N,
@@ -19,6 +19,7 @@ pub struct Socket<N> {
 }
 
 impl<N: Net> Socket<N> {
+    /// Makes a link that is not bound to a port yet.
     pub fn new(net: N) -> Socket<N>
         ensures { ⟦<Socket<N> as Link>⟧.state result ≡ record { left = None; given = 0; handed = None; asked = None; bound = false; faults = 0; losses = 0 } }
     {
@@ -33,7 +34,7 @@ impl<N: Net> Socket<N> {
     }
 }
 
-/// The sender's port on 127.0.0.1, and 0 of a sender elsewhere.
+/// The sender's port on 127.0.0.1, and 0 for a sender elsewhere.
 fn port_of(sender: &SocketAddr) -> u16 {
     if sender.ip() == IpAddr::V4(Ipv4Addr::LOCALHOST) {
         sender.port()
@@ -71,7 +72,7 @@ impl<N: Net> Link for Socket<N> {
         Ok(())
     }
 
-    /// It waits for a datagram. One that comes from another address than 127.0.0.1 comes from port 0, which no site has.
+    /// Waits for a datagram. One that comes from another address than 127.0.0.1 comes from port 0, which no site has.
     fn receive(&mut self, buf: &mut [u8]) -> Result<(u16, usize), Failed> {
         let Some(socket) = &self.socket else {
             unreachable!()
@@ -88,7 +89,7 @@ impl<N: Net> Link for Socket<N> {
         }
     }
 
-    /// It never answers want of memory.
+    /// Sends the datagram. It never runs out of memory.
     fn send(&mut self, port: u16, piece: &[u8]) -> Result<(), OutFault>
         requires bound { IsSome self.old.socket }
         ensures sends { Sends port piece.now (⟦<Socket<N> as Link>⟧.state self.old) (⟦<Socket<N> as Link>⟧.state self.new) result }

@@ -17,7 +17,8 @@ pub struct ClosedStreams {
 }
 
 impl ClosedStreams {
-    /// To be called before anything is opened. It fails where `/` can't be opened; then it isn't known which are closed.
+    /// Holds the closed streams; call it before anything is opened. It fails if `/` can't be opened; then it isn't known which are
+    /// closed.
     pub fn hold<R: Files<File = File>>(files: &R) -> io::Result<ClosedStreams>
         ensures input { IfOk result (λ closed. IfSome closed.input (λ file. file_raw_fd file ≡ pos 0)) }
         ensures output { IfOk result (λ closed. IfSome closed.output (λ file. file_raw_fd file ≡ pos 1)) }

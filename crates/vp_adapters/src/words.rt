@@ -5,8 +5,8 @@ use std::env::Env;
 use std::{env, io};
 use vp_base::{NoMemory, Word};
 
-/// The words of the command line but for the `first` ones, the program's name among them. Where a word isn't UTF-8 the list is empty,
-/// which is no command.
+/// Reads the words of the command line after the `first` ones, of which the program's name is one. The list is empty, which is no
+/// command, if a word isn't UTF-8.
 pub fn words_behind<R: Env + Alloc<A = Global>>(
     rt: &R,
     first: usize,

@@ -14,7 +14,7 @@ pub record IsTop (copies : List (ℕ × Stored)) (newest : Stored) : Type 0 wher
   pub there : Has copies (site, newest)
   pub top : (c : ℕ × Stored) → Has copies c → AtMost c.1.date newest.date
 
--- the one that is older than another goes
+-- a copy that is older than another is left out
 module _ (b c : ℕ × Stored) (copies : List (ℕ × Stored)) (n : Stored) where
   over : AtMost b.1.date c.1.date → IsTop (c ∷ copies) n → IsTop (b ∷ c ∷ copies) n
   over h t = record {

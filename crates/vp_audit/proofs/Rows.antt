@@ -1,4 +1,4 @@
--- Where no doubt is listed, no site is in doubt on the record.
+-- If no doubt is listed, no site is in doubt on the record.
 use Rattle.std.proofs.Common.{◌≡◌, ◌∙◌, sym, subst, ℕ, Bool, true, false, cond, List, [], ◌∷◌, refl, ⊎_elim}
 use Rattle.std.specs.Prelude.{filter}
 use Rattle.vp_model.specs.Types.{Doubt}

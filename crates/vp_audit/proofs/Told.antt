@@ -1,4 +1,4 @@
--- A report on stopped sites is true of every schedule that left them so.
+-- A report on stopped sites is true of every schedule that left them like this.
 use Rattle.std.proofs.Common.{◌≡◌, ◌∙◌, ap, sym, subst, ℕ, ◌*◌, Bool, true, false, cond, List, [], ◌∷◌, refl, arith}
 use Rattle.std.specs.Prelude.{Option, Some, None, filter, map, nat_le, nat_lt, length, option_to_list, slice_get, ◌||◌}
 use Rattle.std.specs.List.{Contains, list_any, range_with_len}
@@ -26,7 +26,7 @@ use Rattle.vp_audit.specs.declared.found.Found.{Found}
 use Rattle.vp_audit.proofs.Newest.{IsTop, newest_there}
 use Rattle.vp_audit.proofs.Rows.{no_rows}
 
--- ---- what `yes` says
+-- ---- what follows where the value is sure
 
 waits_none : (rows : List DoubtAt) → waits (slice_get rows 0) ≡ can.Yes → rows ≡ []
 waits_none [] e = refl

@@ -12,7 +12,7 @@ use Rattle.vp_model.specs.Refresh.{newest}
 use Rattle.vp_audit.specs.declared.found.DoubtAt.{DoubtAt}
 use Rattle.vp_audit.specs.Audited.{Parts, found, is_dated, newest_of, row_before, rows_of, same_row, settled_copy, settled_on, sites_dated, with_copy, writes_to}
 
--- the newest so far, with the settled copy of one more site
+-- the newest so far, or the settled copy of one more site
 abbrev pub newest_step : ℕ → Option Stored → ℕ × DurableState → Option Stored
 newest_step rec best part = with_copy best (settled_copy rec part.1)
 
@@ -47,14 +47,14 @@ fold_passing {A} {B} test f b (x ∷ xs) = go (test x) (fold_passing test f (f b
 abbrev with_row : ℕ → List DoubtAt → Doubt → List DoubtAt
 with_row site rows u = put same_row row_before (record { txn = u.txn; view = u.view; site = site }) rows
 
--- one more doubt, where it writes the record
+-- one more doubt, if it writes the record
 abbrev pub rows_step : ℕ → ℕ → List DoubtAt → Doubt → List DoubtAt
 rows_step site rec rows u = cond (writes_to rec u) (with_row site rows u) rows
 
 pub rows_walked : (site rec : ℕ) (rows : List DoubtAt) (doubts : List Doubt) → fold (rows_step site rec) rows doubts ≡ rows_of site (filter (writes_to rec) doubts) rows
 rows_walked site rec rows doubts = fold_passing (writes_to rec) (with_row site) rows doubts
 
--- one more site, where its settled copy is of that date
+-- one more site, if its settled copy has that date
 abbrev pub sites_step : Option Stored → ℕ → List ℕ → ℕ × DurableState → List ℕ
 sites_step best rec sites part = cond (is_dated best (settled_copy rec part.1)) (sites ++ part.0 ∷ []) sites
 

@@ -11,7 +11,7 @@ use Rattle.vp_audit.specs.declared.found.Can.TheVariants as can
 use Rattle.vp_audit.specs.declared.found.DoubtAt.{DoubtAt}
 use Rattle.vp_audit.specs.declared.found.Found.{Found}
 
--- sites with what they have to keep, ascending by site
+-- sites with their durable parts, ascending by site
 abbrev pub Parts : Type 0
 Parts = List (ℕ × DurableState)
 
@@ -24,7 +24,7 @@ writes_to rec u = has (keys u.writes) rec
 abbrev pub is_doubted : ℕ → DurableState → Bool
 is_doubted rec d = list_any (writes_to rec) d.doubts
 
--- a copy is settled where no transaction in doubt writes the record
+-- a copy is settled if no transaction in doubt writes the record
 abbrev pub settled_copy : ℕ → DurableState → Option Stored
 settled_copy rec d = if is_doubted rec d then None else value_at rec d.copies
 
@@ -35,12 +35,12 @@ settled_at rec part = map (λ copy. (part.0, copy)) (option_to_list (settled_cop
 abbrev pub settled_on : ℕ → Parts → List (ℕ × Stored)
 settled_on rec parts = flat_map (settled_at rec) parts
 
--- the newest one: of the least site, where several are as new
+-- the newest one, of the least site where several have its date
 abbrev pub newest_of : List (ℕ × Stored) → Option Stored
 newest_of [] = None
 newest_of (copy ∷ copies) = Some (newest copy.1 copies)
 
--- of two copies, where there are two, the newer one, the first where they are as new
+-- the newer of two copies, the first if they have the same date; if there is one copy, that one
 abbrev pub with_copy : Option Stored → Option Stored → Option Stored
 with_copy best None = best
 with_copy None (Some copy) = Some copy
@@ -62,20 +62,20 @@ same_row a b = same_txn a.txn b.txn && (a.site == b.site)
 abbrev pub row_before : DoubtAt → DoubtAt → Bool
 row_before a b = txn_before a.txn b.txn || (same_txn a.txn b.txn && nat_lt a.site b.site)
 
--- these doubts of a site take their places
+-- these doubts of a site are put among the others, in their order
 abbrev pub rows_of : ℕ → List Doubt → List DoubtAt → List DoubtAt
 rows_of site doubts rows = for_each doubts (λ u. put same_row row_before (record { txn = u.txn; view = u.view; site = site })) rows
 
 abbrev pub rows_at : ℕ → ℕ × DurableState → List DoubtAt → List DoubtAt
 rows_at rec part rows = rows_of part.0 (filter (writes_to rec) part.1.doubts) rows
 
--- the doubts on the record: by transaction, and of one transaction by site
+-- the doubts on the record, by transaction, and those of one transaction by site
 abbrev pub rows_on : ℕ → Parts → List DoubtAt
 rows_on rec parts = for_each parts (rows_at rec) []
 
--- ---- what can be told
+-- ---- whether a value is sure
 
--- Where no more than half of the weight is there, nothing can. Else a transaction in doubt has to end before, the least one first.
+-- With no more than half of the weight it isn't. Else a transaction in doubt has to end before, the least one first.
 abbrev pub waits : Option DoubtAt → Can
 waits None = can.Yes
 waits (Some row) = can.Wait row.txn
@@ -97,6 +97,6 @@ found catalogue parts rec =
       can = can_of (inside catalogue rec (keys parts)) (total catalogue rec) rows;
     }
 
--- of each record, in their order
+-- what is found of each record, in catalogue order
 abbrev pub audited : Catalogue → Parts → List Found
 audited catalogue parts = map (found catalogue parts) (range_with_len 0 (length catalogue.records))

@@ -10,14 +10,14 @@ use Rattle.vp_model.specs.Worked.{txn, view, stored}
 abbrev pub both : Catalogue
 both = record { sites = (1, 7001) ∷ (2, 7002) ∷ []; records = stored (codes "x") (codes "10") ((1, 1) ∷ (2, 1) ∷ []) ∷ [] }
 
--- the site with what these records leave
+-- the site with what these log records leave
 abbrev pub site : ℕ → List LogRecord → ℕ × DurableState
 site id records = (id, apply_all records (empty_durable (start_copies both id)))
 
 abbrev pub yes : ViewId → LogRecord
 yes view = log_record.Yes (txn 1 1 1) view ((0, codes "11") ∷ [])
 
--- one that never ran, one that is in doubt about a transaction of site 1, and one that has applied one in a later view
+-- one that never ran, one that is in doubt about a transaction of site 1, and one that has applied a transaction in a later view
 abbrev pub unused : ℕ → ℕ × DurableState
 unused id = site id []
 

@@ -1,27 +1,27 @@
-//! What is found of a record.
+//! What the stopped sites hold of one record.
 
 ghost use Rattle.std.specs.Prelude.{◌≡◌, IfOk, OnOk, filter, option_copied};
 ghost use Rattle.std.specs.List.{list_any};
 ghost use Rattle.vp_model.specs.Words.{keys};
 ghost use Rattle.vp_audit.specs.Audited.{can_of, found, is_dated, newest_of, rows_of, rows_on, settled_copy, settled_on, sites_dated, with_copy, writes_to};
 
-use vp_base::{Doubt, NoMemory, RecId, Seq, SiteId, Sites, Stored, TxnId, ViewId};
+use vp_base::{CopyOf, Doubt, NoMemory, RecId, Seq, SiteId, Sites, Stored, TxnId, ViewId};
 use vp_catalog::Catalog;
-use vp_lists::{Keyed, is_same_txn, is_same_view, put_in, txn_comes_before, view_comes_before};
+use vp_lists::{Keyed, is_same_txn, put_in, txn_comes_before, view_comes_before};
 use vp_records::Durable;
 
-/// Whether the value of a record can be told.
+/// Whether the value of a record is sure.
 #[derive(Clone, Copy, PartialEq, Eq)]
 pub enum Can {
-    /// No more than half of the weight of its copies is at the sites.
+    /// It isn't: no more than half of the weight of the record's copies is at the sites.
     No { inside: u32, total: u32 },
-    /// This transaction has to end before: it is the least that a site has in doubt on the record.
+    /// It isn't before this transaction has ended, which is the least that a site has in doubt on the record.
     Wait { txn: TxnId },
-    /// The newest copy has it.
+    /// It is: the newest copy has the value.
     Yes,
 }
 
-/// A transaction in doubt with its view, at a site.
+/// A transaction in doubt at a site, with its view.
 #[derive(Clone, Copy, PartialEq, Eq)]
 pub struct DoubtAt {
     pub txn: TxnId,
@@ -32,7 +32,7 @@ pub struct DoubtAt {
 /// Transactions in doubt at sites, ascending by transaction and then by site.
 pub type Doubts = Seq<DoubtAt>;
 
-/// What is found of a record.
+/// What the sites hold of a record.
 #[derive(Drop)]
 pub struct Found {
     pub rec: RecId,
@@ -44,10 +44,10 @@ pub struct Found {
     pub can: Can,
 }
 
-/// What is found of each record, in catalogue order.
+/// What the sites hold of each record, in catalogue order.
 pub type Report = Seq<Found>;
 
-/// Sites with what they have to keep, ascending by site.
+/// Sites with their durable parts, ascending by site.
 pub type Parts = Seq<(SiteId, Durable)>;
 
 impl Keyed for DoubtAt {
@@ -68,7 +68,7 @@ impl Keyed for DoubtAt {
 }
 
 impl Found {
-    /// What the sites hold of the record; `sites` are those of the parts.
+    /// Finds what the sites hold of the record; `sites` are those of the parts.
     pub(crate) fn of(
         catalog: &Catalog,
         parts: &Parts,
@@ -78,7 +78,7 @@ impl Found {
         requires { sites.now ≡ keys parts.now }
         ensures { IfOk result (λ f. f ≡ found catalog.now parts.now rec) }
     {
-        let newest = newest_on(parts, rec);
+        let newest = newest_on(parts, rec)?;
         let dated = sites_dated(parts, rec, &newest)?;
         let doubts = doubts_on(parts, rec)?;
         let can = can_of(catalog.inside(rec, sites), catalog.total(rec), &doubts);
@@ -105,7 +105,7 @@ fn is_doubted(doubts: &[Doubt], rec: RecId) -> bool
     doubts.iter().any(|doubt| writes_to(doubt, rec))
 }
 
-/// The copy of the record; none where a transaction in doubt writes it, or the site has no copy.
+/// The site's copy of the record; none where a transaction in doubt writes it, or the site has no copy.
 fn settled_copy(durable: &Durable, rec: RecId) -> Option<&Stored>
     ensures { option_copied result ≡ settled_copy rec durable.now }
 {
@@ -115,44 +115,44 @@ fn settled_copy(durable: &Durable, rec: RecId) -> Option<&Stored>
     durable.stored(rec)
 }
 
-/// The newer of two copies: the first where they are as new, and the one that is there.
-fn with_copy(best: Option<Stored>, copy: Option<&Stored>) -> Option<Stored>
-    ensures { result ≡ with_copy best (option_copied copy.entry) }
+/// The newer of two copies, and the first if they have the same date; if there is one copy, that one.
+fn with_copy(best: Option<Stored>, copy: Option<&Stored>) -> Result<Option<Stored>, NoMemory>
+    ensures { IfOk result (λ newer. newer ≡ with_copy best (option_copied copy.entry)) }
 {
-    match (best, copy) {
+    Ok(match (best, copy) {
         (best, None) => best,
-        (None, Some(copy)) => Some(copy.duplicate()),
+        (None, Some(copy)) => Some(copy.copy_of()?),
         (Some(best), Some(copy)) => {
             if view_comes_before(&best.date, &copy.date) {
-                Some(copy.duplicate())
+                Some(copy.copy_of()?)
             } else {
                 Some(best)
             }
         }
-    }
+    })
 }
 
-/// The newest settled copy, of the least site where several are as new; none where no copy is settled.
-fn newest_on(parts: &Parts, rec: RecId) -> Option<Stored>
-    ensures { result ≡ newest_of (settled_on rec parts.now) }
+/// The newest settled copy, of the least site where several have its date; none where no copy is settled.
+fn newest_on(parts: &Parts, rec: RecId) -> Result<Option<Stored>, NoMemory>
+    ensures { IfOk result (λ newest. newest ≡ newest_of (settled_on rec parts.now)) }
 {
     let mut newest = None;
     for part in parts.as_slice() {
-        newest = with_copy(newest, settled_copy(&part.1, rec));
+        newest = with_copy(newest, settled_copy(&part.1, rec))?;
     }
-    newest
+    Ok(newest)
 }
 
 fn is_dated(newest: &Option<Stored>, copy: Option<&Stored>) -> bool
     ensures { result ≡ is_dated newest.now (option_copied copy.entry) }
 {
     match (newest, copy) {
-        (Some(newest), Some(copy)) => is_same_view(&copy.date, &newest.date),
+        (Some(newest), Some(copy)) => copy.date == newest.date,
         _ => false,
     }
 }
 
-/// The sites whose settled copies have the date of this one.
+/// Lists the sites whose settled copies have the date of this one.
 fn sites_dated(parts: &Parts, rec: RecId, newest: &Option<Stored>) -> Result<Sites, NoMemory>
     ensures { IfOk result (λ sites. sites ≡ sites_dated newest.now rec parts.now) }
 {
@@ -165,7 +165,7 @@ fn sites_dated(parts: &Parts, rec: RecId, newest: &Option<Stored>) -> Result<Sit
     Ok(sites)
 }
 
-/// The transactions in doubt on the record.
+/// Lists the transactions in doubt on the record.
 fn doubts_on(parts: &Parts, rec: RecId) -> Result<Doubts, NoMemory>
     ensures { IfOk result (λ doubts. doubts ≡ rows_on rec parts.now) }
 {
@@ -176,7 +176,7 @@ fn doubts_on(parts: &Parts, rec: RecId) -> Result<Doubts, NoMemory>
     Ok(rows)
 }
 
-/// Those of one site take their places.
+/// Puts those doubts of one site that are on the record among the others, in their order.
 fn add_doubts(rows: &mut Doubts, site: SiteId, doubts: &[Doubt], rec: RecId) -> Result<(), NoMemory>
     ensures { OnOk result (rows.new ≡ rows_of site (filter (writes_to rec) doubts.now) rows.old) }
 {
@@ -193,7 +193,8 @@ fn add_doubts(rows: &mut Doubts, site: SiteId, doubts: &[Doubt], rec: RecId) -> 
     Ok(())
 }
 
-/// What the weights and the doubts say; a value is told only by more than half of the weight.
+/// Says whether the value is sure, by the weights and the doubts: it needs more than half of the weight (Bernstein, Hadzilacos and Goodman
+/// 1987, chapter 8), and no transaction in doubt.
 fn can_of(inside: u32, total: u32, doubts: &Doubts) -> Can
     ensures { result ≡ can_of inside total doubts.now }
 {

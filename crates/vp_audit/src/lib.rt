@@ -1,4 +1,4 @@
-//! What stopped sites hold of each record, by what they have to keep, and what of it is sure.
+//! What stopped sites hold of each record, by their durable parts, and which values are sure.
 #![tactic(auto)]
 
 mod found;

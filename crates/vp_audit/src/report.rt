@@ -10,7 +10,7 @@ use crate::laws::reports_are_true;
 use vp_base::{NoMemory, RecId, Sites};
 use vp_catalog::Catalog;
 
-/// What the sites hold of each record, by what they have to keep.
+/// Reports on each record of the catalogue, by the durable parts of the stopped sites.
 #[tactic(auto, using(crate::proofs::Walked::report_more))]
 pub fn audit(catalog: &Catalog, parts: &Parts) -> Result<Report, NoMemory>
     ensures report { IfOk result (λ report. report ≡ audited catalog.now parts.now) }

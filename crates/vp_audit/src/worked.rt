@@ -21,7 +21,7 @@ pub fn a_site_in_doubt()
     ensures alone { report_text worked.both (audited worked.both (worked.in_doubt ∷ [])) ≡ codes "unsettled x\ndoubt x 1.1.1 0@0 at 2\ncan x no 1 of 2\n" }
 {}
 
-/// A site has applied what another has not: its copy is the newer one.
+/// One site has applied a write that another has not: its copy is the newer one.
 pub fn a_site_that_has_applied()
     ensures { report_text worked.both (audited worked.both (worked.unused 1 ∷ worked.applied ∷ [])) ≡ codes "newest x 11 1@1 at 2\ncan x yes\n" }
 {}

@@ -1,4 +1,4 @@
--- One of some names is read exactly.
+-- One of some given names is read exactly.
 use Rattle.std.proofs.Common.{◌≡◌, ◌≢◌, ℕ, zero, suc, ◌+◌, ◌-◌, ◌<◌, Bool, true, false, cond, nat_eq, List, [], ◌∷◌, ◌++◌, length, get_or, take, drop, Option, Some, None, Result, Ok, Err, refl, sym, ap, subst, ◌∙◌, append_assoc, inl, inr}
 use Rattle.std.specs.Prelude.{option_map}
 use Rattle.std.specs.List.{starts_with, AllByRecursion}
@@ -97,7 +97,7 @@ among_exact names some = scan_exact {At = Front names} (record {
   one = λ a b t la lb. one_place names a b t la lb;
 }) [] (record { is = refl; begins = some })
 
--- names go on with the bytes of names
+-- the text of a listed name is a name
 pub place_is_name : (names : List (List ℕ)) (i : ℕ) (t : List ℕ) → AllByRecursion (λ n. IsName n n) names → IsPlace names i t → IsName t t
 place_is_name [] i t all h = absurd h
 place_is_name (w ∷ ws) zero t all h = subst (λ (x : List ℕ). IsName x x) (sym h) all.0

@@ -9,7 +9,7 @@ use Rattle.byteorder.specs.Endian.{big_number, big_bytes}
 use Rattle.vp_base.specs.Numbers.{IsByte, OnlyItsOwnBytesReadAsANumber}
 use Rattle.byteorder.specs.Numbers.{big_from-cons, big_from-lt, big_number-reads_back, length-bytes_high_first}
 
--- the number in front of the places of p, where the places hold less
+-- m and n are remainders below p, so a and b are equal quotients
 front_unique : (p a b m n : ℕ) → m < p → n < p → a * p + m ≡ b * p + n → a ≡ b
 front_unique p a b m n m_fits n_fits e =
     elim (cases_lt a b) [
@@ -32,7 +32,7 @@ index_fits [] i h = omega arith
 index_fits (x ∷ xs) zero h = h.0
 index_fits (x ∷ xs) (suc i) h = index_fits xs i h.1
 
--- n bytes hold a number below 256 ^ n
+-- the number in n bytes is below 256 ^ n
 pub number_fits : (n : ℕ) (xs : List ℕ) → AllByRecursion IsByte xs → big_number n xs < 256 ^ n
 number_fits n xs h = big_from-lt 0 n xs (λ i. index_fits xs i h)
 

@@ -1,4 +1,4 @@
--- Transactions are read exactly, and go on with digits alone.
+-- Transactions are read exactly, and go on only with digits.
 use Rattle.std.proofs.Common.{ℕ, ◌-◌, ◌^◌, List, [], ◌∷◌, ◌++◌, refl, sym, subst, arith}
 use Rattle.std.specs.Fmt.{decimal}
 use Rattle.vp_text.specs.Tokens.{IsLiteral, IsNumber}

@@ -34,7 +34,7 @@ view_allowed number site fits above below =
           record { number_fits = omega arith; site_fits = omega arith; opening = λ e. absurd (some e); made = λ e. above }
     ]
 
--- the sites of a view of that number
+-- the sites that a view with that number may have
 pub view_sites : (number site : ℕ) → IsView (view_of number site) → (least_site number ≤ site) × (site ≤ most_site number)
 view_sites number site v =
     elim (cases_eq number 0) [
@@ -120,7 +120,7 @@ unfolding view_from_at
 view_from_exact last good = exact_as (from_to last good) (from_from last) (number_then last.number (2 ^ 64 - 1) (omega (arith, good.number_fits)) (omega arith) (λ number. literal_outside is_digit (64 ∷ []) refl)
     (λ number. literal_then (64 ∷ []) (made_exact (view_of number) (number_exact (least_site_from last number) (most_site number) (from_range last number good).0 (site_range number).1))))
 
--- ---- a view goes on with digits alone
+-- ---- a view goes on only with digits
 
 sites_go : (least number : ℕ) → GoesOn is_digit (Then (IsLiteral (64 ∷ [])) (λ _. Made (IsNumber least (most_site number)) (view_of number)))
 sites_go least number = literal_goes is_digit (64 ∷ []) (made_goes is_digit (number_goes least (most_site number) (site_range number).1))

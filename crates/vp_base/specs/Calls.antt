@@ -6,7 +6,7 @@ use Rattle.vp_base.specs.declared.ids.TxnId.{TxnId}
 use Rattle.vp_base.specs.declared.event.Call.{Call}
 use Rattle.vp_base.specs.declared.event.Call.TheVariants as call
 
--- A call on a transaction has a number from 1 to 4294967295.
+-- The calls on a transaction have numbers from 1 to 4294967295.
 pub record IsNumbered (txn : TxnId) (number : ℕ) : Type 0 where
   pub txn_is : IsTxn txn
   pub some : 1 ≤ number

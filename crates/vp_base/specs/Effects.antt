@@ -1,4 +1,4 @@
--- What a step gives, with one thing more at the end.
+-- What a step gives, with one thing added at the end.
 use Rattle.std.specs.Prelude.{ℕ, List, [], ◌∷◌, ◌++◌, map}
 use Rattle.vp_base.specs.declared.entry.Commit.{Commit}
 use Rattle.vp_base.specs.declared.entry.LogRecord.{LogRecord}
@@ -23,7 +23,7 @@ with_message from message to e = record e { messages = e.messages ++ (record { f
 abbrev pub with_sent : List Sent → Effects → Effects
 with_sent messages e = record e { messages = e.messages ++ messages }
 
--- to each of the sites its own message, or the same to all
+-- to each of the sites a message of its own, or the same one to all
 abbrev pub letters : ℕ → (ℕ → Message) → List ℕ → List Sent
 letters from message_to sites = map (λ q. record { from = from; to = q; message = message_to q }) sites
 

@@ -1,4 +1,4 @@
--- The place that a fault names, where it isn't want of memory.
+-- The place that a fault names, unless it is want of memory.
 use Rattle.std.specs.Prelude.{ℕ, Option, Some, None}
 use Rattle.vp_base.specs.declared.fault.BadName.{BadName}
 use Rattle.vp_base.specs.declared.fault.NameFault.{NameFault}
@@ -10,7 +10,7 @@ use Rattle.vp_base.specs.declared.fault.LineFault.TheVariants as line_faults
 abbrev pub bad_place : BadName → Option ℕ
 bad_place e = Some e.at
 
--- the same
+-- the same for the faults of names and values
 abbrev pub name_place : NameFault → Option ℕ
 name_place (faults.BadName at) = Some at
 name_place faults.NoMemory = None

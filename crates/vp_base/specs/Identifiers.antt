@@ -4,7 +4,7 @@ use Rattle.std.specs.Fmt.{decimal}
 use Rattle.vp_base.specs.declared.ids.ViewId.{ViewId}
 use Rattle.vp_base.specs.declared.ids.TxnId.{TxnId}
 
--- A view has a number of 1 or more and a site from 1 to 16; or it is 0@0.
+-- A view has a number of 1 or more and a site from 1 to 16, or it is 0@0.
 pub record IsView (view : ViewId) : Type 0 where
   pub number_fits : view.number < 2 ^ 64
   pub site_fits : view.site ≤ 16
@@ -26,7 +26,7 @@ pub record IsViewFrom (last view : ViewId) (text : List ℕ) : Type 0 where
   pub number_from : last.number ≤ view.number
   pub site_from : view.number ≡ last.number → last.site ≤ view.site
 
--- A transaction has a site from 1 to 16, and a life and a place in it from 1 to 4294967295.
+-- A transaction has a site from 1 to 16, and a life and a place in that life from 1 to 4294967295.
 pub record IsTxn (txn : TxnId) : Type 0 where
   pub site_some : 1 ≤ txn.site
   pub site_fits : txn.site ≤ 16

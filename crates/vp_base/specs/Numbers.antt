@@ -6,7 +6,7 @@ use Rattle.byteorder.specs.Endian.{big_number, big_bytes}
 abbrev pub IsByte : ℕ → Type 0
 IsByte c = c < 256
 
--- As many bytes that read as the number are its own bytes.
+-- Of the byte strings of one length, only the number's own bytes are read as that number.
 abbrev pub OnlyItsOwnBytesReadAsANumber : Type 0
 OnlyItsOwnBytesReadAsANumber =
     (n x : ℕ) (bytes : List ℕ) → length bytes ≡ n → AllByRecursion IsByte bytes → big_number n bytes ≡ x → bytes ≡ big_bytes n x

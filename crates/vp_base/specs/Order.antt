@@ -5,14 +5,14 @@ use Rattle.vp_base.specs.declared.ids.TxnId.{TxnId}
 use Rattle.vp_base.specs.declared.entry.Owner.{Owner}
 use Rattle.vp_base.specs.declared.entry.Owner.TheVariants.{Txn, Refresh}
 
--- views stand in order by number and then by site
+-- views are ordered by number and then by site
 abbrev pub same_view : ViewId → ViewId → Bool
 same_view v w = (v.number == w.number) && (v.site == w.site)
 
 abbrev pub view_before : ViewId → ViewId → Bool
 view_before v w = nat_lt v.number w.number || ((v.number == w.number) && nat_lt v.site w.site)
 
--- transactions stand in order by site, life and place
+-- transactions are ordered by site, then life, then place
 abbrev pub same_txn : TxnId → TxnId → Bool
 same_txn t u = (t.site == u.site) && (t.life == u.life) && (t.seq == u.seq)
 
@@ -21,7 +21,7 @@ txn_before t u =
     nat_lt t.site u.site
     || ((t.site == u.site) && (nat_lt t.life u.life || ((t.life == u.life) && nat_lt t.seq u.seq)))
 
--- owners stand in order by transaction, and refresh comes last
+-- owners are ordered by transaction, and refresh comes last
 abbrev pub same_owner : Owner → Owner → Bool
 same_owner (Txn t) (Txn u) = same_txn t u
 same_owner (Txn t) Refresh = false

@@ -1,4 +1,4 @@
--- Reading views, transactions and names of a list from left to right.
+-- Reading views, transactions and listed names from left to right.
 use Rattle.std.specs.List.{starts_with}
 use Rattle.std.specs.Str.{bytes_eq}
 use Rattle.std.specs.Prelude.{ℕ, suc, ◌^◌, ◌-◌, List, [], ◌∷◌, ◌++◌, Bool, false, ◌||◌, nat_eq, Option, Some, None, option_map, Result, Ok, ◌==◌, if◌then◌else◌}
@@ -11,7 +11,7 @@ use Rattle.vp_base.specs.declared.ids.TxnId.{TxnId}
 abbrev pub view_of : ℕ → ℕ → ViewId
 view_of n s = record { number = n; site = s }
 
--- the sites of views with a number: 0 with 0, and 1 to 16 with others
+-- which sites views have: with the number 0 the site 0, and with others 1 to 16
 abbrev pub least_site : ℕ → ℕ
 least_site number = if number == 0 then 0 else 1
 
@@ -53,12 +53,12 @@ txn_at bytes = do
 
 -- ---- one of some names
 
--- some name begins so
+-- some name begins with this prefix
 abbrev pub starts_any : List (List ℕ) → List ℕ → Bool
 starts_any [] prefix = false
 starts_any (name ∷ names) prefix = starts_with nat_eq name prefix || starts_any names prefix
 
--- the first place at which the name stands
+-- the first place of the name in the list
 abbrev pub place_of : List (List ℕ) → List ℕ → Option ℕ
 place_of [] text = None
 place_of (name ∷ names) text = if bytes_eq name text then Some 0 else option_map (λ i. suc i) (place_of names text)

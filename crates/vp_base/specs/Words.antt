@@ -8,11 +8,11 @@ use Rattle.vp_text.specs.declared.class.Class.TheVariants.{Name, Value}
 abbrev pub IsName : List ℕ → List ℕ → Type 0
 IsName = IsWord (has Name) (most Name)
 
--- 1 to 64 bytes that print, without spaces: the value and its text are the same bytes
+-- 1 to 64 printable bytes without spaces: the value and its text are the same bytes
 abbrev pub IsValue : List ℕ → List ℕ → Type 0
 IsValue = IsWord (has Value) (most Value)
 
--- The text is the name that stands first at this place in the list.
+-- The text is the name whose first place in the list is this one.
 abbrev pub IsPlace : List (List ℕ) → ℕ → List ℕ → Type 0
 IsPlace [] i text = ⊥
 IsPlace (name ∷ names) zero text = text ≡ name

@@ -1,4 +1,4 @@
-//! A value in a box: a contract sees it as the value.
+//! A value on the heap: a contract sees the box as the value.
 
 ghost use Rattle.std.specs.Prelude.{◌≡◌, IfOk};
 ghost use Rattle.std.specs.Borrow.{Lends, sem};
@@ -8,7 +8,7 @@ use crate::seq::CopyOf;
 use std::alloc::Global;
 use std::marker::Model;
 
-/// A value of its own on the heap: for a field that would make its struct, or all variants of its enum, large.
+/// A value on the heap: for a field that would otherwise make its struct, or every variant of its enum, large.
 #[derive(Drop)]
 pub struct Boxed<T> {
     kept: Box<T>,
@@ -23,7 +23,7 @@ impl<T> Model for Boxed<T> {
 impl<T: Drop> Boxed<T> {
     ghost use Rattle.vp_base.specs.contracts.boxed.Boxed.{the_row};
 
-    /// An error is want of memory. The value is dropped then.
+    /// Moves the value to the heap. An error is want of memory; the value is dropped then.
     pub fn new(alloc: Global, value: T) -> Result<Boxed<T>, NoMemory>
         ensures { IfOk result (λ boxed. boxed ≡ value) }
     {
@@ -32,7 +32,7 @@ impl<T: Drop> Boxed<T> {
         })
     }
 
-    /// The value in the box, in its place.
+    /// The value, for reading.
     pub fn as_ref(&self) -> &T
         ensures { result.now ≡ self.now }
     {

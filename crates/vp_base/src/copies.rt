@@ -1,4 +1,4 @@
-//! Copies of the shared types.
+//! Copies of the shared types: each `copy_of` gives an equal value of its own, or fails for want of memory.
 
 use crate::answer::{Answer, Reply};
 use crate::entry::{Commit, Decision, Doubt, LogRecord, Op, Owner, Stored, View};
@@ -94,7 +94,10 @@ impl CopyOf for View {
 
 impl CopyOf for Stored {
     fn copy_of(&self) -> Result<Stored, NoMemory> {
-        Ok(self.duplicate())
+        Ok(Stored {
+            value: self.value.copy_of()?,
+            date: self.date,
+        })
     }
 }
 
@@ -193,11 +196,11 @@ impl CopyOf for Op {
         Ok(match *self {
             Op::Read { rec, ref value } => Op::Read {
                 rec,
-                value: value.duplicate(),
+                value: value.copy_of()?,
             },
             Op::Write { rec, ref value } => Op::Write {
                 rec,
-                value: value.duplicate(),
+                value: value.copy_of()?,
             },
         })
     }
@@ -231,7 +234,7 @@ impl CopyOf for LogRecord {
             },
             LogRecord::Copy { rec, ref stored } => LogRecord::Copy {
                 rec,
-                stored: stored.duplicate(),
+                stored: stored.copy_of()?,
             },
             LogRecord::Acked { txn, site } => LogRecord::Acked { txn, site },
             LogRecord::Checkpoint {
@@ -356,7 +359,7 @@ impl CopyOf for Answer {
             } => Answer::Value {
                 txn,
                 number,
-                value: value.duplicate(),
+                value: value.copy_of()?,
             },
             Answer::Written { txn, number } => Answer::Written { txn, number },
             Answer::Committed { txn, number } => Answer::Committed { txn, number },
@@ -437,7 +440,7 @@ impl CopyOf for Call {
                 txn,
                 number,
                 name: name.duplicate(),
-                value: value.duplicate(),
+                value: value.copy_of()?,
             },
             Call::Commit { txn, number } => Call::Commit { txn, number },
             Call::Abort { txn, number } => Call::Abort { txn, number },

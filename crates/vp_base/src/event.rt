@@ -1,4 +1,4 @@
-//! What comes to a site, what it gives, and the events and lines of a schedule.
+//! What comes to a site, what a site gives, and the events and lines of a schedule.
 
 ghost use Rattle.std.specs.Prelude.{◌≡◌, [], OnOk};
 ghost use Rattle.vp_base.specs.Effects.{with_entry, with_commit, with_reply, with_message, with_messages};
@@ -10,29 +10,36 @@ use crate::lists::{Batch, Commits, Messages, Replies};
 use crate::memory::NoMemory;
 use crate::message::{Message, Sent};
 use crate::seq::CopyOf;
-use crate::text::{Name, Value};
+use crate::text::Name;
+use crate::value::Value;
 use std::alloc::Global;
 
-/// What a client asks of a site. The number of a call counts those of its transaction, from 1.
+/// What a client asks of a site. The calls of a transaction are numbered from 1.
 #[derive(Drop)]
 pub enum Call {
+    /// Begins a transaction in the site's view.
     Begin,
+    /// Has the site invite all sites to a new view.
     Regroup,
+    /// Reads a record.
     Read {
         txn: TxnId,
         number: CallNo,
         name: Name,
     },
+    /// Writes a record.
     Write {
         txn: TxnId,
         number: CallNo,
         name: Name,
         value: Value,
     },
+    /// Commits the transaction.
     Commit {
         txn: TxnId,
         number: CallNo,
     },
+    /// Aborts the transaction.
     Abort {
         txn: TxnId,
         number: CallNo,
@@ -42,31 +49,44 @@ pub enum Call {
 /// One input of a site.
 #[derive(Drop)]
 pub enum Input {
+    /// The call of a client at the port `from`.
     Call { from: u16, call: Call },
+    /// A message from another site.
     Message { from: SiteId, message: Message },
+    /// Time has passed: the site fixes the view that it invites to, closes calls that were pending at the tick before, and sends
+    /// again.
     Tick,
+    /// The site sends a probe to each other site, or invites to a new view where the sites heard since its last probes aren't the
+    /// members.
     Probe,
 }
 
-/// An event of a schedule.
+/// An event of a schedule: what happens next.
 #[derive(Drop)]
 pub enum Event {
+    /// A client calls a site.
     Call { site: SiteId, call: Call },
-    /// The message that was sent as number `k` is delivered; the first one of the run is 1.
+    /// The message that was sent as number `k` is delivered, where the first one of the run has number 1. It may be delivered
+    /// again.
     Deliver { k: u32 },
-    /// At most `count` messages are delivered.
+    /// Up to `count` messages are delivered, each for the first time.
     Flow { count: u32 },
+    /// A site's clock ticks.
     Tick { site: SiteId },
+    /// A site probes the others.
     Probe { site: SiteId },
-    /// Nothing is delivered between the sites `a` and `b` until they are healed.
+    /// From here on nothing is delivered between the sites `a` and `b`, until a heal.
     Cut { a: SiteId, b: SiteId },
+    /// The cut between the sites `a` and `b` ends.
     Heal { a: SiteId, b: SiteId },
+    /// A site crashes: it keeps only what is in its log.
     Crash { site: SiteId },
+    /// A site that is down starts again from its log.
     Restart { site: SiteId },
 }
 
-/// What a step gives. The records are synced before a message or a reply leaves the site. Without memory a method of it may have
-/// appended a part of what it appends, so the effects are then to be dropped.
+/// What a step gives. The log records are synced before a message or a reply leaves the site. After want of memory only part of
+/// what a method appends may be there, so drop the effects then.
 #[derive(Drop)]
 pub struct Effects {
     pub records: Batch,
@@ -76,6 +96,7 @@ pub struct Effects {
 }
 
 impl Effects {
+    /// Makes effects that are empty.
     pub fn none(alloc: Global) -> Effects
         ensures { result ≡ record { records = []; commits = []; messages = []; replies = [] } }
     {
@@ -87,34 +108,35 @@ impl Effects {
         }
     }
 
-    /// The record is to be forced to the log.
+    /// Adds a log record that is to be forced.
     pub fn force(&mut self, entry: LogRecord) -> Result<(), NoMemory>
         ensures { OnOk result (self.new ≡ with_entry entry self.old) }
     {
         self.records.push(entry)
     }
 
-    /// The transaction is committed.
+    /// Adds a committed transaction.
     pub fn commit(&mut self, commit: Commit) -> Result<(), NoMemory>
         ensures { OnOk result (self.new ≡ with_commit commit self.old) }
     {
         self.commits.push(commit)
     }
 
-    /// Answers the client at the port.
+    /// Adds an answer to the client at the port.
     pub fn reply(&mut self, to: u16, answer: Answer) -> Result<(), NoMemory>
         ensures { OnOk result (self.new ≡ with_reply answer to self.old) }
     {
         self.replies.push(Reply { to, answer })
     }
 
+    /// Adds a message from one site to another.
     pub fn send(&mut self, from: SiteId, to: SiteId, message: Message) -> Result<(), NoMemory>
         ensures { OnOk result (self.new ≡ with_message from message to self.old) }
     {
         self.messages.push(Sent { from, to, message })
     }
 
-    /// Sends the same message to each of the sites, in order.
+    /// Adds the same message to each of the sites, in order.
     pub fn send_all(
         &mut self,
         from: SiteId,
@@ -130,43 +152,53 @@ impl Effects {
     }
 }
 
-/// What a limit of a world counts.
+/// What a limit of a world counts: its steps, or the messages that are sent in it.
 #[derive(Clone, Copy, Debug, Drop, PartialEq, Eq)]
 pub enum Counted {
+    /// Steps: each event but a flow, and each delivery of a flow.
     Steps,
+    /// Messages that were sent, delivered or not.
     Messages,
 }
 
-/// What the trace shows under an event.
+/// What the trace prints under an event.
 #[derive(Drop)]
 pub enum Shown {
+    /// A site has done a step and given this. `first` is the number of the first of its messages.
     Step {
         commits: Commits,
         first: u32,
         messages: Messages,
         replies: Replies,
     },
+    /// The event has happened, and nothing more is to be printed of it.
     Nothing,
+    /// No message with that number has been sent.
     NoMessage,
+    /// The site is down, so that nothing happens.
     Down {
         site: SiteId,
     },
+    /// The two sites are cut off from each other, so that nothing is delivered.
     Parted {
         from: SiteId,
         to: SiteId,
     },
+    /// The site that was to restart is up already.
     Up {
         site: SiteId,
     },
+    /// The site has started in a new life, with this number.
     Life {
         life: u32,
     },
+    /// The site can't start again: the last number of a life has been given.
     LivesSpent {
         life: u32,
     },
 }
 
-/// An event and what the trace shows under it.
+/// An event with what the trace prints under it.
 pub struct Line {
     pub event: Event,
     pub shown: Shown,

@@ -1,4 +1,4 @@
-//! Why a word or a part of a line could not be read.
+//! Why a word or a part of a line can't be read.
 
 ghost use Rattle.std.specs.Prelude.{◌≡◌};
 ghost use Rattle.vp_base.specs.declared.fault.NameFault.TheVariants as faults;
@@ -14,11 +14,12 @@ pub struct BadName {
     pub at: usize,
 }
 
-/// Why a name or a value could not be read.
+/// Why a name or a value can't be read.
 #[derive(Clone, Copy, Debug, Drop, PartialEq, Eq)]
 pub enum NameFault {
-    /// The text is no such word: its longest prefix that begins one has this many bytes.
+    /// The text is no such word: its longest prefix that begins one has `at` bytes.
     BadName { at: usize },
+    /// Memory is lacking; nothing is known of the text.
     NoMemory,
 }
 
@@ -54,11 +55,12 @@ impl<T: Drop> From<AllocFailed<T>> for NameFault {
     }
 }
 
-/// Why a part of a line could not be read.
+/// Why a part of a line can't be read.
 #[derive(Clone, Copy, Debug, Drop, PartialEq, Eq)]
 pub enum LineFault {
-    /// No line that may stand here goes on as the bytes do.
+    /// No allowed line goes on from there as the bytes do.
     Unexpected(Unexpected),
+    /// Memory is lacking; nothing is known of the text.
     NoMemory,
 }
 

@@ -1,7 +1,7 @@
 //! The types that sites, logs, clients and schedules share.
 //!
-//! A contract sees an identifier as a number, a name as its bytes, and a list type as a list. Names, values, views and
-//! transactions are read from text with the exact place of a fault; `proofs/` has the laws of their texts.
+//! A contract sees an identifier as a number, a name as its bytes, and a list type as a list. Names, values, views and transactions
+//! are read from text, with the exact place of a fault; `proofs/` has the laws of their texts.
 #![tactic(auto)]
 
 mod answer;
@@ -21,6 +21,7 @@ mod seq;
 mod site;
 mod text;
 mod txn_text;
+mod value;
 mod view_text;
 
 pub use answer::{Answer, Reply};
@@ -28,7 +29,7 @@ pub use boxed::Boxed;
 pub use entry::{Commit, Decision, Doubt, LogRecord, Op, Owner, Stored, View};
 pub use event::{Call, Counted, Effects, Event, Input, Line, Shown};
 pub use fault::{BadName, LineFault, NameFault};
-pub use ids::{CallNo, RecId, SiteId, TxnId, ViewId};
+pub use ids::{CallNo, OPENING, RecId, SiteId, TxnId, ViewId};
 pub use limits::{
     LAST_SITE, MOST_EVENTS, MOST_FINISHED, MOST_LIVE, MOST_MESSAGES, MOST_OPS, MOST_RECORDS,
     MOST_STEPS,
@@ -40,7 +41,8 @@ pub use lists::{
 pub use memory::NoMemory;
 pub use message::{Message, Obstacle, Sent};
 pub use numbers::only_its_own_bytes_read_as_a_number;
-pub use places::{place, take_place};
+pub use places::{parse_place, place};
 pub use seq::{CopyOf, Seq};
 pub use site::{Ending, Finished, Live, Lock, Newest, Part, Pending, Refreshing};
-pub use text::{Name, Value};
+pub use text::Name;
+pub use value::Value;

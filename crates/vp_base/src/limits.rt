@@ -1,25 +1,26 @@
-//! The limits of the product. What goes beyond one is refused and told.
+//! The limits of the product. What would exceed one is refused, and the answer says so.
 
-/// The sites of a catalogue have numbers from 1 to this one.
+/// The highest number of a site. The lowest is 1.
 pub const LAST_SITE: u8 = 16;
 
-/// The records of a catalogue, or of a history.
+/// How many records a catalogue or a history may have.
 pub const MOST_RECORDS: usize = 256;
 
-/// The reads and writes that a transaction has done.
+/// How many reads and writes a transaction may do.
 pub const MOST_OPS: u8 = 64;
 
-/// The live transactions of a site.
+/// How many live transactions a site may have.
 pub const MOST_LIVE: usize = 1024;
 
-/// The ended transactions whose ends a site keeps.
+/// Of how many ended transactions a site keeps the end.
 pub const MOST_FINISHED: usize = 1024;
 
-/// The events of a schedule.
+/// How many events a schedule may have.
 pub const MOST_EVENTS: u32 = 100_000;
 
-/// The steps of a world: each event but a flow, and each delivery of a flow; and the deliveries that one flow of a schedule asks for.
+/// How many steps a world may take: each event but a flow is one, and each delivery of a flow. One flow may ask for as many
+/// deliveries.
 pub const MOST_STEPS: u32 = 100_000;
 
-/// The messages that are sent in a world.
+/// How many messages may be sent in a world.
 pub const MOST_MESSAGES: u32 = 2_000_000;

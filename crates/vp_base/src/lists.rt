@@ -6,19 +6,20 @@ use crate::event::Event;
 use crate::ids::{RecId, SiteId, TxnId};
 use crate::message::Sent;
 use crate::seq::Seq;
-use crate::text::{Name, Value};
+use crate::text::Name;
+use crate::value::Value;
 
 /// Sites, ascending.
 pub type Sites = Seq<SiteId>;
-/// The operations of a transaction, in order.
+/// The operations of a transaction, in the order in which they were done.
 pub type Ops = Seq<Op>;
-/// Committed transactions, in order.
+/// Committed transactions, in the order in which they were committed.
 pub type Commits = Seq<Commit>;
 /// Messages, in the order in which they are sent.
 pub type Messages = Seq<Sent>;
 /// Replies, in the order in which they are given.
 pub type Replies = Seq<Reply>;
-/// Log records, in order.
+/// Log records, in the order in which they are appended.
 pub type Batch = Seq<LogRecord>;
 /// The events of a schedule, in order.
 pub type Events = Seq<Event>;
@@ -28,7 +29,7 @@ pub type Names = Seq<Name>;
 pub type Txns = Seq<TxnId>;
 /// Records, ascending; 64 at most.
 pub type Recs = Seq<RecId>;
-/// The last value of each written record, ascending by record; 64 at most.
+/// The last value written to each record, ascending by record; 64 at most.
 pub type Writes = Seq<(RecId, Value)>;
 /// Copies, ascending by record.
 pub type Copies = Seq<(RecId, Stored)>;
@@ -38,5 +39,5 @@ pub type InDoubt = Seq<Doubt>;
 pub type Decisions = Seq<Decision>;
 /// Batches of log records, in the order in which they were appended.
 pub type Batches = Seq<Batch>;
-/// One word of a command line, as its bytes; the program's name is no word.
+/// One word of a command line, as bytes. The program's name is not one of them.
 pub type Word = Seq<u8>;

@@ -2,7 +2,7 @@
 
 ghost use Rattle.vp_base.specs.Numbers.{OnlyItsOwnBytesReadAsANumber};
 
-/// So many bytes that read as a number are just the bytes that `byteorder` writes of it.
+/// Of the byte strings of one length, only the one that `byteorder` writes for a number is read as that number.
 #[tactic(auto, using(crate::proofs::OwnBytes::own_bytes))]
 pub fn only_its_own_bytes_read_as_a_number()
     ensures { OnlyItsOwnBytesReadAsANumber }

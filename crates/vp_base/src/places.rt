@@ -1,4 +1,4 @@
-//! Names by their places in a list.
+//! Names, by their places in a list.
 
 ghost use Rattle.std.specs.Prelude.{◌≡◌};
 ghost use Rattle.vp_text.specs.Reading.{Reads};
@@ -7,8 +7,9 @@ ghost use Rattle.vp_base.specs.Reading.{starts_any, place_of, among_at};
 use crate::text::Name;
 use vp_text::{Cursor, Unexpected};
 
-/// Takes the longest beginning of one of the names, which has to be a name, and says the place of that name, its first one.
-pub fn take_place(cursor: &mut Cursor, names: &[Name]) -> Result<usize, Unexpected>
+/// Reads the longest prefix that begins one of the names, and gives the place of that name in the list, the first one if it is
+/// there twice. Fails where the prefix is not a whole name.
+pub fn parse_place(cursor: &mut Cursor, names: &[Name]) -> Result<usize, Unexpected>
     ensures { Reads (λ i. i) (λ e. e.left) result cursor.new (among_at names.now cursor.old) }
 {
     let bytes = cursor.rest();
@@ -27,7 +28,7 @@ pub fn take_place(cursor: &mut Cursor, names: &[Name]) -> Result<usize, Unexpect
     }
 }
 
-/// Whether one of the names begins so.
+/// Whether one of the names begins with this prefix.
 fn some_starts(names: &[Name], prefix: &[u8]) -> bool
     ensures { result ≡ starts_any names.now prefix.now }
 {
@@ -39,7 +40,7 @@ fn some_starts(names: &[Name], prefix: &[u8]) -> bool
     false
 }
 
-/// The place of a name in the list, its first one.
+/// The first place of a name in the list, from 0.
 pub fn place(names: &[Name], word: &[u8]) -> Option<usize>
     ensures { result ≡ place_of names.now word.now }
 {

@@ -1,4 +1,4 @@
-//! A list: a contract sees it as its items.
+//! Lists. A contract sees one as its items.
 
 ghost use Rattle.std.specs.Prelude.{◌≡◌, ◌++◌, ◌∷◌, [], OnOk, OnErr, IfOk, take};
 
@@ -6,14 +6,14 @@ use crate::memory::NoMemory;
 use std::alloc::Global;
 use std::marker::Model;
 
-/// What can be copied, where there is memory.
+/// What can be copied, where memory allows.
 pub trait CopyOf: Drop {
-    /// An equal value of its own.
+    /// Makes an equal value of its own. The only error is want of memory.
     fn copy_of(&self) -> Result<Self, NoMemory>
         ensures { IfOk result (λ copy. copy ≡ self.now) };
 }
 
-/// A list. It is made from a `Vec` and gives it back, without taking memory.
+/// A list. It is made from a `Vec` and is turned back into it without taking memory.
 #[derive(Drop)]
 pub struct Seq<T> {
     items: Vec<T>,
@@ -28,7 +28,7 @@ impl<T> Model for Seq<T> {
 }
 
 impl<T: Drop> Seq<T> {
-    /// The empty list, which takes no memory.
+    /// Makes an empty list, which takes no memory.
     pub fn new(alloc: Global) -> Seq<T>
         ensures { result ≡ [] }
     {
@@ -37,7 +37,7 @@ impl<T: Drop> Seq<T> {
         }
     }
 
-    /// Puts the item behind the last one. Without memory the list stays as it is.
+    /// Appends the item. Where memory is lacking, the list stays as it is, and the item is dropped.
     pub fn push(&mut self, item: T) -> Result<(), NoMemory>
         ensures ok { OnOk result (self.new ≡ self.old ++ item ∷ []) }
         ensures err { OnErr result (self.new ≡ self.old) }
@@ -46,24 +46,28 @@ impl<T: Drop> Seq<T> {
         Ok(())
     }
 
+    /// Makes a list of the items without copying them.
     pub fn from_vec(items: Vec<T>) -> Seq<T>
         ensures { result ≡ items.items }
     {
         Seq { items }
     }
 
+    /// Gives the items without copying them.
     pub fn into_vec(self) -> Vec<T>
         ensures { result.items ≡ self }
     {
         self.items
     }
 
+    /// The items, for reading.
     pub fn as_slice(&self) -> &[T]
         ensures { result.now ≡ self.now }
     {
         &self.items
     }
 
+    /// The allocator from which the list takes its memory.
     pub fn allocator(&self) -> Global {
         *self.items.allocator()
     }

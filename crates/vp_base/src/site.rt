@@ -1,4 +1,4 @@
-//! What the lists of a site's plain state hold.
+//! The items of the lists in a site's state.
 
 use crate::answer::Answer;
 use crate::boxed::Boxed;
@@ -9,7 +9,7 @@ use crate::lists::{Ops, Sites};
 use crate::seq::Seq;
 use crate::text::Name;
 
-/// A lock on a record. One that is not exclusive is shared.
+/// A lock on a record. It is exclusive or shared.
 #[derive(Drop)]
 pub struct Lock {
     pub rec: RecId,
@@ -17,7 +17,7 @@ pub struct Lock {
     pub owner: Owner,
 }
 
-/// The part here of another site's transaction that has not voted yet, or has voted and writes nothing here.
+/// What a site keeps of another site's transaction that has not voted here yet, or has voted but writes nothing here.
 #[derive(Clone, Copy, Drop)]
 pub struct Part {
     pub txn: TxnId,
@@ -25,7 +25,7 @@ pub struct Part {
     pub voted: bool,
 }
 
-/// A copy under refresh, with the copies of other sites that have come, ascending by site.
+/// A copy under refresh, with the copies that other sites have sent, ascending by site.
 pub struct Refreshing {
     pub rec: RecId,
     pub answers: Seq<(SiteId, Stored)>,
@@ -37,7 +37,7 @@ impl Drop for Refreshing {
     }
 }
 
-/// A call that is not answered yet: the sites that it waits for, and whether a tick has seen it.
+/// A call that is not answered yet: the sites that it waits for, and whether a tick has come since it began to wait.
 pub struct Pending {
     pub number: CallNo,
     pub port: u16,
@@ -58,7 +58,8 @@ impl Drop for Pending {
     }
 }
 
-/// A transaction of this site. The answer to call N is the Nth. The remote reads are pairs of a site and a record.
+/// A live transaction of this site. Its answers are in the order of its calls, so that the Nth is the answer to call N. A remote
+/// read is a pair of a site and a record.
 pub struct Live {
     pub txn: TxnId,
     pub view: ViewId,
@@ -83,8 +84,8 @@ impl Drop for Live {
     }
 }
 
-/// What a client of a site would call next: its newest live transaction, the number of the next call, from 1, and whether a
-/// call is not answered yet.
+/// What a client of a site would call next: the site's newest live transaction, the number of its next call, from 1, and whether an
+/// earlier call is not answered yet.
 #[derive(Clone, Copy, Drop, PartialEq, Eq)]
 pub struct Newest {
     pub txn: TxnId,
@@ -92,27 +93,32 @@ pub struct Newest {
     pub pending: bool,
 }
 
-/// What committed or aborted a transaction.
+/// How a transaction ended.
 #[derive(Drop)]
 pub enum Ending {
+    /// It was committed.
     Committed,
+    /// Its client aborted it.
     Aborted,
+    /// It was aborted, since another held a lock that it needed.
     LockHeld {
         name: Name,
         at: SiteId,
         owner: Owner,
     },
+    /// It was aborted, since a site left the view in which it began.
     ViewChanged {
         at: SiteId,
         held: ViewId,
         now: Option<ViewId>,
     },
+    /// It was aborted, since its call was still pending a tick later.
     TimedOut {
         at: SiteId,
     },
 }
 
-/// A transaction of this site that has ended, with the answers that it gave.
+/// A transaction of this site that has ended, with the answers that it was given, for calls that come again.
 pub struct Finished {
     pub txn: TxnId,
     pub answers: Seq<Answer>,

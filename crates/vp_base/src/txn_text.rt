@@ -16,15 +16,15 @@ use crate::memory::NoMemory;
 use vp_text::{Cursor, Unexpected, print_number};
 
 impl SiteId {
-    /// Takes a site, a number from 1 to 16, from the front of what is left.
-    pub fn take(cursor: &mut Cursor) -> Result<SiteId, Unexpected>
+    /// Reads a site, a number from 1 to 16, from the front of what is left.
+    pub fn parse(cursor: &mut Cursor) -> Result<SiteId, Unexpected>
         ensures { Reads (λ s. s) (λ e. e.left) result cursor.new (number_at 1 16 cursor.old) }
     {
         let number = cursor.number_u8(1, LAST_SITE)?;
         Ok(SiteId::of(number))
     }
 
-    /// Appends its number. Without memory the bytes stay as they are.
+    /// Appends its number. Where memory is lacking, `out` stays as it is.
     pub fn print(&self, out: &mut Vec<u8>) -> Result<(), NoMemory>
         ensures ok { OnOk result (out.new.items ≡ out.old.items ++ decimal self.now) }
         ensures err { OnErr result (out.new.items ≡ out.old.items) }
@@ -35,13 +35,13 @@ impl SiteId {
 }
 
 impl TxnId {
-    /// The transaction that the whole text is: a site from 1 to 16, a life and a place in it of 1 or more. `BadName` says
-    /// how many bytes of the text begin one.
+    /// Reads the whole text as a transaction: a site from 1 to 16, a life from 1, and a place in that life from 1. `BadName` says
+    /// how many bytes of the text begin a transaction.
     pub fn read(text: &[u8]) -> Result<TxnId, BadName>
         ensures { Answers IsTxnText (λ t. t) bad_place text.now result }
     {
         let mut cursor = Cursor::new(text);
-        match TxnId::take_whole(&mut cursor) {
+        match TxnId::parse_whole(&mut cursor) {
             Ok(txn) => Ok(txn),
             Err(e) => Err(BadName {
                 at: text.len() - e.left,
@@ -49,20 +49,20 @@ impl TxnId {
         }
     }
 
-    fn take_whole(cursor: &mut Cursor) -> Result<TxnId, Unexpected>
+    fn parse_whole(cursor: &mut Cursor) -> Result<TxnId, Unexpected>
         ensures { Reads (λ t. t) (λ e. e.left) result cursor.new (whole txn_at cursor.old) }
     {
-        let txn = TxnId::take(cursor)?;
+        let txn = TxnId::parse(cursor)?;
         cursor.end()?;
         Ok(txn)
     }
 
-    /// Takes a transaction from the front of what is left.
+    /// Reads a transaction from the front of what is left.
     #[tactic(auto, unfolding(crate::specs::Reading::txn_at))]
-    pub fn take(cursor: &mut Cursor) -> Result<TxnId, Unexpected>
+    pub fn parse(cursor: &mut Cursor) -> Result<TxnId, Unexpected>
         ensures { Reads (λ t. t) (λ e. e.left) result cursor.new (txn_at cursor.old) }
     {
-        let site = SiteId::take(cursor)?;
+        let site = SiteId::parse(cursor)?;
         cursor.literal(b".")?;
         let life = cursor.number_u32(1, u32::MAX)?;
         cursor.literal(b".")?;
@@ -70,7 +70,7 @@ impl TxnId {
         Ok(TxnId { site, life, seq })
     }
 
-    /// Appends the text of the transaction. Without memory only a beginning of it may stand there.
+    /// Appends the text of the transaction. After an error a beginning of it may have been appended.
     #[tactic(auto, using(vp_text::proofs::Printing::printing))]
     pub fn print(&self, out: &mut Vec<u8>) -> Result<(), NoMemory>
         ensures { Appends result out.old.items (txn_text self.now) out.new.items }
@@ -81,7 +81,7 @@ impl TxnId {
     }
 }
 
-/// Appends a mark and the number behind it. Without memory only a beginning of them may stand there.
+/// Appends a mark and then the number. After an error a beginning of them may have been appended.
 #[tactic(auto, using(vp_text::proofs::Printing::printing))]
 pub fn print_behind(out: &mut Vec<u8>, mark: u8, number: u32) -> Result<(), NoMemory>
     ensures { Appends result out.old.items (mark ∷ decimal number) out.new.items }

@@ -15,13 +15,13 @@ use crate::txn_text::print_behind;
 use vp_text::{Cursor, Unexpected, print_number};
 
 impl ViewId {
-    /// The view that the whole text is: a number of 1 or more with a site from 1 to 16, or 0@0. `BadName` says how many
-    /// bytes of the text begin one.
+    /// Reads the whole text as a view: a number of 1 or more with a site from 1 to 16, or 0@0. `BadName` says how many bytes of the
+    /// text begin a view.
     pub fn read(text: &[u8]) -> Result<ViewId, BadName>
         ensures { Answers IsViewText (λ v. v) bad_place text.now result }
     {
         let mut cursor = Cursor::new(text);
-        match ViewId::take_whole(&mut cursor) {
+        match ViewId::parse_whole(&mut cursor) {
             Ok(view) => Ok(view),
             Err(e) => Err(BadName {
                 at: text.len() - e.left,
@@ -29,37 +29,37 @@ impl ViewId {
         }
     }
 
-    fn take_whole(cursor: &mut Cursor) -> Result<ViewId, Unexpected>
+    fn parse_whole(cursor: &mut Cursor) -> Result<ViewId, Unexpected>
         ensures { Reads (λ v. v) (λ e. e.left) result cursor.new (whole view_at cursor.old) }
     {
-        let view = ViewId::take(cursor)?;
+        let view = ViewId::parse(cursor)?;
         cursor.end()?;
         Ok(view)
     }
 
-    /// Takes a view from the front of what is left.
+    /// Reads a view from the front of what is left.
     #[tactic(auto, unfolding(crate::specs::Reading::view_at))]
-    pub fn take(cursor: &mut Cursor) -> Result<ViewId, Unexpected>
+    pub fn parse(cursor: &mut Cursor) -> Result<ViewId, Unexpected>
         ensures { Reads (λ v. v) (λ e. e.left) result cursor.new (view_at cursor.old) }
     {
         let number = cursor.number(0, u64::MAX)?;
         cursor.literal(b"@")?;
-        let site = take_site(cursor, number)?;
+        let site = parse_site(cursor, number)?;
         Ok(ViewId { number, site })
     }
 
-    /// Takes a view that isn't below the last one from the front of what is left.
+    /// Reads a view that isn't below `last` from the front of what is left.
     #[tactic(auto, unfolding(crate::specs::Reading::view_from_at))]
-    pub fn take_from(cursor: &mut Cursor, last: ViewId) -> Result<ViewId, Unexpected>
+    pub fn parse_from(cursor: &mut Cursor, last: ViewId) -> Result<ViewId, Unexpected>
         ensures { Reads (λ v. v) (λ e. e.left) result cursor.new (view_from_at last cursor.old) }
     {
         let number = cursor.number(last.number, u64::MAX)?;
         cursor.literal(b"@")?;
-        let site = take_site_from(cursor, last, number)?;
+        let site = parse_site_from(cursor, last, number)?;
         Ok(ViewId { number, site })
     }
 
-    /// Appends the text of the view. Without memory only a beginning of it may stand there.
+    /// Appends the text of the view. After an error a beginning of it may have been appended.
     #[tactic(auto, using(vp_text::proofs::Printing::printing))]
     pub fn print(&self, out: &mut Vec<u8>) -> Result<(), NoMemory>
         ensures { Appends result out.old.items (view_text self.now) out.new.items }
@@ -69,8 +69,8 @@ impl ViewId {
     }
 }
 
-/// Takes the site of a view with this number.
-fn take_site(cursor: &mut Cursor, number: u64) -> Result<u8, Unexpected>
+/// Reads the site of a view with this number.
+fn parse_site(cursor: &mut Cursor, number: u64) -> Result<u8, Unexpected>
     ensures { Reads (λ x. x) (λ e. e.left) result cursor.new (number_at (least_site number) (most_site number) cursor.old) }
 {
     if number == 0 {
@@ -80,8 +80,8 @@ fn take_site(cursor: &mut Cursor, number: u64) -> Result<u8, Unexpected>
     }
 }
 
-/// Takes the site of a view with this number that isn't below the last one.
-fn take_site_from(cursor: &mut Cursor, last: ViewId, number: u64) -> Result<u8, Unexpected>
+/// Reads the site of a view with this number, where the view isn't below `last`.
+fn parse_site_from(cursor: &mut Cursor, last: ViewId, number: u64) -> Result<u8, Unexpected>
     ensures { Reads (λ x. x) (λ e. e.left) result cursor.new
         (number_at (least_site_from last number) (most_site number) cursor.old) }
 {

@@ -1,4 +1,4 @@
--- Lists of items that ascend by a key are read exactly, behind their count.
+-- Lists of items that ascend by a key are read exactly, after their count.
 use Rattle.std.proofs.Common.{◌≡◌, ℕ, zero, suc, ◌+◌, ◌≤◌, ◌<◌, List, [], ◌∷◌, ◌++◌, length, flat_map, Result, refl, sym, ap, subst, ◌∙◌, arith}
 use Rattle.std.specs.List.{All, AllPairs}
 use Rattle.std.proofs.lemmas.List.Kept.{AllPairs-cons}
@@ -11,11 +11,11 @@ use Rattle.vp_bytes.proofs.Items.{fits, fits_from, fits_to}
 use Rattle.vp_bytes.proofs.Runs.{HasRun, Runs, run_exact, run_free, then_where}
 
 module _ {X : Type 0} (key : X → ℕ) (top : ℕ) (bytes : X → List ℕ) (Allowed : X → Type 0) (Before : X → X → Type 0) (item : ℕ → ℕ → List ℕ → Result (X × List ℕ) ℕ) where
-  -- an item whose key is least or more, above which n others have room
+  -- an item whose key is least or more, and leaves room for n others above it
   abbrev pub Item : ℕ → ℕ → X → List ℕ → Type 0
   Item n least = Spelled bytes (λ x. (least ≤ key x) × (key x + n ≤ top) × Allowed x)
 
-  -- What the items have to be like: `Before` is the order of their keys, the greatest of which is `top`.
+  -- What must hold of the items: `Before` is the order of their keys, the greatest of which is `top`.
   pub record Ascends : Type 0 where
     pub exact : (n least : ℕ) → least + suc n ≤ suc top → Exact (Item n least) (item n least)
     pub free : IsFree (Spelled bytes Allowed)
@@ -67,7 +67,7 @@ module _ {X : Type 0} (key : X → ℕ) (top : ℕ) (bytes : X → List ℕ) (Al
     parts = refl;
   }
 
-  -- ---- in the words of all items and all pairs
+  -- ---- in the words of laws on all items and on all pairs
 
   all_cons : (P : X → Type 0) (x : X) (xs : List X) → P x → All P xs → All P (x ∷ xs)
   all_cons P x xs head tail zero d lt = head
@@ -88,7 +88,7 @@ module _ {X : Type 0} (key : X → ℕ) (top : ℕ) (bytes : X → List ℕ) (Al
       let one = each 0 x (omega arith) in
       (from 0 x (omega arith), a.short x one, one, all_rises a (suc (key x)) xs (λ i d lt. a.above x _ one (each (suc i) d (omega arith)) (pairs 0 (suc i) d (omega arith) (omega arith))) (λ i d lt. each (suc i) d (omega arith)) (λ i j d lt inside. pairs (suc i) (suc j) d (omega arith) (omega arith)))
 
-  -- ---- behind their count
+  -- ---- after their count
 
   module _ (count_bytes : ℕ → List ℕ) (IsCount : ℕ → Type 0) (count : List ℕ → Result (ℕ × List ℕ) ℕ) where
     abbrev pub list_bytes : List X → List ℕ

@@ -1,4 +1,4 @@
--- Items that each begin with a transaction ascend by it.
+-- Items that each begin with a transaction, and ascend by it.
 use Rattle.std.proofs.Common.{◌≡◌, ℕ, suc, ◌+◌, ◌-◌, ◌≤◌, true, List, ◌++◌, Result, sym, subst, arith}
 use Rattle.vp_text.specs.Reading.{◌>>=◌}
 use Rattle.vp_text.proofs.Exact.{Exact, IsOne, Made, exact_as, one_value}
@@ -18,7 +18,7 @@ pub ascending_txn_exact : (n least : ℕ) → least + n ≤ last_rank → Exact 
 ascending_txn_exact n least room = txn_between_exact (ranked least) (ranked (last_rank - n)) (ranks_range n least room)
 
 module _ {X B : Type 0} (txn : X → TxnId) (rest : X → B) (make : TxnId → B → X) (bytes : B → List ℕ) (Rest : B → Type 0) (Allowed : X → Type 0) (read : TxnId → List ℕ → Result (X × List ℕ) ℕ) where
-  -- What the items have to be like: each is made of its transaction and the rest, which is read exactly.
+  -- What must hold of the items: each is its transaction and then the rest, which is read exactly.
   pub record Begun : Type 0 where
     pub exact : (t : TxnId) → Exact (Made (Spelled bytes Rest) (make t)) (read t)
     pub one : IsOne (Spelled bytes Rest)

@@ -1,4 +1,4 @@
--- The codes of kinds are read exactly, and fields that are none.
+-- The codes of kinds are read exactly, and so are fields without bytes.
 use Rattle.std.proofs.Common.{◌≡◌, ℕ, Bool, true, false, cond, eqb, List, [], ◌∷◌, ◌++◌, length, Option, Some, None, Ok, Err, refl, sym, ap, ◌∙◌, arith}
 use Rattle.std.proofs.lemmas.Bool.{eqb-true}
 use Rattle.std.proofs.lemmas.List.{length-append}
@@ -8,7 +8,7 @@ use Rattle.vp_bytes.specs.Codes.{find_code, code_at}
 use Rattle.vp_bytes.proofs.Digits.{nothing_more}
 use Rattle.vp_bytes.proofs.Free.{IsFree, even_free}
 
--- ---- fields that are none
+-- ---- fields without bytes
 
 abbrev pub Nothing : {A : Type 0} → A → A → List ℕ → Type 0
 Nothing none a text = (text ≡ []) × (a ≡ none)
@@ -29,7 +29,7 @@ module _ {K : Type 0} (code : K → ℕ) (of : ℕ → Option K) where
   abbrev pub IsCode : K → List ℕ → Type 0
   IsCode kind text = text ≡ code kind ∷ []
 
-  -- a code is that of the kind which is found by it
+  -- a code means the kind that is found by it
   pub record Codes : Type 0 where
     pub found : (kind : K) → of (code kind) ≡ Some kind
     pub only : (c : ℕ) (kind : K) → of c ≡ Some kind → code kind ≡ c

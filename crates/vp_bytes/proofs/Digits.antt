@@ -1,11 +1,11 @@
--- Numbers in a fixed count of bytes are read exactly: any number, or any but 0.
+-- Numbers in a fixed count of bytes are read exactly: all numbers, or all but 0.
 use Rattle.std.proofs.Common.{◌≡◌, ℕ, zero, suc, ◌+◌, ◌*◌, List, [], ◌∷◌, length, Bool, true, Err, refl, sym, ap, arith, not, nat_lt}
 use Rattle.std.proofs.lemmas.Bool.{lt-ltb, or_right}
 use Rattle.vp_text.proofs.Exact.{Apart, Exact, Then, done, ok_value}
 use Rattle.vp_bytes.specs.Reading.{digit_fits, digits_at}
 use Rattle.vp_bytes.proofs.Free.{IsByteOf, byte_free, byte_exact, free_then}
 
--- The text is n bytes, and with the front of its number before them they make the number x.
+-- The text is n bytes, and after the bytes that made the front they make the number x.
 abbrev pub HasDigits : Bool → ℕ → ℕ → ℕ → List ℕ → Type 0
 HasDigits some zero front x text = (text ≡ []) × (x ≡ front)
 HasDigits some (suc n) front x text = Then (IsByteOf (digit_fits some n front)) (λ c. HasDigits some n (front * 256 + c)) x text
@@ -23,7 +23,7 @@ nothing_exact some front = record {
   again = λ a text rest l ends. rw (l.0, l.1) refl;
 }
 
--- the greatest byte always fits
+-- the greatest byte is always allowed
 greatest_fits : (some : Bool) (n front : ℕ) → digit_fits some n front 255 ≡ true
 greatest_fits some n front =
     or_right (not some) _ (or_right (nat_lt 0 n) (nat_lt 0 (front * 256 + 255)) (lt-ltb 0 (front * 256 + 255) (omega arith)))

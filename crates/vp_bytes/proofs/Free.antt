@@ -1,4 +1,4 @@
--- Languages in which no text goes on to another one, and readers of them one after the other.
+-- Languages in which no text goes on to a longer one, and readers of several such, one after the other.
 use Rattle.std.proofs.Common.{◌≡◌, ℕ, List, [], ◌∷◌, ◌++◌, length, Bool, true, false, Result, Ok, Err, refl, sym, ap, subst, ◌∙◌, append_assoc, arith, inl, inr}
 use Rattle.std.proofs.lemmas.List.{append-nil, length-append}
 use Rattle.std.proofs.lemmas.Bool.{false≢true}
@@ -9,7 +9,7 @@ use Rattle.vp_bytes.specs.Reading.{byte_at}
 abbrev pub IsFree : {A : Type 0} → (A → List ℕ → Type 0) → Type 0
 IsFree {A = A} L = (a b : A) (text : List ℕ) (x : ℕ) (r : List ℕ) → L a text → L b (text ++ x ∷ r) → ⊥
 
--- where all texts are of one length
+-- where all texts have the same length
 pub even_free : {A : Type 0} {L : A → List ℕ → Type 0} (n : ℕ) → ((a : A) (t : List ℕ) → L a t → length t ≡ n) → IsFree L
 even_free n even = λ a b text x r la lb. omega (arith, even a text la, even b (text ++ x ∷ r) lb, length-append text (x ∷ r))
 
@@ -39,7 +39,7 @@ free_then {M = M} {Q = Q} free e f = then_exact {M = M} {Q = Q} (λ a a2 text x 
 
 -- ---- a byte
 
--- The text is this byte, which the test admits.
+-- The text is this byte, which the test allows.
 pub record IsByteOf (has : ℕ → Bool) (c : ℕ) (text : List ℕ) : Type 0 where
   pub is : text ≡ c ∷ []
   pub admitted : has c ≡ true
@@ -119,6 +119,6 @@ byte_right has c0 some (c ∷ cs) =
     ] in
     f (has c) refl
 
--- a byte that the test admits, which admits some byte
+-- a byte that the test allows, where it allows at least one
 pub byte_exact : (has : ℕ → Bool) (c0 : ℕ) → has c0 ≡ true → Exact (IsByteOf has) (byte_at has)
 byte_exact has c0 some = exact_from (λ bytes. byte_right has c0 some bytes)

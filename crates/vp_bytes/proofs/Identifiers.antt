@@ -25,7 +25,7 @@ pub some_u32_exact : Exact (IsNumberBytes true 4) some_u32_at
 unfolding some_u32_at
 some_u32_exact = number_exact true 4 (omega arith)
 
--- a byte from least to most, of which there is one
+-- a byte from least to most, where there is one
 pub within_exact : (least most : ℕ) → least ≤ most → Exact (IsByteOf (within least most)) (byte_at (within least most))
 within_exact least most some = byte_exact (within least most) least (and_from (nat_le least least) (nat_le least most) (le-leb least least (omega arith)) (le-leb least most some))
 

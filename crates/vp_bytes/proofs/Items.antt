@@ -99,7 +99,7 @@ value_exact = class_exact classes.Value (omega arith)
 pub value_free : IsFree IsValueBytes
 value_free = class_free classes.Value
 
--- what is read of a word's bytes
+-- the bytes that are read of a word
 pub word_allowed : (class : Class) (count : ℕ) (bytes w rest : List ℕ) → 1 ≤ count → count ≤ most class → word_run_at class count bytes ≡ Ok (w, rest) → IsWord (has class) (most class) w w
 unfolding always
 word_allowed class count bytes w rest some short read =

@@ -11,7 +11,7 @@ use Rattle.vp_bytes.proofs.Digits.{nothing_more}
 use Rattle.vp_bytes.proofs.Free.{IsFree, IsByteOf, byte_free, byte_one, free_then, then_free, made_free, free_as, even_free}
 use Rattle.vp_bytes.proofs.Identifiers.{within_exact, within_to, view_exact, txn_exact, txn_free}
 
--- behind the mark 0 nothing stands, and behind 1 a field
+-- after the mark 0 nothing follows, and after 1 a field
 abbrev pub Behind : {A B : Type 0} → (A → List ℕ → Type 0) → (A → B) → B → Bool → B → List ℕ → Type 0
 Behind L make none true b text = (text ≡ []) × (b ≡ none)
 Behind L make none false b text = Made L make b text
@@ -69,7 +69,7 @@ pub owner_exact : Exact IsOwnerBytes owner_at
 unfolding owner_at
 owner_exact = exact_as owner_to owner_from (marked_exact (λ x. owner.Txn x) owner.Refresh txn_exact)
 
--- ---- none of them goes on to another
+-- ---- none of them goes on to a longer one
 
 behind_free : {A B : Type 0} {L : A → List ℕ → Type 0} (make : A → B) (none : B) → IsFree L → (b : Bool) → IsFree (Behind L make none b)
 behind_free {L = L} make none free true = even_free {L = Behind L make none true} 0 (λ b t h. ap length h.0)

@@ -13,20 +13,20 @@ use Rattle.vp_base.proofs.OwnBytes.{number_fits, are_bytes, own_bytes}
 use Rattle.vp_bytes.proofs.Digits.{HasDigits, digits_exact}
 use Rattle.vp_bytes.proofs.Free.{IsFree, even_free}
 
--- The text is the bytes of the number x in n bytes. Where the number is `some`, it is not 0.
+-- The text is the number x in n bytes. Where `some` is true, the number is not 0.
 pub record IsNumberBytes (some : Bool) (n x : ℕ) (text : List ℕ) : Type 0 where
   pub is : text ≡ big_bytes n x
   pub fits : x < 256 ^ n
   pub above : some ≡ true → 1 ≤ x
 
--- n bytes that make the number x with the front of it before them
+-- n bytes that make the number x after those that made the front
 record Holds (some : Bool) (n front x : ℕ) (text : List ℕ) : Type 0 where
   count : length text ≡ n
   bytes : AllByRecursion IsByte text
   number : x ≡ front * 256 ^ n + big_number n text
   above : some ≡ true → 1 ≤ n → 1 ≤ x
 
--- one byte more moves the front on
+-- one more byte joins the front
 moved : (n front c : ℕ) (back : List ℕ) → (front * 256 + c) * 256 ^ n + big_number n back ≡ front * 256 ^ suc n + big_number (suc n) (c ∷ back)
 moved n front c back =
     let cons : big_number (suc n) (c ∷ back) ≡ c * 256 ^ n + big_number n back = ap (λ (r : ℕ). c * 256 ^ n + r) (big_from-cons 0 n c back) in

@@ -13,7 +13,7 @@ use Rattle.vp_bytes.proofs.Identifiers.{number_spelled, within_from, within_to}
 use Rattle.vp_bytes.proofs.NumberBytes.{IsNumberBytes, number_exact, number_free}
 use Rattle.vp_bytes.proofs.Runs.{then_where}
 
--- What two exact readers that are one say is the same language.
+-- If one reader is exact for two languages, they are the same language.
 pub same_language : {A : Type 0} {L K : A → List ℕ → Type 0} {P : List ℕ → Result (A × List ℕ) ℕ} → Exact L P → Exact K P → (a : A) (t : List ℕ) → L a t → K a t
 same_language {A = A} {L = L} {K = K} {P = P} e f a t l =
     let stops : (b : A) (r : List ℕ) → L b (t ++ r) → Apart r [] = λ b r. elim r as (λ r. L b (t ++ r) → Apart r []) [ [] ↦ λ h. tt | x ∷ s ↦ λ h. tt ] in
@@ -21,12 +21,12 @@ same_language {A = A} {L = L} {K = K} {P = P} e f a t l =
     let same : t ≡ p.text = sym (append-nil t) ∙ p.parts ∙ append-nil p.text in
     subst (λ (t : List ℕ). K a t) (sym same) p.spelled
 
--- The text is n bytes, and with the front of its number before them they make the number x, from low to high.
+-- The text is n bytes, and after the bytes that made the front they make the number x, from low to high.
 abbrev HasDigitsWithin : ℕ → ℕ → ℕ → ℕ → ℕ → List ℕ → Type 0
 HasDigitsWithin low high zero front x text = (text ≡ []) × (x ≡ front)
 HasDigitsWithin low high (suc n) front x text = Then (IsByteOf (range_fits low high n front)) (λ c. HasDigitsWithin low high n (front * 256 + c)) x text
 
--- some number from low to high has this front, and n bytes behind it
+-- some number from low to high begins with this front, and n bytes follow
 abbrev Opens : ℕ → ℕ → ℕ → ℕ → Type 0
 Opens low high n front = (low / 256 ^ n ≤ front) × (front ≤ high / 256 ^ n)
 
@@ -39,7 +39,7 @@ power_some n = one-le-pow n 256 (omega arith)
 quotients : (low high p : ℕ) → 1 ≤ p → low ≤ high → low / p ≤ high / p
 quotients low high p some le = le-div (low / p) high p some (omega (arith, div-mul-le_self low p))
 
--- the least byte that goes on
+-- the least byte with which a number goes on
 next_fits : (low high n front : ℕ) → low ≤ high → Opens low high (suc n) front → range_fits low high n front (low / 256 ^ n - front * 256) ≡ true
 next_fits low high n front le opens =
     let from : low / 256 ^ n / 256 ≤ front = subst (λ (q : ℕ). q ≤ front) (shorter low n) opens.0 in

@@ -11,7 +11,7 @@ pair_bytes f g pair = f pair.0 ++ g pair.1
 abbrev pub PairAllowed : {A B : Type 0} → (A → Type 0) → (B → Type 0) → A × B → Type 0
 PairAllowed F G pair = F pair.0 × G pair.1
 
--- one field, and what is made of the fields behind it
+-- one field, and what is made of the fields after it
 pub then_field : {A B C : Type 0} {f : A → List ℕ} {F : A → Type 0} {g : B → List ℕ} {G : B → Type 0} {P : List ℕ → Result (A × List ℕ) ℕ} {Q : A → List ℕ → Result (C × List ℕ) ℕ} (make : A → B → C)
     → IsFree (Spelled f F) → Exact (Spelled f F) P → ((a : A) → Exact (Made (Spelled g G) (make a)) (Q a))
     → Exact (Made (Spelled (pair_bytes f g) (PairAllowed F G)) (λ pair. make pair.0 pair.1)) (λ bytes. P bytes >>= λ x. Q x.0 x.1)

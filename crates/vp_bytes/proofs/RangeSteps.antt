@@ -1,4 +1,4 @@
--- The loop over the digits of a number of a range, a turn at a time.
+-- The loop over the digits of a number in a range, one turn at a time.
 use Rattle.std.proofs.Common.{◌≡◌, ℕ, zero, suc, ◌+◌, ◌*◌, ◌-◌, ◌/◌, ◌^◌, ◌≤◌, ◌<◌, List, ◌∷◌, length, drop, get_or, Bool, true, false, Ok, Err, Result, IfErr, refl, sym, ap, ◌∙◌, arith, ◌⊎◌, inl, inr}
 use Rattle.std.proofs.lemmas.Bool.{lt-ltb, and_from, and_parts}
 use Rattle.std.proofs.lemmas.List.{drop_more, drop_all, length-drop}
@@ -8,7 +8,7 @@ use Rattle.vp_bytes.specs.Reading.{is_byte}
 use Rattle.vp_bytes.specs.Ranges.{range_fits, digits_within_at, number_within_at}
 use Rattle.vp_bytes.proofs.Identifiers.{within_from, within_to}
 
--- a shift by so many bytes
+-- a shift by n bytes
 shift_bytes : (n : ℕ) → 2 ^ (8 * n) ≡ 256 ^ n
 shift_bytes zero = refl
 shift_bytes (suc n) =
@@ -18,7 +18,7 @@ shift_bytes (suc n) =
 pub shifted : (x count good : ℕ) → x / 2 ^ (8 * (count - 1 - good)) ≡ x / 256 ^ (count - (good + 1))
 shifted x count good = ap (λ (p : ℕ). x / p) (ap (λ (k : ℕ). 2 ^ (8 * k)) (omega arith) ∙ shift_bytes (count - (good + 1)))
 
--- the digits behind the first `good` bytes
+-- the digits after the first `good` bytes
 abbrev Behind : ℕ → ℕ → ℕ → ℕ → ℕ → List ℕ → Result (ℕ × List ℕ) ℕ
 Behind low high count good front bytes = digits_within_at low high (count - good) front (drop good bytes)
 
@@ -62,7 +62,7 @@ digits_all low high count good front bytes all =
     let none : count - good ≡ 0 = omega (arith, all) in
     rw none refl
 
--- what the loop says of the whole number
+-- what follows from the loop for the whole number
 pub fault_is : (low high count left : ℕ) (bytes : List ℕ) → digits_within_at low high count 0 bytes ≡ Err left → IfErr (number_within_at count low high bytes) (λ n. left ≡ n)
 unfolding number_within_at
 fault_is low high count left bytes e = rw e refl

@@ -1,4 +1,4 @@
--- What is read of a number of a range in one go is what is read byte by byte.
+-- Reading a number in a range all at once gives what reading it byte by byte gives.
 use Rattle.std.proofs.Common.{◌≡◌, ℕ, ◌^◌, ◌≤◌, ◌<◌, List, [], ◌∷◌, ◌++◌, length, drop, slice_index, false, Ok, Err, Result, IfErr, refl, sym, ap, ◌∙◌, arith, ◌⊎◌, inl, inr}
 use Rattle.std.proofs.lemmas.Bool.{false≢true}
 use Rattle.std.proofs.lemmas.List.{length-append}
@@ -11,7 +11,7 @@ use Rattle.vp_bytes.proofs.NumberBytes.{number_exact, number_free, number_even}
 use Rattle.vp_bytes.proofs.NumbersWithin.{as_number, number_within_exact, number_within_free, from_number}
 use Rattle.vp_bytes.proofs.Taken.{number_taken}
 
--- bytes that begin with a text of such a language are read so
+-- bytes that begin with a text of such a language are read as that text
 pub free_reads : {A : Type 0} {L : A → List ℕ → Type 0} {P : List ℕ → Result (A × List ℕ) ℕ} → Exact L P → IsFree L → (a : A) (text rest bytes : List ℕ) → L a text → bytes ≡ text ++ rest → P bytes ≡ Ok (a, rest)
 free_reads {A = A} {L = L} {P = P} e free a text rest bytes l at =
     let ends : (b : A) (r : List ℕ) → L b (text ++ r) → Apart r rest = λ b r. elim r as (λ r. L b (text ++ r) → Apart r rest) [ [] ↦ λ h. tt | x ∷ s ↦ λ h. absurd (free a b text x s l h) ] in

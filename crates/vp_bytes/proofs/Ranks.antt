@@ -1,4 +1,4 @@
--- The places of transactions among all: they stand in order by their ranks.
+-- The ranks of transactions, which are in order by them.
 use Rattle.std.proofs.Common.{◌≡◌, ℕ, ◌+◌, ◌*◌, ◌-◌, ◌/◌, ◌%◌, ◌^◌, ◌≤◌, ◌<◌, true, false, refl, sym, ap, ◌∙◌, arith}
 use Rattle.std.proofs.lemmas.Bool.Decides.{nat_tests}
 use Rattle.vp_base.specs.Identifiers.{IsTxn}
@@ -7,7 +7,7 @@ use Rattle.vp_base.specs.Reading.{txn_of}
 use Rattle.vp_base.specs.declared.ids.TxnId.{TxnId}
 use Rattle.vp_bytes.specs.Ranges.{IsTxnRange, IsTxnBetween, rank, ranked, last_rank}
 
--- the rank without differences
+-- the rank, without differences of numbers
 pub rank_sum : (t : TxnId) → IsTxn t → rank t + (2 ^ 32 - 1) * (2 ^ 32 - 1) + (2 ^ 32 - 1) + 1 ≡ t.site * ((2 ^ 32 - 1) * (2 ^ 32 - 1)) + t.life * (2 ^ 32 - 1) + t.seq
 unfolding rank
 rank_sum t h = omega (arith, h.site_some, h.life_some, h.seq_some)
@@ -47,13 +47,13 @@ ranked_rank t h =
     (omega (arith, h.site_some, h.life_some, h.life_fits, h.seq_some, h.seq_fits))
     (omega (arith, h.site_some, h.life_some, h.life_fits, h.seq_some, h.seq_fits))
 
--- a transaction of this rank is the one
+-- only one transaction has this rank
 pub of_rank : (t : TxnId) → IsTxn t → (n : ℕ) → rank t ≡ n → t ≡ ranked n
 of_rank t h n e = sym (ranked_rank t h) ∙ ap ranked e
 
 -- ---- ranges of ranks
 
--- above the rank others have room
+-- others have room above the rank
 pub ranks_range : (n least : ℕ) → least + n ≤ last_rank → IsTxnRange (ranked least) (ranked (last_rank - n))
 ranks_range n least room =
     let low = ranked_txn least (omega (arith, room)) in

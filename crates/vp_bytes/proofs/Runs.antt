@@ -10,7 +10,7 @@ use Rattle.vp_bytes.proofs.Digits.{nothing_more}
 use Rattle.vp_bytes.proofs.Free.{IsFree, IsByteOf, byte_free, byte_one, then_free, made_free, even_free}
 use Rattle.vp_bytes.proofs.Identifiers.{within_exact}
 
--- ---- one after the other, where what follows is read exactly behind each value that has a text
+-- ---- one after the other, where what follows each value that has a text is read exactly
 
 module _ {A B : Type 0} (valid : A → Bool) (M : A → B → List ℕ → Type 0) where
   If : A → B → List ℕ → Type 0
@@ -41,12 +41,12 @@ module _ {A B : Type 0} (valid : A → Bool) (M : A → B → List ℕ → Type 
 -- ---- items
 
 module _ {X : Type 0} (key : X → ℕ) (L : ℕ → ℕ → X → List ℕ → Type 0) (item : ℕ → ℕ → List ℕ → Result (X × List ℕ) ℕ) (may : ℕ → ℕ → Bool) where
-  -- the text of n items, of which the first one's key is least or more
+  -- the text of n items, where the first one's key is least or more
   abbrev pub HasRun : ℕ → ℕ → List X → List ℕ → Type 0
   HasRun zero least xs text = (text ≡ []) × (xs ≡ [])
   HasRun (suc n) least xs text = Then (L n least) (λ x. Made (HasRun n (suc (key x))) (λ xs. x ∷ xs)) xs text
 
-  -- What the items have to be like. `may n least` says that n items can stand, the first one's key least or more.
+  -- What must hold of the items. `may n least` means that n items have room, the first one's key being least or more.
   pub record Runs : Type 0 where
     pub exact : (n least : ℕ) → may (suc n) least ≡ true → Exact (L n least) (item n least)
     pub free : (n least : ℕ) → IsFree (L n least)
@@ -72,7 +72,7 @@ module _ {X : Type 0} (key : X → ℕ) (L : ℕ → ℕ → X → List ℕ → 
   run_free w zero least = even_free {L = HasRun 0 least} 0 (λ xs t h. ap length h.0)
   run_free w (suc n) least = then_free {M = λ x. Made (HasRun n (suc (key x))) (λ xs. x ∷ xs)} (w.one n least) (w.free n least) (λ x. made_free (run_free w n (suc (key x))))
 
-  -- the items behind their count
+  -- the items after their count
   abbrev pub Counted : ℕ → ℕ → ℕ → List X → List ℕ → Type 0
   Counted few many least = Then (IsByteOf (within few many)) (λ n. HasRun n least)
 

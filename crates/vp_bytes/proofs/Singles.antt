@@ -1,4 +1,4 @@
--- Single fields are read exactly: what sites, records, numbers and outcomes are, as bytes of allowed values.
+-- Single fields are read exactly: sites, records, numbers and outcomes, as the bytes of allowed values.
 use Rattle.std.proofs.Common.{◌≡◌, ℕ, zero, suc, ◌≤◌, ◌<◌, ◌^◌, ◌==◌, Bool, true, false, List, [], ◌∷◌, ◌++◌, length, refl, sym, ap, subst, ◌∙◌, arith}
 use Rattle.byteorder.specs.Endian.{big_bytes}
 use Rattle.vp_text.proofs.Exact.{Exact, Made, made_exact, exact_as}
@@ -70,7 +70,7 @@ numbered_spelled txn number = refl
 pub numbered_free : IsFree IsNumberedBytes
 numbered_free = even_free {L = IsNumberedBytes} 13 (λ v t h. ap length (h.is ∙ numbered_spelled v.0 v.1))
 
--- ---- what asks a part
+-- ---- requests for a lock or a vote
 
 request_spelled : (txn : TxnId) (view : ViewId) (number : ℕ) → txn_bytes txn ++ (view_bytes view ++ number_bytes 4 number) ≡ (txn.site ∷ (big_bytes 4 txn.life ++ big_bytes 4 txn.seq)) ++ ((big_bytes 8 view.number ++ view.site ∷ []) ++ big_bytes 4 number)
 unfolding txn_bytes view_bytes number_bytes

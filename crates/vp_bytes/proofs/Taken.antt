@@ -1,4 +1,4 @@
--- What is read of a number's bytes in one go is what is read byte by byte.
+-- Reading a number's bytes all at once gives what reading them one by one gives.
 use Rattle.std.proofs.Common.{◌≡◌, ℕ, zero, suc, ◌+◌, ◌*◌, ◌^◌, ◌≤◌, ◌<◌, List, [], ◌∷◌, ◌++◌, length, drop, slice_index, Bool, true, Ok, Err, refl, ap, ◌∙◌, arith, not, nat_lt, ◌||◌}
 use Rattle.std.proofs.lemmas.Bool.{lt-ltb, or_left, or_right, and_from}
 use Rattle.std.specs.List.{AllByRecursion}

@@ -1,4 +1,4 @@
--- The loops over runs of items, a turn at a time.
+-- The loops over items, one turn at a time.
 use Rattle.std.proofs.Common.{◌≡◌, ℕ, suc, ◌+◌, ◌-◌, ◌<◌, true, false, List, [], ◌∷◌, ◌++◌, length, get_or, take, drop, Result, Ok, Err, refl, sym, ap, subst, ◌∙◌, arith}
 use Rattle.std.proofs.lemmas.List.{append-nil, drop_more, take_more, drop_all, length-drop}
 use Rattle.vp_text.specs.Classes.{has}

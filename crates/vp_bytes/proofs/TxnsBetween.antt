@@ -1,4 +1,4 @@
--- Transactions that lie between two others are read exactly.
+-- Transactions in a range are read exactly.
 use Rattle.std.proofs.Common.{ℕ, ◌^◌, ◌≤◌, ◌<◌, List, [], ◌∷◌, ◌++◌, refl, sym, subst, ◌∙◌, arith}
 use Rattle.std.proofs.lemmas.Bool.Decides.{nat_tests}
 use Rattle.vp_text.proofs.Exact.{Exact, Then, Made, made_exact, exact_as}
@@ -13,7 +13,7 @@ use Rattle.vp_bytes.proofs.Identifiers.{within_exact, within_from, within_to, tx
 use Rattle.vp_bytes.proofs.NumbersWithin.{number_within_exact, number_within_free}
 use Rattle.vp_bytes.proofs.Runs.{then_where}
 
--- ---- the bounds of a part behind the parts before it
+-- ---- the bounds of a part, given the parts before it
 
 pub sites_some : (low high : TxnId) → IsTxnRange low high → low.site ≤ high.site
 sites_some low high w = grind (arith, nat_tests, w.order)
@@ -36,7 +36,7 @@ life_some low site h = grind (arith, nat_tests, h.life_some)
 seq_some : (low : TxnId) (site life : ℕ) → IsTxn low → 1 ≤ least_seq low site life
 seq_some low site life h = grind (arith, nat_tests, h.seq_some)
 
--- parts within their bounds make a transaction between the two
+-- parts within their bounds make a transaction in the range
 pub from_bounds : (low high : TxnId) (site life seq : ℕ) → IsTxnRange low high → low.site ≤ site → site ≤ high.site → least_life low site ≤ life → life ≤ most_life high site → least_seq low site life ≤ seq → seq ≤ most_seq high site life
     → IsTxnBetween low high (txn_of site life seq)
 from_bounds low high site life seq w above below above_life below_life above_seq below_seq =

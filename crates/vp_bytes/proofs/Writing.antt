@@ -1,4 +1,4 @@
--- Bytes that are put down part by part: where a part fails, a beginning of the whole stands there.
+-- Bytes that are written part by part: where a part fails, a beginning of the whole was written.
 use Rattle.std.proofs.Common.{◌≡◌, ℕ, suc, ◌+◌, ◌<◌, true, List, [], ◌∷◌, ◌++◌, length, get_or, take, drop, Result, Ok, Err, sym, ap, ◌∙◌, subst, append_assoc}
 use Rattle.std.specs.Prelude.{⊤}
 use Rattle.std.specs.List.{flat_map}
@@ -8,7 +8,7 @@ use Rattle.std.proofs.Math.Seq.{drop-cons}
 use Rattle.vp_text.specs.Printing.{Appends, is_begun}
 use Rattle.vp_text.proofs.Printing.{begun_none, begun_whole, begun_first, begun_then, begun_byte}
 
--- the last part, behind the others
+-- the last part, after the others
 pub behind : {E : Type 0} (result : Result ⊤ E) (old front part text new : List ℕ) → text ≡ front ++ part → Appends result (old ++ front) part new → Appends result old text new
 behind (Ok x) old front part text new e a =
     let whole : new ≡ old ++ text = a.whole ∙ append_assoc old front part ∙ ap (λ (t : List ℕ). old ++ t) (sym e) in
@@ -16,7 +16,7 @@ behind (Ok x) old front part text new e a =
 behind (Err x) old front part text new e a =
     record { whole = tt; begun = subst (λ (t : List ℕ). is_begun old t new ≡ true) (sym e) (begun_then old front part new a.begun) }
 
--- the first parts alone
+-- only the first parts
 pub begun_front : (old front more text new : List ℕ) → text ≡ front ++ more → new ≡ old ++ front → is_begun old text new ≡ true
 begun_front old front more text new e is =
     subst (λ (t : List ℕ). is_begun old t new ≡ true) (sym e) (begun_first old front more new (begun_whole old front new is))
@@ -28,12 +28,12 @@ begun_as old part more text new e h = subst (λ (t : List ℕ). is_begun old t n
 pub begun_head : (old : List ℕ) (byte : ℕ) (first more new : List ℕ) → is_begun old (byte ∷ first) new ≡ true → is_begun old (byte ∷ (first ++ more)) new ≡ true
 begun_head old byte first more new h = begun_first old (byte ∷ first) more new h
 
--- some bytes, and a beginning of the part behind them
+-- some bytes, and a beginning of the part after them
 pub begun_part : (old front part more text new : List ℕ) → text ≡ front ++ (part ++ more) → is_begun (old ++ front) part new ≡ true → is_begun old text new ≡ true
 begun_part old front part more text new e h =
     subst (λ (t : List ℕ). is_begun old t new ≡ true) (sym e) (begun_then old front (part ++ more) new (begun_first (old ++ front) part more new h))
 
--- an item of a list, with those before it and those behind it
+-- an item of a list, with those before it and those after it
 at_item : {X : Type 0} (xs : List X) (i : ℕ) (x : X) → i < length xs → x ≡ get_or xs i x → xs ≡ take i xs ++ (x ∷ drop (suc i) xs)
 at_item xs i x within is = sym (take-append-drop i xs) ∙ ap (λ (r : List _). take i xs ++ r) (drop-cons xs i x within ∙ ap (λ (y : _). y ∷ drop (suc i) xs) (sym is))
 
@@ -52,7 +52,7 @@ begun_bytes old front xs i new e =
     let all : front ++ xs ≡ (front ++ take i xs) ++ drop i xs = ap (λ (t : List ℕ). front ++ t) (sym (take-append-drop i xs)) ∙ sym (append_assoc front (take i xs) (drop i xs)) in
     subst (λ (t : List ℕ). is_begun old t new ≡ true) (sym all) (begun_first old (front ++ take i xs) (drop i xs) new (begun_whole old (front ++ take i xs) new e))
 
--- ---- loops that put items down behind some bytes, a turn at a time
+-- ---- loops that append items to some bytes, one turn at a time
 
 pub no_turn : (old front new : List ℕ) → new ≡ old ++ front → new ≡ old ++ (front ++ [])
 no_turn old front new e = e ∙ ap (λ (t : List ℕ). old ++ t) (sym (append-nil front))

@@ -9,7 +9,7 @@ use Rattle.vp_bytes.specs.Fields.{Spelled, number_bytes, counted_bytes, view_byt
 use Rattle.vp_bytes.specs.Reading.{ascending_at, run_at, value_at, view_at}
 use Rattle.vp_bytes.specs.Ranges.{number_within_at}
 
--- ---- what bytes they are
+-- ---- their bytes
 
 abbrev pub copy_bytes : ℕ × Stored → List ℕ
 copy_bytes copy = copy.0 ∷ (counted_bytes copy.1.value ++ view_bytes copy.1.date)
@@ -40,6 +40,6 @@ copy_at n least bytes = do
   date ← view_at value.1
   Ok ((rec.0, stored_of value.0 date.0), date.1)
 
--- copies, ascending by record, behind their count
+-- a count, and as many copies, ascending by record
 unfoldable pub copies_at : List ℕ → Result (List (ℕ × Stored) × List ℕ) ℕ
 copies_at bytes = number_within_at 2 0 256 bytes >>= λ n. run_at (λ copy. copy.0) copy_at n.0 0 n.1

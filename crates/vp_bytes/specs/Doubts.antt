@@ -8,7 +8,7 @@ use Rattle.vp_bytes.specs.Fields.{Spelled, number_bytes, txn_bytes, view_bytes, 
 use Rattle.vp_bytes.specs.Ranges.{ascending_txn_at, rank}
 use Rattle.vp_bytes.specs.Reading.{run_at, u64_at, view_at, writes_at}
 
--- ---- what bytes they are
+-- ---- their bytes
 
 -- a transaction in doubt, its view and its writes
 abbrev pub doubt_bytes : Doubt → List ℕ
@@ -20,7 +20,7 @@ doubts_bytes doubts = number_bytes 8 (length doubts) ++ flat_map doubt_bytes dou
 abbrev pub IsDoubt : Doubt → Type 0
 IsDoubt doubt = IsTxn doubt.txn × IsView doubt.view × IsWrites doubt.writes
 
--- as many as 64 bits count, ascending by transaction
+-- as many as a number of 64 bits counts, ascending by transaction
 abbrev pub IsDoubts : List Doubt → Type 0
 IsDoubts doubts = (length doubts < 2 ^ 64) × All IsDoubt doubts × AllPairs (λ before after. txn_before before.txn after.txn ≡ true) doubts
 
@@ -29,7 +29,7 @@ IsDoubtsBytes = Spelled doubts_bytes IsDoubts
 
 -- ---- reading them
 
--- a transaction in doubt of this rank or more that n others above it can follow, its view and its writes
+-- a transaction in doubt that has this rank or more and leaves room for n others above it, with its view and its writes
 unfoldable pub doubt_at : ℕ → ℕ → List ℕ → Result (Doubt × List ℕ) ℕ
 doubt_at n least bytes = do
   txn ← ascending_txn_at n least bytes
@@ -37,6 +37,6 @@ doubt_at n least bytes = do
   writes ← writes_at view.1
   Ok (record { txn = txn.0; view = view.0; writes = writes.0 }, writes.1)
 
--- transactions in doubt, ascending, behind their count
+-- a count, and as many transactions in doubt, ascending
 unfoldable pub doubts_at : List ℕ → Result (List Doubt × List ℕ) ℕ
 doubts_at bytes = u64_at bytes >>= λ n. run_at (λ doubt. rank doubt.txn) doubt_at n.0 0 n.1

@@ -1,4 +1,4 @@
--- Fields of frames and of log records: what bytes each one is. Numbers stand with their highest byte first.
+-- Fields of frames and of log records: the bytes of each one. Numbers have their highest byte first.
 use Rattle.std.specs.Prelude.{◌≡◌, ℕ, suc, ◌≤◌, ◌<◌, ◌^◌, List, [], ◌∷◌, ◌++◌, length, Bool, true, false, Option, Some, None, flat_map}
 use Rattle.byteorder.specs.Endian.{big_bytes}
 use Rattle.vp_base.specs.Words.{IsName, IsValue}
@@ -11,7 +11,7 @@ use Rattle.vp_base.specs.declared.entry.Owner.TheVariants as owner
 
 -- ---- the bytes of fields
 
--- a number in so many bytes
+-- a number in a given count of bytes
 unfoldable pub number_bytes : ℕ → ℕ → List ℕ
 number_bytes count number = big_bytes count number
 
@@ -29,7 +29,7 @@ abbrev pub owner_bytes : Owner → List ℕ
 owner_bytes owner.Refresh = 0 ∷ []
 owner_bytes (owner.Txn txn) = 1 ∷ txn_bytes txn
 
--- bytes behind their count: of a name, a value, sites, records
+-- bytes after their count: of a name, a value, sites, records
 abbrev pub counted_bytes : List ℕ → List ℕ
 counted_bytes items = length items ∷ items
 
@@ -43,7 +43,7 @@ writes_bytes writes = length writes ∷ flat_map write_bytes writes
 abbrev pub numbered_bytes : TxnId → ℕ → List ℕ
 numbered_bytes txn number = txn_bytes txn ++ number_bytes 4 number
 
--- what asks a part for a lock or a vote
+-- what each request for a lock or a vote begins with
 abbrev pub request_bytes : TxnId → ViewId → ℕ → List ℕ
 request_bytes txn view number = txn_bytes txn ++ (view_bytes view ++ number_bytes 4 number)
 
@@ -51,7 +51,7 @@ abbrev pub outcome_byte : Bool → ℕ
 outcome_byte true = 1
 outcome_byte false = 0
 
--- ---- what values fields have
+-- ---- which values fields have
 
 abbrev pub IsSite : ℕ → Type 0
 IsSite site = (1 ≤ site) × (site ≤ 16)

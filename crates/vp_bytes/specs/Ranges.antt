@@ -1,4 +1,4 @@
--- Numbers and transactions that lie between two others, byte by byte: a byte is at fault as soon as none of them begins so.
+-- Numbers and transactions in a range, byte by byte: a byte is at fault as soon as none in the range begins so.
 use Rattle.std.specs.Prelude.{◌≡◌, ℕ, zero, suc, ◌+◌, ◌*◌, ◌-◌, ◌/◌, ◌%◌, ◌^◌, ◌≤◌, List, Bool, false, ◌&&◌, ◌==◌, if◌then◌else◌, Option, Some, None, Result, Ok}
 use Rattle.vp_text.specs.Reading.{◌>>=◌}
 use Rattle.vp_base.specs.Identifiers.{IsTxn}
@@ -10,20 +10,20 @@ use Rattle.vp_bytes.specs.Reading.{byte_at, is_byte, within}
 
 -- ---- numbers
 
--- the text is a number from low to high in so many bytes
+-- the text is a number from low to high in a given count of bytes
 abbrev pub IsNumberWithin : ℕ → ℕ → ℕ → ℕ → List ℕ → Type 0
 IsNumberWithin count low high = Spelled (number_bytes count) (λ number. (low ≤ number) × (number ≤ high))
 
--- A byte, with n bytes behind it, of a number from low to high that begins so.
+-- A byte with which a number from low to high can go on, where n more bytes follow.
 abbrev pub range_fits : ℕ → ℕ → ℕ → ℕ → ℕ → Bool
 range_fits low high n front c = is_byte c && within (low / 256 ^ n) (high / 256 ^ n) (front * 256 + c)
 
--- the number of n bytes behind the front of it, from low to high
+-- the number of n bytes after those that made the front, from low to high
 abbrev pub digits_within_at : ℕ → ℕ → ℕ → ℕ → List ℕ → Result (ℕ × List ℕ) ℕ
 digits_within_at low high zero front bytes = Ok (front, bytes)
 digits_within_at low high (suc n) front bytes = byte_at (range_fits low high n front) bytes >>= λ c. digits_within_at low high n (front * 256 + c.0) c.1
 
--- a number from low to high in so many bytes
+-- a number from low to high in a given count of bytes
 unfoldable pub number_within_at : ℕ → ℕ → ℕ → List ℕ → Result (ℕ × List ℕ) ℕ
 number_within_at count low high bytes = digits_within_at low high count 0 bytes
 
@@ -67,7 +67,7 @@ txn_between_at low high bytes = do
   seq ← number_within_at 4 (least_seq low site.0 life.0) (most_seq high site.0 life.0) life.1
   Ok (txn_of site.0 life.0 seq.0, seq.1)
 
--- ---- the place of a transaction among all
+-- ---- the rank of a transaction among all
 
 -- how many transactions come before it
 unfoldable pub rank : TxnId → ℕ
@@ -81,11 +81,11 @@ ranked n = txn_of (n / most_u32 / most_u32 + 1) (n / most_u32 % most_u32 + 1) (n
 abbrev pub last_rank : ℕ
 last_rank = 16 * most_u32 * most_u32 - 1
 
--- the least rank behind the last transaction, if there is one
+-- the least rank above the last transaction, if there is one
 abbrev pub next_rank : Option TxnId → ℕ
 next_rank None = 0
 next_rank (Some txn) = suc (rank txn)
 
--- a transaction of this rank or more that n others above it can follow
+-- a transaction that has this rank or more and leaves room for n others above it
 abbrev pub ascending_txn_at : ℕ → ℕ → List ℕ → Result (TxnId × List ℕ) ℕ
 ascending_txn_at n least bytes = txn_between_at (ranked least) (ranked (last_rank - n)) bytes

@@ -13,16 +13,16 @@ use Rattle.vp_base.specs.declared.entry.Owner.TheVariants as owner
 abbrev pub is_byte : ℕ → Bool
 is_byte c = nat_lt c 256
 
--- a byte that the test admits
+-- a byte that the test allows
 abbrev pub byte_at : (ℕ → Bool) → List ℕ → Result (ℕ × List ℕ) ℕ
 byte_at has [] = Err 0
 byte_at has (c ∷ cs) = if has c then Ok (c, cs) else Err (length (c ∷ cs))
 
--- A byte, with n bytes behind it, of a number that begins so. Where the number is `some`, it is not 0.
+-- A byte with which a number can go on, where n more bytes follow. Where `some` is true, the number is not 0.
 abbrev pub digit_fits : Bool → ℕ → ℕ → ℕ → Bool
 digit_fits some n front c = is_byte c && (not some || (nat_lt 0 n || nat_lt 0 (front * 256 + c)))
 
--- the number of n bytes behind the front of it
+-- the number of n bytes after those that made the front
 abbrev pub digits_at : Bool → ℕ → ℕ → List ℕ → Result (ℕ × List ℕ) ℕ
 digits_at some zero front bytes = Ok (front, bytes)
 digits_at some (suc n) front bytes = byte_at (digit_fits some n front) bytes >>= λ c. digits_at some n (front * 256 + c.0) c.1
@@ -77,21 +77,21 @@ owner_at bytes = do
   flag ← byte_at (within 0 1) bytes
   cond (flag.0 == 0) (Ok (owner.Refresh, flag.1)) (txn_at flag.1 >>= λ t. Ok (owner.Txn t.0, t.1))
 
--- Items, so many as said: each is read with the count of those behind it and the least that its key may be, which is more
+-- As many items as said: each is read with the count of those after it and the least value that its key may have, which is one more
 -- than the key before it.
 unfoldable pub run_at : {X : Type 0} → (X → ℕ) → (ℕ → ℕ → List ℕ → Result (X × List ℕ) ℕ) → ℕ → ℕ → List ℕ → Result (List X × List ℕ) ℕ
 run_at key item zero least bytes = Ok ([], bytes)
 run_at key item (suc n) least bytes = item n least bytes >>= λ x. run_at key item n (suc (key x.0)) x.1 >>= λ xs. Ok (x.0 ∷ xs.0, xs.1)
 
--- items behind their count, which is from few to many
+-- a count from few to many, and as many items
 unfoldable pub counted_at : {X : Type 0} → (X → ℕ) → (ℕ → ℕ → List ℕ → Result (X × List ℕ) ℕ) → ℕ → ℕ → ℕ → List ℕ → Result (List X × List ℕ) ℕ
 counted_at key item few many least bytes = byte_at (within few many) bytes >>= λ n. run_at key item n.0 least n.1
 
--- a number from least on that n others above it can follow, up to most
+-- a number from least on that leaves room for n others above it, up to most
 abbrev pub ascending_at : ℕ → ℕ → ℕ → List ℕ → Result (ℕ × List ℕ) ℕ
 ascending_at most n least bytes = byte_at (within least (most - n)) bytes
 
--- so many bytes of the class
+-- a given count of bytes of the class
 abbrev pub word_run_at : Class → ℕ → List ℕ → Result (List ℕ × List ℕ) ℕ
 word_run_at class n bytes = run_at (λ _. 0) (λ _ _ bytes. byte_at (has class) bytes) n 1 bytes
 
@@ -124,7 +124,7 @@ write_at n least bytes = do
 unfoldable pub writes_at : List ℕ → Result (List (ℕ × List ℕ) × List ℕ) ℕ
 writes_at bytes = counted_at (λ write. write.0) write_at 0 64 0 bytes
 
--- what asks a part for a lock or a vote
+-- what each request for a lock or a vote begins with
 unfoldable pub request_at : List ℕ → Result ((TxnId × ViewId × ℕ) × List ℕ) ℕ
 request_at bytes = do
   txn ← txn_at bytes

@@ -1,4 +1,4 @@
-//! Reading which kind of thing stands next, by its code.
+//! Reading codes: bytes that each mean one kind of thing.
 
 ghost use Rattle.std.specs.Prelude.{◌≡◌, ℕ, Option};
 ghost use Rattle.vp_text.specs.Reading.{Reads};
@@ -6,18 +6,18 @@ ghost use Rattle.vp_bytes.specs.Codes.{code_at};
 
 use vp_text::{Cursor, Unexpected};
 
-/// Kinds of which each has a byte for its code.
+/// Kinds, each of which has one byte for its code.
 pub trait Coded: Sized {
-    // The kind that a code stands for.
+    // The kind that a code means.
     ghost kind: { ℕ → Option Self };
 
-    /// The kind of this code.
+    /// The kind with this code, or `None` where no kind has it.
     fn of(code: u8) -> Option<Self>
         ensures { result ≡ kind code };
 }
 
-/// Takes the code of a kind.
-pub fn take_coded<K: Coded>(cursor: &mut Cursor) -> Result<K, Unexpected>
+/// Reads the code of a kind.
+pub fn read_coded<K: Coded>(cursor: &mut Cursor) -> Result<K, Unexpected>
     ensures { Reads (λ k. k) (λ e. e.left) result cursor.new (code_at K.kind cursor.old) }
 {
     let rest = cursor.rest();

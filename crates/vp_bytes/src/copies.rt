@@ -8,25 +8,25 @@ ghost use Rattle.vp_bytes.specs.Reading.{run_at};
 ghost use Rattle.vp_bytes.specs.Copies.{copies_at, copies_bytes, copy_at, copy_bytes};
 
 use crate::fields::{put_byte, put_value, put_view};
-use crate::ranges::take_u16_within;
-use crate::reading::{take_byte, take_view};
-use crate::words::take_value;
+use crate::ranges::read_u16_within;
+use crate::reading::{read_byte, read_view};
+use crate::words::read_value;
 use bytes::BufMut;
 use std::alloc::Global;
 use vp_base::{Copies, LineFault, MOST_RECORDS, NoMemory, RecId, Stored};
 use vp_text::Cursor;
 
-/// Takes up to 256 copies, ascending by record, behind their count.
+/// Reads a count of 16 bits and then as many copies, up to 256, ascending by record.
 #[tactic(auto, unfolding(crate::specs::Copies::copies_at))]
-pub fn take_copies(alloc: Global, cursor: &mut Cursor) -> Result<Copies, LineFault>
+pub fn read_copies(alloc: Global, cursor: &mut Cursor) -> Result<Copies, LineFault>
     ensures { Tries (λ c. c) line_left result cursor.new (copies_at cursor.old) }
 {
-    let count = take_u16_within(cursor, 0, MOST_RECORDS as u16)?;
-    take_some_copies(alloc, cursor, count)
+    let count = read_u16_within(cursor, 0, MOST_RECORDS as u16)?;
+    read_some_copies(alloc, cursor, count)
 }
 
-/// Takes so many copies, ascending by record.
-fn take_some_copies(alloc: Global, cursor: &mut Cursor, count: u16) -> Result<Copies, LineFault>
+/// Reads `count` copies, ascending by record.
+fn read_some_copies(alloc: Global, cursor: &mut Cursor, count: u16) -> Result<Copies, LineFault>
     requires { count ≤ 256 }
     ensures { Tries (λ c. c) line_left result cursor.new (run_at (λ copy. copy.0) copy_at count 0 cursor.old) }
 {
@@ -35,16 +35,16 @@ fn take_some_copies(alloc: Global, cursor: &mut Cursor, count: u16) -> Result<Co
     let mut least = 0;
     while left > 0 {
         left -= 1;
-        let copy = take_copy(alloc, cursor, least, left)?;
+        let copy = read_copy(alloc, cursor, least, left)?;
         least = u16::from(copy.0.get()) + 1;
         copies.push(copy)?;
     }
     Ok(copies)
 }
 
-/// Takes a record from `least` on that so many others can follow, its value, and the date of that.
+/// Reads a record from `least` on, one that leaves room for the others after it, with its value and the date of that.
 #[tactic(auto, unfolding(crate::specs::Copies::copy_at))]
-fn take_copy(
+fn read_copy(
     alloc: Global,
     cursor: &mut Cursor,
     least: u16,
@@ -54,13 +54,13 @@ fn take_copy(
     ensures read { Tries (λ c. c) line_left result cursor.new (copy_at behind least cursor.old) }
     ensures range { IfOk result (λ c. (least ≤ c.0) × (c.0 ≤ 255 - behind)) }
 {
-    let rec = take_byte(cursor, least as u8, (255 - behind) as u8)?;
-    let value = take_value(alloc, cursor)?;
-    let date = take_view(cursor)?;
+    let rec = read_byte(cursor, least as u8, (255 - behind) as u8)?;
+    let value = read_value(alloc, cursor)?;
+    let date = read_view(cursor)?;
     Ok((RecId::new(rec), Stored { value, date }))
 }
 
-/// Copies behind their count.
+/// Appends the count of the copies and then the copies.
 #[tactic(auto, using(vp_text::proofs::Printing::printing))]
 pub fn put_copies<B: BufMut>(out: &mut B, copies: &[(RecId, Stored)]) -> Result<(), NoMemory>
     requires { length copies.now ≤ 256 }
@@ -73,7 +73,7 @@ pub fn put_copies<B: BufMut>(out: &mut B, copies: &[(RecId, Stored)]) -> Result<
     Ok(())
 }
 
-/// A record, its value, and the date of that.
+/// Appends a record, its value, and the date of that.
 #[tactic(auto, using(vp_text::proofs::Printing::printing))]
 pub fn put_copy<B: BufMut>(out: &mut B, rec: RecId, stored: &Stored) -> Result<(), NoMemory>
     ensures { Appends result (B.written out.old) (copy_bytes (rec, stored.now)) (B.written out.new) }

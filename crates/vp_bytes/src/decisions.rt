@@ -1,4 +1,4 @@
-//! Decided transactions: reading and writing them.
+//! Decisions: reading and writing them.
 
 ghost use Rattle.std.specs.Prelude.{◌≡◌, ◌≤◌, ◌+◌, ◌++◌, All, IfOk, IfSome, length};
 ghost use Rattle.vp_text.specs.Printing.{Appends};
@@ -10,25 +10,25 @@ ghost use Rattle.vp_bytes.specs.Ranges.{last_rank, next_rank, rank};
 ghost use Rattle.vp_bytes.specs.Reading.{run_at};
 
 use crate::fields::{put_sites, put_txn, put_u64};
-use crate::lists::take_sites;
-use crate::reading::take_u64;
-use crate::txn_ranges::take_ascending_txn;
+use crate::lists::read_sites;
+use crate::reading::read_u64;
+use crate::txn_ranges::read_ascending_txn;
 use bytes::BufMut;
 use std::alloc::Global;
 use vp_base::{Decision, Decisions, LineFault, NoMemory, TxnId};
 use vp_text::Cursor;
 
-/// Takes decided transactions, ascending, behind their count.
+/// Reads a count and then as many decisions, ascending by transaction.
 #[tactic(auto, unfolding(crate::specs::Decisions::decisions_at))]
-pub fn take_decisions(alloc: Global, cursor: &mut Cursor) -> Result<Decisions, LineFault>
+pub fn read_decisions(alloc: Global, cursor: &mut Cursor) -> Result<Decisions, LineFault>
     ensures { Tries (λ d. d) line_left result cursor.new (decisions_at cursor.old) }
 {
-    let count = take_u64(cursor)?;
-    take_some_decisions(alloc, cursor, count)
+    let count = read_u64(cursor)?;
+    read_some_decisions(alloc, cursor, count)
 }
 
-/// Takes so many decided transactions, ascending.
-fn take_some_decisions(
+/// Reads `count` decisions, ascending by transaction.
+fn read_some_decisions(
     alloc: Global,
     cursor: &mut Cursor,
     count: u64,
@@ -40,16 +40,16 @@ fn take_some_decisions(
     let mut last = None;
     while left > 0 {
         left -= 1;
-        let decision = take_decision(alloc, cursor, last, left)?;
+        let decision = read_decision(alloc, cursor, last, left)?;
         last = Some(decision.txn);
         decisions.push(decision)?;
     }
     Ok(decisions)
 }
 
-/// Takes a decided transaction above the last one, if there is one, that so many others can follow.
+/// Reads a decision on a transaction above the last one, if there is one, that leaves room for the others after it.
 #[tactic(auto, unfolding(crate::specs::Decisions::decision_at))]
-fn take_decision(
+fn read_decision(
     alloc: Global,
     cursor: &mut Cursor,
     last: Option<TxnId>,
@@ -61,12 +61,12 @@ fn take_decision(
     ensures txn { IfOk result (λ d. IsTxn d.txn) }
     ensures range { IfOk result (λ d. (next_rank last ≤ rank d.txn) × (rank d.txn + behind ≤ last_rank)) }
 {
-    let txn = take_ascending_txn(cursor, last, behind)?;
-    let waiting = take_sites(alloc, cursor, 1)?;
+    let txn = read_ascending_txn(cursor, last, behind)?;
+    let waiting = read_sites(alloc, cursor, 1)?;
     Ok(Decision { txn, waiting })
 }
 
-/// Decided transactions behind their count.
+/// Appends the count of the decisions and then the decisions.
 #[tactic(auto, using(vp_text::proofs::Printing::printing))]
 pub fn put_decisions<B: BufMut>(out: &mut B, decisions: &[Decision]) -> Result<(), NoMemory>
     requires { All (λ decision. length decision.waiting ≤ 16) decisions.now }
@@ -79,7 +79,7 @@ pub fn put_decisions<B: BufMut>(out: &mut B, decisions: &[Decision]) -> Result<(
     Ok(())
 }
 
-/// A decided transaction, and the sites that have not acknowledged it.
+/// Appends a decision: the transaction and the sites that have not acknowledged it.
 #[tactic(auto, using(vp_text::proofs::Printing::printing))]
 fn put_decision<B: BufMut>(out: &mut B, decision: &Decision) -> Result<(), NoMemory>
     requires { length decision.now.waiting ≤ 16 }

@@ -10,25 +10,25 @@ ghost use Rattle.vp_bytes.specs.Ranges.{last_rank, next_rank, rank};
 ghost use Rattle.vp_bytes.specs.Reading.{run_at};
 
 use crate::fields::{put_txn, put_u64, put_view, put_writes};
-use crate::lists::take_writes;
-use crate::reading::{take_u64, take_view};
-use crate::txn_ranges::take_ascending_txn;
+use crate::lists::read_writes;
+use crate::reading::{read_u64, read_view};
+use crate::txn_ranges::read_ascending_txn;
 use bytes::BufMut;
 use std::alloc::Global;
 use vp_base::{Doubt, InDoubt, LineFault, NoMemory, TxnId, ViewId, Writes};
 use vp_text::Cursor;
 
-/// Takes transactions in doubt, ascending, behind their count.
+/// Reads a count and then as many transactions in doubt, ascending.
 #[tactic(auto, unfolding(crate::specs::Doubts::doubts_at))]
-pub fn take_doubts(alloc: Global, cursor: &mut Cursor) -> Result<InDoubt, LineFault>
+pub fn read_doubts(alloc: Global, cursor: &mut Cursor) -> Result<InDoubt, LineFault>
     ensures { Tries (λ d. d) line_left result cursor.new (doubts_at cursor.old) }
 {
-    let count = take_u64(cursor)?;
-    take_some_doubts(alloc, cursor, count)
+    let count = read_u64(cursor)?;
+    read_some_doubts(alloc, cursor, count)
 }
 
-/// Takes so many transactions in doubt, ascending.
-fn take_some_doubts(alloc: Global, cursor: &mut Cursor, count: u64) -> Result<InDoubt, LineFault>
+/// Reads `count` transactions in doubt, ascending.
+fn read_some_doubts(alloc: Global, cursor: &mut Cursor, count: u64) -> Result<InDoubt, LineFault>
     ensures { Tries (λ d. d) line_left result cursor.new (run_at (λ doubt. rank doubt.txn) doubt_at count 0 cursor.old) }
 {
     let mut doubts = InDoubt::new(alloc);
@@ -36,16 +36,16 @@ fn take_some_doubts(alloc: Global, cursor: &mut Cursor, count: u64) -> Result<In
     let mut last = None;
     while left > 0 {
         left -= 1;
-        let doubt = take_doubt(alloc, cursor, last, left)?;
+        let doubt = read_doubt(alloc, cursor, last, left)?;
         last = Some(doubt.txn);
         doubts.push(doubt)?;
     }
     Ok(doubts)
 }
 
-/// Takes a transaction in doubt above the last one, if there is one, that so many others can follow.
+/// Reads a transaction in doubt above the last one, if there is one, that leaves room for the others after it.
 #[tactic(auto, unfolding(crate::specs::Doubts::doubt_at))]
-fn take_doubt(
+fn read_doubt(
     alloc: Global,
     cursor: &mut Cursor,
     last: Option<TxnId>,
@@ -57,13 +57,13 @@ fn take_doubt(
     ensures txn { IfOk result (λ d. IsTxn d.txn) }
     ensures range { IfOk result (λ d. (next_rank last ≤ rank d.txn) × (rank d.txn + behind ≤ last_rank)) }
 {
-    let txn = take_ascending_txn(cursor, last, behind)?;
-    let view = take_view(cursor)?;
-    let writes = take_writes(alloc, cursor)?;
+    let txn = read_ascending_txn(cursor, last, behind)?;
+    let view = read_view(cursor)?;
+    let writes = read_writes(alloc, cursor)?;
     Ok(Doubt { txn, view, writes })
 }
 
-/// Transactions in doubt behind their count.
+/// Appends the count of the transactions in doubt and then each of them.
 #[tactic(auto, using(vp_text::proofs::Printing::printing))]
 pub fn put_doubts<B: BufMut>(out: &mut B, doubts: &[Doubt]) -> Result<(), NoMemory>
     requires { All (λ doubt. length doubt.writes ≤ 64) doubts.now }
@@ -76,7 +76,7 @@ pub fn put_doubts<B: BufMut>(out: &mut B, doubts: &[Doubt]) -> Result<(), NoMemo
     Ok(())
 }
 
-/// A transaction in doubt, its view and its writes.
+/// Appends a transaction in doubt, with its view and its writes.
 #[tactic(auto, using(vp_text::proofs::Printing::printing))]
 pub fn put_doubt<B: BufMut>(
     out: &mut B,

@@ -1,4 +1,4 @@
-//! Writing fields.
+//! Writing fields. After want of memory a beginning of the field may have been appended.
 
 ghost use Rattle.std.specs.Prelude.{◌≡◌, ◌≤◌, ◌++◌, ◌∷◌, [], OnOk, OnErr, length, flat_map};
 ghost use Rattle.vp_text.specs.Printing.{Appends};
@@ -7,7 +7,7 @@ ghost use Rattle.vp_bytes.specs.Fields.{number_bytes, view_bytes, maybe_view_byt
 use bytes::BufMut;
 use vp_base::{CallNo, Name, NoMemory, Owner, RecId, SiteId, TxnId, Value, ViewId};
 
-/// A byte.
+/// Appends a byte.
 pub fn put_byte<B: BufMut>(out: &mut B, byte: u8) -> Result<(), NoMemory>
     ensures ok { OnOk result (B.written out.new ≡ B.written out.old ++ byte ∷ []) }
     ensures err { OnErr result (B.written out.new ≡ B.written out.old) }
@@ -16,7 +16,7 @@ pub fn put_byte<B: BufMut>(out: &mut B, byte: u8) -> Result<(), NoMemory>
     Ok(())
 }
 
-/// A number of 32 bits.
+/// Appends a number in 4 bytes, the highest first.
 #[tactic(auto, unfolding(crate::specs::Fields::number_bytes))]
 pub fn put_u32<B: BufMut>(out: &mut B, number: u32) -> Result<(), NoMemory>
     ensures ok { OnOk result (B.written out.new ≡ B.written out.old ++ number_bytes 4 number) }
@@ -26,7 +26,7 @@ pub fn put_u32<B: BufMut>(out: &mut B, number: u32) -> Result<(), NoMemory>
     Ok(())
 }
 
-/// A number of 64 bits.
+/// Appends a number in 8 bytes, the highest first.
 #[tactic(auto, unfolding(crate::specs::Fields::number_bytes))]
 pub fn put_u64<B: BufMut>(out: &mut B, number: u64) -> Result<(), NoMemory>
     ensures ok { OnOk result (B.written out.new ≡ B.written out.old ++ number_bytes 8 number) }
@@ -36,7 +36,7 @@ pub fn put_u64<B: BufMut>(out: &mut B, number: u64) -> Result<(), NoMemory>
     Ok(())
 }
 
-/// Bytes behind their count, which a byte holds.
+/// Appends the count of the bytes, itself one byte, and then the bytes.
 #[tactic(auto, using(vp_text::proofs::Printing::printing))]
 pub fn put_counted<B: BufMut>(out: &mut B, bytes: &[u8]) -> Result<(), NoMemory>
     requires { length bytes.now ≤ 64 }
@@ -47,7 +47,7 @@ pub fn put_counted<B: BufMut>(out: &mut B, bytes: &[u8]) -> Result<(), NoMemory>
     Ok(())
 }
 
-/// A name behind the count of its bytes.
+/// Appends the count of a name's bytes and then the bytes.
 #[tactic(auto, using(vp_text::proofs::Printing::printing))]
 pub fn put_name<B: BufMut>(out: &mut B, name: &Name) -> Result<(), NoMemory>
     ensures { Appends result (B.written out.old) (counted_bytes name.now) (B.written out.new) }
@@ -55,7 +55,7 @@ pub fn put_name<B: BufMut>(out: &mut B, name: &Name) -> Result<(), NoMemory>
     put_counted(out, name.as_bytes())
 }
 
-/// A value behind the count of its bytes.
+/// Appends the count of a value's bytes and then the bytes.
 #[tactic(auto, using(vp_text::proofs::Printing::printing))]
 pub fn put_value<B: BufMut>(out: &mut B, value: &Value) -> Result<(), NoMemory>
     ensures { Appends result (B.written out.old) (counted_bytes value.now) (B.written out.new) }
@@ -63,7 +63,7 @@ pub fn put_value<B: BufMut>(out: &mut B, value: &Value) -> Result<(), NoMemory>
     put_counted(out, value.as_bytes())
 }
 
-/// A view.
+/// Appends a view: its number in 8 bytes and its site in one.
 #[tactic(auto, using(vp_text::proofs::Printing::printing), unfolding(crate::specs::Fields::view_bytes))]
 pub fn put_view<B: BufMut>(out: &mut B, view: &ViewId) -> Result<(), NoMemory>
     ensures { Appends result (B.written out.old) (view_bytes view.now) (B.written out.new) }
@@ -72,7 +72,7 @@ pub fn put_view<B: BufMut>(out: &mut B, view: &ViewId) -> Result<(), NoMemory>
     put_byte(out, view.site)
 }
 
-/// 1 and a view, or 0 for none.
+/// Appends 1 and a view, or 0 for none.
 #[tactic(auto, using(vp_text::proofs::Printing::printing))]
 pub fn put_maybe_view<B: BufMut>(out: &mut B, view: &Option<ViewId>) -> Result<(), NoMemory>
     ensures { Appends result (B.written out.old) (maybe_view_bytes view.now) (B.written out.new) }
@@ -86,7 +86,7 @@ pub fn put_maybe_view<B: BufMut>(out: &mut B, view: &Option<ViewId>) -> Result<(
     }
 }
 
-/// A transaction.
+/// Appends a transaction: its site in a byte, and its life and its place in 4 bytes each.
 #[tactic(auto, using(vp_text::proofs::Printing::printing), unfolding(crate::specs::Fields::txn_bytes))]
 pub fn put_txn<B: BufMut>(out: &mut B, txn: &TxnId) -> Result<(), NoMemory>
     ensures { Appends result (B.written out.old) (txn_bytes txn.now) (B.written out.new) }
@@ -96,7 +96,7 @@ pub fn put_txn<B: BufMut>(out: &mut B, txn: &TxnId) -> Result<(), NoMemory>
     put_u32(out, txn.seq)
 }
 
-/// 1 and a transaction, or 0 for a refresh.
+/// Appends 1 and a transaction, or 0 for a refresh.
 #[tactic(auto, using(vp_text::proofs::Printing::printing))]
 pub fn put_owner<B: BufMut>(out: &mut B, owner: &Owner) -> Result<(), NoMemory>
     ensures { Appends result (B.written out.old) (owner_bytes owner.now) (B.written out.new) }
@@ -110,7 +110,7 @@ pub fn put_owner<B: BufMut>(out: &mut B, owner: &Owner) -> Result<(), NoMemory>
     }
 }
 
-/// A transaction and its outcome: 1 for commit, 0 for abort.
+/// Appends a transaction and its outcome: 1 for commit, 0 for abort.
 #[tactic(auto, using(vp_text::proofs::Printing::printing))]
 pub fn put_outcome<B: BufMut>(out: &mut B, txn: &TxnId, commit: bool) -> Result<(), NoMemory>
     ensures { Appends result (B.written out.old) (txn_bytes txn.now ++ outcome_byte commit ∷ []) (B.written out.new) }
@@ -123,7 +123,7 @@ pub fn put_outcome<B: BufMut>(out: &mut B, txn: &TxnId, commit: bool) -> Result<
     }
 }
 
-/// Sites behind their count.
+/// Appends the count of the sites and then the sites, a byte each.
 #[tactic(auto, using(vp_text::proofs::Printing::printing))]
 pub fn put_sites<B: BufMut>(out: &mut B, sites: &[SiteId]) -> Result<(), NoMemory>
     requires { length sites.now ≤ 16 }
@@ -136,7 +136,7 @@ pub fn put_sites<B: BufMut>(out: &mut B, sites: &[SiteId]) -> Result<(), NoMemor
     Ok(())
 }
 
-/// Records behind their count.
+/// Appends the count of the records and then the records, a byte each.
 #[tactic(auto, using(vp_text::proofs::Printing::printing))]
 pub fn put_recs<B: BufMut>(out: &mut B, recs: &[RecId]) -> Result<(), NoMemory>
     requires { length recs.now ≤ 64 }
@@ -149,7 +149,7 @@ pub fn put_recs<B: BufMut>(out: &mut B, recs: &[RecId]) -> Result<(), NoMemory>
     Ok(())
 }
 
-/// A record and its value.
+/// Appends a record and its value.
 #[tactic(auto, using(vp_text::proofs::Printing::printing))]
 fn put_write<B: BufMut>(out: &mut B, rec: RecId, value: &Value) -> Result<(), NoMemory>
     ensures { Appends result (B.written out.old) (write_bytes (rec, value.now)) (B.written out.new) }
@@ -158,7 +158,7 @@ fn put_write<B: BufMut>(out: &mut B, rec: RecId, value: &Value) -> Result<(), No
     put_value(out, value)
 }
 
-/// Writes behind their count.
+/// Appends the count of the writes and then the writes.
 #[tactic(auto, using(vp_text::proofs::Printing::printing))]
 pub fn put_writes<B: BufMut>(out: &mut B, writes: &[(RecId, Value)]) -> Result<(), NoMemory>
     requires { length writes.now ≤ 64 }
@@ -171,7 +171,7 @@ pub fn put_writes<B: BufMut>(out: &mut B, writes: &[(RecId, Value)]) -> Result<(
     Ok(())
 }
 
-/// The transaction and the number of a call.
+/// Appends a transaction and the number of a call on it.
 #[tactic(auto, using(vp_text::proofs::Printing::printing))]
 pub fn put_numbered<B: BufMut>(out: &mut B, txn: &TxnId, number: CallNo) -> Result<(), NoMemory>
     ensures { Appends result (B.written out.old) (numbered_bytes txn.now number) (B.written out.new) }
@@ -180,7 +180,7 @@ pub fn put_numbered<B: BufMut>(out: &mut B, txn: &TxnId, number: CallNo) -> Resu
     put_u32(out, number.get())
 }
 
-/// What asks a part for a lock or a vote.
+/// Appends what each request for a lock or a vote begins with: a transaction, its view, and the number of the call.
 #[tactic(auto, using(vp_text::proofs::Printing::printing))]
 pub fn put_request<B: BufMut>(
     out: &mut B,

@@ -5,23 +5,23 @@ ghost use Rattle.vp_text.specs.Reading.{Reads, Tries};
 ghost use Rattle.vp_base.specs.Faults.{line_left};
 ghost use Rattle.vp_bytes.specs.Reading.{ascending_at, recs_at, run_at, sites_at, write_at, writes_at};
 
-use crate::reading::take_byte;
-use crate::words::take_value;
+use crate::reading::read_byte;
+use crate::words::read_value;
 use std::alloc::Global;
 use vp_base::{LAST_SITE, LineFault, MOST_OPS, RecId, Recs, SiteId, Sites, Value, Writes};
 use vp_text::{Cursor, Unexpected};
 
-/// Takes `few` to 16 sites, ascending, behind their count.
+/// Reads a count from `few` to 16 and then as many sites, ascending.
 #[tactic(auto, unfolding(crate::specs::Reading::sites_at, crate::specs::Reading::counted_at))]
-pub fn take_sites(alloc: Global, cursor: &mut Cursor, few: u8) -> Result<Sites, LineFault>
+pub fn read_sites(alloc: Global, cursor: &mut Cursor, few: u8) -> Result<Sites, LineFault>
     ensures { Tries (λ s. s) line_left result cursor.new (sites_at few cursor.old) }
 {
-    let count = take_byte(cursor, few, LAST_SITE)?;
-    take_some_sites(alloc, cursor, count)
+    let count = read_byte(cursor, few, LAST_SITE)?;
+    read_some_sites(alloc, cursor, count)
 }
 
-/// Takes so many sites, ascending.
-fn take_some_sites(alloc: Global, cursor: &mut Cursor, count: u8) -> Result<Sites, LineFault>
+/// Reads `count` sites, ascending.
+fn read_some_sites(alloc: Global, cursor: &mut Cursor, count: u8) -> Result<Sites, LineFault>
     requires { count ≤ 16 }
     ensures { Tries (λ s. s) line_left result cursor.new (run_at (λ c. c) (ascending_at 16) count 1 cursor.old) }
 {
@@ -30,24 +30,24 @@ fn take_some_sites(alloc: Global, cursor: &mut Cursor, count: u8) -> Result<Site
     let mut least = 1;
     while left > 0 {
         left -= 1;
-        let site = take_byte(cursor, least, LAST_SITE - left)?;
+        let site = read_byte(cursor, least, LAST_SITE - left)?;
         sites.push(SiteId::of(site))?;
         least = site + 1;
     }
     Ok(sites)
 }
 
-/// Takes up to 64 records, ascending, behind their count.
+/// Reads a count up to 64 and then as many records, ascending.
 #[tactic(auto, unfolding(crate::specs::Reading::recs_at, crate::specs::Reading::counted_at))]
-pub fn take_recs(alloc: Global, cursor: &mut Cursor) -> Result<Recs, LineFault>
+pub fn read_recs(alloc: Global, cursor: &mut Cursor) -> Result<Recs, LineFault>
     ensures { Tries (λ r. r) line_left result cursor.new (recs_at cursor.old) }
 {
-    let count = take_byte(cursor, 0, MOST_OPS)?;
-    take_some_recs(alloc, cursor, count)
+    let count = read_byte(cursor, 0, MOST_OPS)?;
+    read_some_recs(alloc, cursor, count)
 }
 
-/// Takes so many records, ascending.
-fn take_some_recs(alloc: Global, cursor: &mut Cursor, count: u8) -> Result<Recs, LineFault>
+/// Reads `count` records, ascending.
+fn read_some_recs(alloc: Global, cursor: &mut Cursor, count: u8) -> Result<Recs, LineFault>
     requires { count ≤ 64 }
     ensures { Tries (λ r. r) line_left result cursor.new (run_at (λ c. c) (ascending_at 255) count 0 cursor.old) }
 {
@@ -56,33 +56,33 @@ fn take_some_recs(alloc: Global, cursor: &mut Cursor, count: u8) -> Result<Recs,
     let mut least = 0;
     while left > 0 {
         left -= 1;
-        let rec = take_rec_from(cursor, least, left)?;
+        let rec = read_rec_from(cursor, least, left)?;
         recs.push(RecId::new(rec))?;
         least = u16::from(rec) + 1;
     }
     Ok(recs)
 }
 
-/// Takes a record from `least` on that so many others can follow.
-fn take_rec_from(cursor: &mut Cursor, least: u16, behind: u8) -> Result<u8, Unexpected>
+/// Reads a record from `least` on that leaves room for the others after it.
+fn read_rec_from(cursor: &mut Cursor, least: u16, behind: u8) -> Result<u8, Unexpected>
     requires { least + behind ≤ 255 }
     ensures read { Reads (λ x. x) (λ e. e.left) result cursor.new (ascending_at 255 behind least cursor.old) }
     ensures range { IfOk result (λ x. (least ≤ x) × (x ≤ 255 - behind)) }
 {
-    take_byte(cursor, least as u8, 255 - behind)
+    read_byte(cursor, least as u8, 255 - behind)
 }
 
-/// Takes up to 64 writes, ascending by record, behind their count.
+/// Reads a count up to 64 and then as many writes, ascending by record.
 #[tactic(auto, unfolding(crate::specs::Reading::writes_at, crate::specs::Reading::counted_at))]
-pub fn take_writes(alloc: Global, cursor: &mut Cursor) -> Result<Writes, LineFault>
+pub fn read_writes(alloc: Global, cursor: &mut Cursor) -> Result<Writes, LineFault>
     ensures { Tries (λ w. w) line_left result cursor.new (writes_at cursor.old) }
 {
-    let count = take_byte(cursor, 0, MOST_OPS)?;
-    take_some_writes(alloc, cursor, count)
+    let count = read_byte(cursor, 0, MOST_OPS)?;
+    read_some_writes(alloc, cursor, count)
 }
 
-/// Takes so many writes, ascending by record.
-fn take_some_writes(alloc: Global, cursor: &mut Cursor, count: u8) -> Result<Writes, LineFault>
+/// Reads `count` writes, ascending by record.
+fn read_some_writes(alloc: Global, cursor: &mut Cursor, count: u8) -> Result<Writes, LineFault>
     requires { count ≤ 64 }
     ensures { Tries (λ w. w) line_left result cursor.new (run_at (λ write. write.0) write_at count 0 cursor.old) }
 {
@@ -91,16 +91,16 @@ fn take_some_writes(alloc: Global, cursor: &mut Cursor, count: u8) -> Result<Wri
     let mut least = 0;
     while left > 0 {
         left -= 1;
-        let write = take_write(alloc, cursor, least, left)?;
+        let write = read_write(alloc, cursor, least, left)?;
         least = u16::from(write.0.get()) + 1;
         writes.push(write)?;
     }
     Ok(writes)
 }
 
-/// Takes a record from `least` on that so many others can follow, and its value.
+/// Reads a record from `least` on that leaves room for the others after it, and its value.
 #[tactic(auto, unfolding(crate::specs::Reading::write_at))]
-fn take_write(
+fn read_write(
     alloc: Global,
     cursor: &mut Cursor,
     least: u16,
@@ -110,7 +110,7 @@ fn take_write(
     ensures read { Tries (λ w. w) line_left result cursor.new (write_at behind least cursor.old) }
     ensures range { IfOk result (λ w. (least ≤ w.0) × (w.0 ≤ 255 - behind)) }
 {
-    let rec = take_rec_from(cursor, least, behind)?;
-    let value = take_value(alloc, cursor)?;
+    let rec = read_rec_from(cursor, least, behind)?;
+    let value = read_value(alloc, cursor)?;
     Ok((RecId::new(rec), value))
 }

@@ -1,4 +1,4 @@
-//! Reading numbers that lie between two others.
+//! Reading numbers in a range. A byte is at fault as soon as no number of the range goes on with it.
 
 ghost use Rattle.std.specs.Prelude.{◌≡◌, ◌≤◌, IfErr, IfOk, ◌<◌, ◌^◌};
 ghost use Rattle.vp_text.specs.Reading.{Reads};
@@ -7,8 +7,8 @@ ghost use Rattle.vp_bytes.specs.Ranges.{number_within_at};
 use byteorder::{BigEndian, ByteOrder};
 use vp_text::{Cursor, Unexpected};
 
-/// Takes a number of 16 bits from `low` to `high`.
-pub fn take_u16_within(cursor: &mut Cursor, low: u16, high: u16) -> Result<u16, Unexpected>
+/// Reads a number from `low` to `high` in 2 bytes.
+pub fn read_u16_within(cursor: &mut Cursor, low: u16, high: u16) -> Result<u16, Unexpected>
     requires { low ≤ high }
     ensures read { Reads (λ x. x) (λ e. e.left) result cursor.new (number_within_at 2 low high cursor.old) }
     ensures range { IfOk result (λ x. (low ≤ x) × (x ≤ high)) }
@@ -26,8 +26,8 @@ pub fn take_u16_within(cursor: &mut Cursor, low: u16, high: u16) -> Result<u16, 
     })
 }
 
-/// Takes a number of 32 bits from `low` to `high`.
-pub fn take_u32_within(cursor: &mut Cursor, low: u32, high: u32) -> Result<u32, Unexpected>
+/// Reads a number from `low` to `high` in 4 bytes.
+pub fn read_u32_within(cursor: &mut Cursor, low: u32, high: u32) -> Result<u32, Unexpected>
     requires { low ≤ high }
     ensures read { Reads (λ x. x) (λ e. e.left) result cursor.new (number_within_at 4 low high cursor.old) }
     ensures range { IfOk result (λ x. (low ≤ x) × (x ≤ high)) }

@@ -1,25 +1,25 @@
-//! Reading transactions that lie between two others, and those of an ascending list.
+//! Reading transactions in a range, and those of an ascending list.
 
 ghost use Rattle.std.specs.Prelude.{◌≡◌, ◌≤◌, ◌<◌, ◌+◌, ◌-◌, suc, false, IfOk, IfSome};
 ghost use Rattle.vp_text.specs.Reading.{Reads};
 ghost use Rattle.vp_base.specs.Identifiers.{IsTxn};
 ghost use Rattle.vp_bytes.specs.Ranges.{ascending_txn_at, IsTxnBetween, IsTxnRange, last_rank, least_life, least_seq, most_life, most_seq, next_rank, rank, ranked, txn_between_at};
 
-use crate::ranges::take_u32_within;
-use crate::reading::take_byte;
+use crate::ranges::read_u32_within;
+use crate::reading::read_byte;
 use vp_base::{LAST_SITE, SiteId, TxnId};
 use vp_text::{Cursor, Unexpected};
 
-/// Takes a transaction from `low` to `high`.
+/// Reads a transaction from `low` to `high`.
 #[tactic(auto, unfolding(crate::specs::Ranges::txn_between_at))]
-pub fn take_txn_between(cursor: &mut Cursor, low: &TxnId, high: &TxnId) -> Result<TxnId, Unexpected>
+pub fn read_txn_between(cursor: &mut Cursor, low: &TxnId, high: &TxnId) -> Result<TxnId, Unexpected>
     requires { IsTxnRange low.now high.now }
     ensures read { Reads (λ t. t) (λ e. e.left) result cursor.new (txn_between_at low.now high.now cursor.old) }
     ensures range { IfOk result (λ t. IsTxnBetween low.now high.now t) }
 {
-    let site = take_byte(cursor, low.site.get(), high.site.get())?;
-    let life = take_u32_within(cursor, life_from(low, site), life_to(high, site))?;
-    let seq = take_u32_within(cursor, seq_from(low, site, life), seq_to(high, site, life))?;
+    let site = read_byte(cursor, low.site.get(), high.site.get())?;
+    let life = read_u32_within(cursor, life_from(low, site), life_to(high, site))?;
+    let seq = read_u32_within(cursor, seq_from(low, site, life), seq_to(high, site, life))?;
     Ok(TxnId {
         site: SiteId::of(site),
         life,
@@ -67,8 +67,8 @@ fn seq_to(high: &TxnId, site: u8, life: u32) -> u32
     }
 }
 
-/// Takes a transaction above the last one, if there is one, that so many others above it can follow.
-pub fn take_ascending_txn(
+/// Reads a transaction above the last one, if there is one, that leaves room for the others after it.
+pub fn read_ascending_txn(
     cursor: &mut Cursor,
     last: Option<TxnId>,
     behind: u64,
@@ -79,7 +79,7 @@ pub fn take_ascending_txn(
     ensures txn { IfOk result IsTxn }
     ensures range { IfOk result (λ t. (next_rank last ≤ rank t) × (rank t + behind ≤ last_rank)) }
 {
-    take_txn_between(cursor, &txn_above(last), &txn_below(behind))
+    read_txn_between(cursor, &txn_above(last), &txn_below(behind))
 }
 
 /// The least transaction above the last one, if there is one.
@@ -125,7 +125,7 @@ fn next_txn(txn: TxnId) -> TxnId
     }
 }
 
-/// The transaction that so many others come behind.
+/// The highest transaction that leaves room for `behind` others after it.
 fn txn_below(behind: u64) -> TxnId
     ensures { result ≡ ranked (last_rank - behind) }
 {

@@ -7,17 +7,17 @@ ghost use Rattle.vp_text.specs.Tokens.{IsWord};
 ghost use Rattle.vp_base.specs.Faults.{line_left};
 ghost use Rattle.vp_bytes.specs.Reading.{name_at, value_at, word_at, word_run_at};
 
-use crate::reading::take_byte;
+use crate::reading::read_byte;
 use std::alloc::Global;
 use vp_base::{LineFault, Name, NameFault, Value};
 use vp_text::{Class, Cursor, Unexpected};
 
-/// Takes a name behind its count.
+/// Reads a count of bytes and then a name of as many.
 #[tactic(auto, unfolding(crate::specs::Reading::name_at))]
-pub fn take_name(alloc: Global, cursor: &mut Cursor) -> Result<Name, LineFault>
+pub fn read_name(alloc: Global, cursor: &mut Cursor) -> Result<Name, LineFault>
     ensures { Tries (λ a. a) line_left result cursor.new (name_at cursor.old) }
 {
-    let word = take_word(cursor, Class::Name)?;
+    let word = read_word(cursor, Class::Name)?;
     match Name::read(alloc, word) {
         Ok(name) => Ok(name),
         Err(NameFault::NoMemory) => Err(LineFault::NoMemory),
@@ -25,12 +25,12 @@ pub fn take_name(alloc: Global, cursor: &mut Cursor) -> Result<Name, LineFault>
     }
 }
 
-/// Takes a value behind its count.
+/// Reads a count of bytes and then a value of as many.
 #[tactic(auto, unfolding(crate::specs::Reading::value_at))]
-pub fn take_value(alloc: Global, cursor: &mut Cursor) -> Result<Value, LineFault>
+pub fn read_value(alloc: Global, cursor: &mut Cursor) -> Result<Value, LineFault>
     ensures { Tries (λ a. a) line_left result cursor.new (value_at cursor.old) }
 {
-    let word = take_word(cursor, Class::Value)?;
+    let word = read_word(cursor, Class::Value)?;
     match Value::read(alloc, word) {
         Ok(value) => Ok(value),
         Err(NameFault::NoMemory) => Err(LineFault::NoMemory),
@@ -38,20 +38,20 @@ pub fn take_value(alloc: Global, cursor: &mut Cursor) -> Result<Value, LineFault
     }
 }
 
-/// Takes a word of the class behind its count.
+/// Reads a count of bytes and then a word of the class of as many.
 #[tactic(auto, unfolding(crate::specs::Reading::counted_at))]
-fn take_word<'a>(cursor: &mut Cursor<'a>, class: Class) -> Result<&'a [u8], Unexpected>
+fn read_word<'a>(cursor: &mut Cursor<'a>, class: Class) -> Result<&'a [u8], Unexpected>
     ensures read { Reads (λ w. w.now) (λ e. e.left) result cursor.new (word_at class cursor.old) }
     ensures allowed { IfOk result (λ w. IsWord (has class) (most class) w.now w.now) }
 {
-    let count = usize::from(take_byte(cursor, 1, class.most() as u8)?);
+    let count = usize::from(read_byte(cursor, 1, class.most() as u8)?);
     let rest = cursor.rest();
     check_word(rest, class, count)?;
     cursor.advance(count);
     Ok(&rest[..count])
 }
 
-/// Whether so many bytes of the class stand first.
+/// Whether the first `count` bytes are all of the class. The error names the first that isn't.
 fn check_word(bytes: &[u8], class: Class, count: usize) -> Result<(), Unexpected>
     ensures read { Reads (λ _. take count bytes.now) (λ e. e.left) result (drop count bytes.now) (word_run_at class count bytes.now) }
     ensures enough { IfOk result (λ _. count ≤ length bytes.now) }

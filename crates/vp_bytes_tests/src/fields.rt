@@ -2,11 +2,11 @@
 
 use bytes::{BufMut, BytesMut};
 use std::alloc::Global;
-use vp_base::{CallNo, Name, NoMemory, Owner, RecId, SiteId, TxnId, Value, ViewId};
+use vp_base::{CallNo, CopyOf, Name, NoMemory, Owner, RecId, SiteId, TxnId, Value, ViewId};
 use vp_bytes::{
     put_byte, put_counted, put_maybe_view, put_name, put_numbered, put_owner, put_recs,
-    put_request, put_sites, put_txn, put_u32, put_u64, put_value, put_view, put_writes, take_name,
-    take_recs, take_sites, take_value, take_writes,
+    put_request, put_sites, put_txn, put_u32, put_u64, put_value, put_view, put_writes, read_name,
+    read_recs, read_sites, read_value, read_writes,
 };
 use vp_text::Cursor;
 
@@ -43,7 +43,7 @@ fn put_txns<B: BufMut>(out: &mut B, number: CallNo) -> Result<(), NoMemory> {
     put_request(out, &a_txn(), &a_view(), number)
 }
 
-/// Writes bytes, a name, a value, no sites, sites, records and a write, each behind its count.
+/// Writes bytes, a name, a value, no sites, sites, records and a write, each after its count.
 fn put_lists<B: BufMut>(out: &mut B, name: &Name, value: &Value) -> Result<(), NoMemory> {
     put_counted(out, b"ab")?;
     put_name(out, name)?;
@@ -51,10 +51,10 @@ fn put_lists<B: BufMut>(out: &mut B, name: &Name, value: &Value) -> Result<(), N
     put_sites(out, &[])?;
     put_sites(out, &[SiteId::of(1), SiteId::of(16)])?;
     put_recs(out, &[RecId::new(0), RecId::new(255)])?;
-    put_writes(out, &[(RecId::new(5), value.duplicate())])
+    put_writes(out, &[(RecId::new(5), value.copy_of()?)])
 }
 
-/// Writes one of each field: those that stand alone, and those that stand behind their counts.
+/// Writes one of each field: those without a count, and those after their counts.
 fn put_fields<B: BufMut>(out: &mut B, alloc: Global) -> Result<(), NoMemory> {
     let Some(number) = CallNo::new(9) else {
         return Err(NoMemory);
@@ -84,7 +84,7 @@ fn fields_and_lists_have_their_bytes_in_each_buffer(rt: HostRuntime) {
 
 /// Whether this name is next.
 fn reads_name(alloc: Global, cursor: &mut Cursor, text: &[u8]) -> bool {
-    match take_name(alloc, cursor) {
+    match read_name(alloc, cursor) {
         Ok(name) => name.is(text),
         Err(_fault) => false,
     }
@@ -92,15 +92,15 @@ fn reads_name(alloc: Global, cursor: &mut Cursor, text: &[u8]) -> bool {
 
 /// Whether this value is next.
 fn reads_value(alloc: Global, cursor: &mut Cursor, text: &[u8]) -> bool {
-    match take_value(alloc, cursor) {
+    match read_value(alloc, cursor) {
         Ok(value) => value.is(text),
         Err(_fault) => false,
     }
 }
 
-/// Whether these sites are next, where so few may stand.
+/// Whether these sites are next, where there may be so few.
 fn reads_sites(alloc: Global, cursor: &mut Cursor, few: u8, sites: &[SiteId]) -> bool {
-    match take_sites(alloc, cursor, few) {
+    match read_sites(alloc, cursor, few) {
         Ok(read) => read.as_slice() == sites,
         Err(_fault) => false,
     }
@@ -108,7 +108,7 @@ fn reads_sites(alloc: Global, cursor: &mut Cursor, few: u8, sites: &[SiteId]) ->
 
 /// Whether these records are next.
 fn reads_recs(alloc: Global, cursor: &mut Cursor, recs: &[RecId]) -> bool {
-    match take_recs(alloc, cursor) {
+    match read_recs(alloc, cursor) {
         Ok(read) => read.as_slice() == recs,
         Err(_fault) => false,
     }
@@ -116,7 +116,7 @@ fn reads_recs(alloc: Global, cursor: &mut Cursor, recs: &[RecId]) -> bool {
 
 /// Whether one write is next, of this value to this record.
 fn reads_write(alloc: Global, cursor: &mut Cursor, rec: u8, text: &[u8]) -> bool {
-    match take_writes(alloc, cursor) {
+    match read_writes(alloc, cursor) {
         Ok(writes) => match writes.as_slice() {
             [(at, value)] => at.get() == rec && value.is(text),
             _ => false,

@@ -1,4 +1,4 @@
-//! What is read, and what is refused at its place.
+//! Fields that are read, or refused at a byte.
 
 ghost use Rattle.std.specs.Prelude.{◌≡◌, ◌≤◌, ◌+◌, IfSome};
 ghost use Rattle.vp_base.specs.Identifiers.{IsTxn};
@@ -8,18 +8,18 @@ ghost use Rattle.vp_bytes.specs.Ranges.{last_rank, next_rank};
 use bytes::BytesMut;
 use std::alloc::Global;
 use vp_base::{
-    Decision, Doubt, LineFault, NoMemory, RecId, SiteId, Sites, Stored, TxnId, Value, ViewId,
-    Writes,
+    CopyOf, Decision, Doubt, LineFault, NoMemory, RecId, SiteId, Sites, Stored, TxnId, Value,
+    ViewId, Writes,
 };
 use vp_bytes::{
-    put_copies, put_decisions, put_doubts, take_ascending_txn, take_copies, take_decisions,
-    take_doubts, take_sites, take_txn, take_txn_between, take_u16_within, take_u32_within,
-    take_view,
+    put_copies, put_decisions, put_doubts, read_ascending_txn, read_copies, read_decisions,
+    read_doubts, read_sites, read_txn, read_txn_between, read_u16_within, read_u32_within,
+    read_view,
 };
 use vp_text::{Cursor, Unexpected};
 
-// Rows of cases: the count of a row's bytes, then its answer, and then the bytes. The answer is how many bytes are left at the
-// fault, or, where the field is read, 128 and how many stand behind it. One list of bytes is proved faster than a list of lists.
+// Rows of cases: the count of a row's bytes, then its result, and then the bytes. The result is how many bytes are left at the fault, or,
+// where the field is read, 128 and how many come after it. One list of bytes is proved faster than a list of lists.
 
 const VIEWS: &[u8] = b"\
     \x09\x80\0\0\0\0\0\0\0\0\0\
@@ -142,7 +142,7 @@ const ASCENDING_DOUBTS: &[u8] = b"\
     \x24\x09\0\0\0\0\0\0\0\x02\x02\xff\xff\xff\xff\xff\xff\xff\xff\0\0\0\0\0\0\0\0\0\0\x02\xff\xff\xff\xff\xff\xff\xff\xff\
     \x20\x01\0\0\0\0\0\0\0\x02\x02\xff\xff\xff\xff\xff\xff\xff\xff\0\0\0\0\0\0\0\0\0\0\x03\0\0\0\0";
 
-/// A great count leaves room to its last transaction.
+/// A great count leaves room for its last transaction.
 const MANY_DOUBTS: &[u8] = b"\
     \x09\x01\xff\xff\xff\xff\xff\xff\xff\xff\x10\
     \x09\x00\xff\xff\xff\xff\xff\xff\xff\xff\x0f\
@@ -170,7 +170,7 @@ const SOME_DECISIONS: &[u8] = b"\
     \x09\x01\0\0\0\0\0\0\0\x01\0\
     \x00\x00";
 
-/// What is read.
+/// The field that is read.
 #[derive(Clone, Copy, Drop)]
 enum Field {
     View,
@@ -186,7 +186,7 @@ enum Field {
     Decisions,
 }
 
-/// The fault of what needs no memory.
+/// The fault of a field that needs no memory.
 fn fault<T: Drop>(read: Result<T, Unexpected>) -> Option<LineFault> {
     match read {
         Ok(_value) => None,
@@ -194,7 +194,7 @@ fn fault<T: Drop>(read: Result<T, Unexpected>) -> Option<LineFault> {
     }
 }
 
-/// The fault of what needs memory.
+/// The fault of a field that needs memory.
 fn line_fault<T: Drop>(read: Result<T, LineFault>) -> Option<LineFault> {
     match read {
         Ok(_value) => None,
@@ -217,21 +217,21 @@ fn txn(site: u8, life: u32, seq: u32) -> TxnId
 fn read(alloc: Global, cursor: &mut Cursor, field: Field) -> Option<LineFault> {
     let low = txn(2, 5, 7);
     match field {
-        Field::View => fault(take_view(cursor)),
-        Field::Txn => fault(take_txn(cursor)),
-        Field::U16 => fault(take_u16_within(cursor, 258, 772)),
-        Field::U32 => fault(take_u32_within(cursor, 0x01020304, 0x01030201)),
-        Field::TxnBetweenTwo => fault(take_txn_between(cursor, &low, &txn(4, 1, 3))),
-        Field::TxnBetweenOne => fault(take_txn_between(cursor, &low, &low)),
-        Field::Sites => line_fault(take_sites(alloc, cursor, 0)),
-        Field::SomeSites => line_fault(take_sites(alloc, cursor, 1)),
-        Field::Copies => line_fault(take_copies(alloc, cursor)),
-        Field::Doubts => line_fault(take_doubts(alloc, cursor)),
-        Field::Decisions => line_fault(take_decisions(alloc, cursor)),
+        Field::View => fault(read_view(cursor)),
+        Field::Txn => fault(read_txn(cursor)),
+        Field::U16 => fault(read_u16_within(cursor, 258, 772)),
+        Field::U32 => fault(read_u32_within(cursor, 0x01020304, 0x01030201)),
+        Field::TxnBetweenTwo => fault(read_txn_between(cursor, &low, &txn(4, 1, 3))),
+        Field::TxnBetweenOne => fault(read_txn_between(cursor, &low, &low)),
+        Field::Sites => line_fault(read_sites(alloc, cursor, 0)),
+        Field::SomeSites => line_fault(read_sites(alloc, cursor, 1)),
+        Field::Copies => line_fault(read_copies(alloc, cursor)),
+        Field::Doubts => line_fault(read_doubts(alloc, cursor)),
+        Field::Decisions => line_fault(read_decisions(alloc, cursor)),
     }
 }
 
-/// The answer of a row, if there is memory.
+/// The result of a row, if there is memory.
 fn answer(alloc: Global, field: Field, bytes: &[u8]) -> Option<usize> {
     let mut cursor = Cursor::new(bytes);
     match read(alloc, &mut cursor, field) {
@@ -241,7 +241,7 @@ fn answer(alloc: Global, field: Field, bytes: &[u8]) -> Option<usize> {
     }
 }
 
-/// How many rows have their answer, up to the first that has another one.
+/// How many rows have their result, up to the first that has another one.
 fn rows_answered(alloc: Global, field: Field, rows: &[u8]) -> usize {
     let mut rest = rows;
     for row in 0..rows.len() {
@@ -305,11 +305,11 @@ const DECISIONS: &[u8] =
 /// Writes two copies.
 fn put_two_copies(out: &mut BytesMut, value: &Value) -> Result<(), NoMemory> {
     let first = Stored {
-        value: value.duplicate(),
+        value: value.copy_of()?,
         date: ViewId { number: 1, site: 2 },
     };
     let last = Stored {
-        value: value.duplicate(),
+        value: value.copy_of()?,
         date: ViewId { number: 0, site: 0 },
     };
     put_copies(out, &[(RecId::new(5), first), (RecId::new(255), last)])
@@ -317,7 +317,7 @@ fn put_two_copies(out: &mut BytesMut, value: &Value) -> Result<(), NoMemory> {
 
 /// Writes two transactions in doubt, the first with a write of the value.
 fn put_two_doubts(out: &mut BytesMut, alloc: Global, value: &Value) -> Result<(), NoMemory> {
-    let writes = vec![in alloc; (RecId::new(5), value.duplicate())]?;
+    let writes = vec![in alloc; (RecId::new(5), value.copy_of()?)]?;
     let first = Doubt {
         txn: txn(1, 2, 3),
         view: ViewId { number: 1, site: 2 },
@@ -346,7 +346,7 @@ fn put_two_decisions(out: &mut BytesMut, alloc: Global) -> Result<(), NoMemory> 
     put_decisions(out, &[first, last])
 }
 
-/// What is written of the field: a list with two items, and nothing of a field that is no such list.
+/// The bytes of the field: a list with two items, and nothing for a field that is no such list.
 fn written(alloc: Global, field: Field) -> Result<BytesMut, NoMemory> {
     let Ok(value) = Value::read(alloc, b"11") else {
         return Err(NoMemory);
@@ -383,12 +383,12 @@ fn copies_doubts_and_decisions_have_their_bytes(rt: HostRuntime) {
     assert!(rt; has_bytes(rt.alloc(), Field::Decisions, DECISIONS));
 }
 
-/// How many bytes are left at the fault of a transaction above the last one that so many others can follow.
+/// How many bytes are left at the fault of a transaction that must be above the last one and be followed by so many others.
 fn ascending_left(bytes: &[u8], last: Option<TxnId>, behind: u64) -> Option<usize>
     requires last { IfSome last IsTxn }
     requires room { next_rank last + behind ≤ last_rank }
 {
-    match take_ascending_txn(&mut Cursor::new(bytes), last, behind) {
+    match read_ascending_txn(&mut Cursor::new(bytes), last, behind) {
         Ok(_txn) => None,
         Err(e) => Some(e.left),
     }

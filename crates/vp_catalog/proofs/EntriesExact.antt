@@ -162,7 +162,7 @@ others_from sites above (w ∷ ws) t h e = (
   e ∙ ap (λ (x : List ℕ). x ++ 10 ∷ []) (flat_map-cons weight_text w ws) ∙ append_assoc (weight_text w) (flat_map weight_text ws) (10 ∷ []),
 )
 
--- one or more holders, ascending
+-- at least one holder, ascending
 record Held (sites : List ℕ) (ws : List (ℕ × ℕ)) (t : List ℕ) : Type 0 where
   held : 0 < length ws
   are : AreWeights sites 0 ws
@@ -303,9 +303,9 @@ either_from : (c : Catalogue) (e : Entry) (t : List ℕ) → EntryText c e t →
 either_from c (Site site port) t h = inl (port_from c site port t h)
 either_from c (Record entry) t h = inr (record_from c entry t h)
 
--- ---- where each kind of line may stand
+-- ---- where each kind of line may come
 
--- The lines so far say sites from 1 to 16, and a record only behind a site.
+-- The lines before say sites from 1 to 16, and a record only after a site.
 pub record IsBegun (c : Catalogue) : Type 0 where
   pub sites_are : AllSites (sites_of c)
   pub site_first : 0 < length c.records → 0 < length c.sites
@@ -363,7 +363,7 @@ clear_port last sites = clear_keys (codes "site ") (codes "record ") refl (opens
 clear_record : (last : ℕ) (sites : List ℕ) → IsClear (RecordParts sites) (PortParts last)
 clear_record last sites = clear_keys (codes "record ") (codes "site ") refl (opens_record sites) (opens_port last)
 
--- a site line may come, and perhaps a record line
+-- a site line may come, and perhaps also a record line
 site_exact_at : (c : Catalogue) → IsBegun c → may_add_site c ≡ true → (b : Bool) → may_add_record c ≡ b
     → Exact (EntryText c) (λ bytes. cond b (either (port_at (last_site c) bytes) (record_at (sites_of c) bytes)) (port_at (last_site c) bytes))
 site_exact_at c b on true more =

@@ -1,4 +1,4 @@
--- The loop over the holders of a record line: what each turn takes, and what is still read.
+-- The loop over the holders of a record line: what each turn reads, and what is still to be read.
 use Rattle.std.specs.Prelude.{IfSome}
 use Rattle.std.proofs.Common.{◌≡◌, ℕ, zero, suc, ◌<◌, ◌≤◌, Bool, true, false, cond, List, [], ◌∷◌, ◌++◌, length, min, ◌+◌, Option, Some, None, Result, Ok, Err, refl, sym, ap, ◌∙◌, arith}
 use Rattle.std.proofs.lemmas.List.{length-append}
@@ -11,7 +11,7 @@ use Rattle.vp_base.specs.Reading.{place_step, place_of, among_at}
 use Rattle.vp_catalog.specs.Sites.{site_texts, site_of_place, site_at}
 use Rattle.vp_catalog.specs.EntryReading.{some_above, weight_at, others_at, weights_at}
 
--- ---- a holder takes bytes
+-- ---- a holder has at least one byte
 
 ended_keeps : {A : Type 0} (o : Option A) (bytes : List ℕ) (a : A) (rest : List ℕ) → ended o bytes ≡ Ok (a, rest) → length rest ≤ length bytes
 ended_keeps (Some b) bytes a rest e =
@@ -45,7 +45,7 @@ number_keeps bytes n e =
     let p = (number_exact 1 65535 (omega arith) (omega arith)).ok bytes n.0 n.1 e in
     omega (arith, ap length p.parts, length-append p.text n.1)
 
--- what is read from the weight, the colon and the site on
+-- what is read from the weight on, from the colon on, and from the site on
 abbrev Holder : Type 0
 Holder = Result ((ℕ × ℕ) × List ℕ) ℕ
 
@@ -110,7 +110,7 @@ pub weights_fail : (sites bytes : List ℕ) (left : ℕ) → weight_at sites 0 b
 unfolding weights_at
 weights_fail sites bytes left e = rw e refl
 
--- what is still read after a turn, where so much may be left
+-- what is still to be read after a turn, where at most that many bytes are left
 abbrev pub Left : List ℕ → List (ℕ × ℕ) → ℕ → List ℕ → Result (List (ℕ × ℕ) × List ℕ) ℕ → Type 0
 Left sites front above bytes total = (n : ℕ) × (length bytes ≤ n) × (with_front front (others_at sites (suc n) above bytes) ≡ total)
 
@@ -122,7 +122,7 @@ weights_go sites front above bytes w rest total h l = go l.0 l.1 l.2
     go zero le so_far = absurd (omega (arith, le, next_shorter sites above bytes w rest h))
     go (suc n) le so_far = (n, omega (arith, le, next_shorter sites above bytes w rest h), items_go (some_above sites) (λ above weight. weight.0) (weight_at sites) (10 ∷ []) front (suc n) above bytes w rest total h so_far)
 
--- a holder that was read and is not yet kept, and what is read behind it; or the end
+-- a holder that was read and is not kept yet, and what is read after it; or the end
 abbrev pub Stands : List ℕ → List (ℕ × ℕ) → Option (ℕ × ℕ) → List ℕ → Result (List (ℕ × ℕ) × List ℕ) ℕ → Type 0
 Stands sites front (Some w) bytes total = Left sites (front ++ w ∷ []) w.0 bytes total × (length front < w.0)
 Stands sites front None bytes total = (total ≡ Ok (front, bytes)) × (length front ≤ 16)
@@ -132,7 +132,7 @@ pub stands_next : (sites : List ℕ) (front : List (ℕ × ℕ)) (above : ℕ) (
 stands_next sites front above bytes (Some w) rest total h higher l few most = (weights_go sites front above bytes w rest total h l, omega (arith, higher))
 stands_next sites front above bytes None rest total h higher l few most = (items_end (some_above sites) (λ above weight. weight.0) (weight_at sites) (10 ∷ []) front l.0 above bytes rest total h l.2, omega arith)
 
--- how much is left to read, where a holder may follow
+-- how much is left to read, where another holder may follow
 abbrev pub to_read : Option (ℕ × ℕ) → List ℕ → ℕ
 to_read (Some w) bytes = suc (length bytes)
 to_read None bytes = 0

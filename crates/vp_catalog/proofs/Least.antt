@@ -12,7 +12,7 @@ module _ {X : Type 0} (test : X → Bool) where
       go true q rest = rw q refl
       go false q rest = rw q rest
 
--- Of no members none is kept.
+-- Where there are no members, none is kept.
 pub none_kept : {X : Type 0} (xs : List X) → filter (λ _. false) xs ≡ []
 none_kept [] = refl
 none_kept (x ∷ xs) = none_kept xs

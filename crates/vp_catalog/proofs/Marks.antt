@@ -1,4 +1,4 @@
--- A table that says by its number whether a site is kept, and a list of the sites that are kept.
+-- A table that says by the number of a site whether it is kept, and the list of the sites that are kept.
 use Rattle.std.proofs.Common.{◌≡◌, ◌∙◌, ℕ, ◌+◌, ◌<◌, Bool, true, false, eqb, ◌||◌, ◌&&◌, not, List, [], ◌∷◌, ◌++◌, length, take, get_or, filter, cond, sym, ap, inl, inr}
 use Rattle.std.proofs.Math.Bool.{or-true, or-false, and-true, and-false}
 use Rattle.std.proofs.Math.ListN.{set}
@@ -27,7 +27,7 @@ unmarked marks site q b inside before =
     ]
 
 module _ (p : ℕ → Bool) (sites : List ℕ) (i site : ℕ) (inside : i < length sites) (here : site ≡ get_or sites i site) where
-  -- what one more site gives
+  -- what one more site adds
   more : (b : Bool) → p site ≡ b → filter p (take (i + 1) sites) ≡ filter p (take i sites) ++ cond b (site ∷ []) []
   more b e = filter_more p sites i site inside ∙ ap (λ x. filter p (take i sites) ++ cond (p x) (x ∷ []) []) (sym here) ∙ ap (λ (b : Bool). filter p (take i sites) ++ cond b (site ∷ []) []) e
 

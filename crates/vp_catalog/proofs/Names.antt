@@ -1,4 +1,4 @@
--- The bytes of the records' names, which stand in a set beside the records, each at the place of its record.
+-- The bytes of the records' names, which are in a set, each at the place of its record.
 use Rattle.std.proofs.Common.{◌≡◌, ◌∙◌, ℕ, ◌+◌, Bool, List, [], ◌∷◌, ◌++◌, map, cond, Some, refl, sym, ap, false, ◌||◌}
 use Rattle.std.specs.Prelude.{position}
 use Rattle.std.specs.List.{AllZip, list_any, position_from}
@@ -36,16 +36,16 @@ module _ {K : Type 0} (bytes : K → List ℕ) (name : List ℕ) (keys : List K)
   turned : (entry : RecordEntry) → is_named name entry ≡ bytes_eq name entry.name
   turned entry = nat_list_eq_equiv.symm entry.name name
 
-  -- a name has the place of its bytes
+  -- a name has the same place as its bytes
   pub name_place : position (λ k. bytes_eq name (bytes k)) keys ≡ position_from (is_named name) 0 records
   name_place = position_from-zero (λ k. bytes_eq name (bytes k)) keys ∙ place_read bytes _ (bytes_eq name) (λ k. refl) 0 keys ∙ ap (position_from (bytes_eq name) 0) listed ∙ sym (place_read entry_name (is_named name) (bytes_eq name) turned 0 records)
 
-  -- a name stands in the catalogue where its bytes stand in the set
+  -- a name is in the catalogue exactly where its bytes are in the set
   pub name_known : list_any (λ k. bytes_eq name (bytes k)) keys ≡ list_any (is_named name) records
   name_known = any_read bytes _ (bytes_eq name) (λ k. refl) keys ∙ ap (list_any (bytes_eq name)) listed ∙ sym (any_read entry_name (is_named name) (bytes_eq name) turned records)
 
 module _ {K : Type 0} (bytes : K → List ℕ) (keys : List K) (records : List RecordEntry) (listed : map bytes keys ≡ map entry_name records) where
-  -- a new record's name is put behind the others
+  -- a new record's name is appended to the others
   pub name_added : (key : K) (entry : RecordEntry) → bytes key ≡ entry.name → list_any (is_named entry.name) records ≡ false → map bytes (insert_key (λ x y. bytes_eq (bytes x) (bytes y)) keys key) ≡ map entry_name (records ++ entry ∷ [])
   name_added key entry read fresh =
       let absent : list_any (λ k. bytes_eq (bytes key) (bytes k)) keys ≡ false = rw read (name_known bytes entry.name keys records listed ∙ fresh) in

@@ -1,4 +1,4 @@
--- Each line of a catalogue has one newline, at its end, so none begins another.
+-- Each line of a catalogue has one newline, at its end, so no line begins another.
 use Rattle.std.proofs.Common.{ℕ, List, [], ◌∷◌, ◌++◌, refl, sym, ap, subst, ◌∙◌, arith, append_assoc}
 use Rattle.std.specs.Prelude.{codes, flat_map}
 use Rattle.std.specs.Fmt.{decimal}

@@ -1,4 +1,4 @@
--- Of a text one answer is right, but for want of memory.
+-- Only one result is right for a text, apart from want of memory.
 use Rattle.std.proofs.Common.{◌≡◌, ℕ, ◌<◌, List, [], ◌∷◌, length, Result, Ok, Err, refl, sym, ap, subst, ◌∙◌, arith}
 use Rattle.std.proofs.lemmas.Bool.{false≢true}
 use Rattle.vp_text.specs.Documents.{IsFaultyLine}
@@ -73,7 +73,7 @@ twice_many text l m f g =
     let here : Repeats (all_said g.lines) g.entry = subst (λ (es : List Entry). Repeats (all_said es) g.entry) same.lines (subst (Repeats (all_said f.lines)) same.entry f.fault) in
     not_both (all_said g.lines) g.entry here g.fault
 
--- ---- two answers
+-- ---- two results
 
 bad_same_answer : (l m i k : ℕ) → (l ≡ m) × (i ≡ k) → let x : Result Catalogue CatalogFault = Err (faults.BadLine l i) in let y : Result Catalogue CatalogFault = Err (faults.BadLine m k) in x ≡ y
 bad_same_answer l m i k e = rw (e.0, e.1) refl

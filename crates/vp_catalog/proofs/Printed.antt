@@ -1,4 +1,4 @@
--- What a printer leaves that puts down one part behind another.
+-- What a printer leaves that appends one part after another.
 use Rattle.std.proofs.Common.{◌≡◌, ℕ, true, List, [], ◌∷◌, ◌++◌, ◌+◌, ◌<◌, ◌≤◌, length, get_or, take, sym, ap, subst, ◌∙◌, append_assoc}
 use Rattle.std.specs.Prelude.{⊤, Result, Ok, Err, IsErr, codes, flat_map}
 use Rattle.std.specs.Fmt.{decimal}
@@ -16,7 +16,7 @@ none_of result old text new err same = begun_err result old text new err (begun_
 pub within : {E : Type 0} (result : Result ⊤ E) (old first more new : List ℕ) → IsErr result → is_begun old first new ≡ true → Appends result old (first ++ more) new
 within result old first more new err begun = begun_err result old (first ++ more) new err (begun_first old first more new begun)
 
--- one text behind another
+-- one text after another
 pub joined : (old first more mid new : List ℕ) → mid ≡ old ++ first → new ≡ mid ++ more → new ≡ old ++ (first ++ more)
 joined old first more mid new e whole = whole ∙ ap (λ (t : List ℕ). t ++ more) e ∙ append_assoc old first more
 
@@ -25,7 +25,7 @@ behind (Ok x) old first more mid new e a =
     record { whole = joined old first more mid new e a.whole; begun = begun_then old first more new (subst (λ (t : List ℕ). is_begun t more new ≡ true) e a.begun) }
 behind (Err x) old first more mid new e a = record { whole = a.whole; begun = begun_then old first more new (subst (λ (t : List ℕ). is_begun t more new ≡ true) e a.begun) }
 
--- the texts of a list's items in turn: one more of them, after an error a beginning of one more, and all
+-- the texts of a list's items, one after another: one more of them, after an error a beginning of one more, and all
 module _ {X : Type 0} (f : X → List ℕ) (xs : List X) (i : ℕ) where
   pub item_behind : (x : X) (old mid new : List ℕ) → i < length xs → x ≡ get_or xs i x → mid ≡ old ++ flat_map f (take i xs) → new ≡ mid ++ f x → new ≡ old ++ flat_map f (take (i + 1) xs)
   item_behind x old mid new lt is before e =

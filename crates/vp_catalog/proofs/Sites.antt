@@ -1,4 +1,4 @@
--- A site of a list is read exactly, and its number goes on with digits alone.
+-- A site of a list is read exactly, and its number goes on only with digits.
 use Rattle.std.proofs.Common.{◌≡◌, ◌≢◌, ℕ, ◌+◌, ◌/◌, ◌%◌, zero, suc, ◌<◌, ◌≤◌, Bool, true, false, cond, ltb, eqb, ◌⊎◌, List, [], ◌∷◌, ◌++◌, get_or, map, Option, Some, None, Ok, Err, refl, sym, ap, subst, ◌∙◌, arith, inl, inr}
 use Rattle.std.specs.Prelude.{option_map}
 use Rattle.std.specs.List.{AllByRecursion}
@@ -16,7 +16,7 @@ use Rattle.vp_base.proofs.Among.{among_exact}
 use Rattle.vp_model.specs.Words.{has}
 use Rattle.vp_catalog.specs.Sites.{AllSites, IsSiteIn, sites_above, site_texts, site_of_place, site_named, site_at}
 
--- ---- the reader's answers
+-- ---- the reader's results
 
 named_place : (o : Option ℕ) (f : ℕ → ℕ) (site : ℕ) → Some site ≡ option_map f o → (i : ℕ) × (Some i ≡ o) × (f i ≡ site)
 named_place None f site e = absurd cc
@@ -40,7 +40,7 @@ pub site_lost : (sites : List ℕ) (above : ℕ) (bytes : List ℕ) (left : ℕ)
 unfolding site_at
 site_lost sites above bytes left e = rw e refl
 
--- ---- what stands in a list
+-- ---- what is in a list
 
 pub has_cons : (x s : ℕ) (xs : List ℕ) → has (x ∷ xs) s ≡ true → (x ≡ s) ⊎ (has xs s ≡ true)
 has_cons x s xs h = elim (or_cases (eqb x s) (has xs s) h) [ inl e ↦ inl (eqb-true x s e) | inr e ↦ inr e ]

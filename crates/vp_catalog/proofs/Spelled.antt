@@ -1,4 +1,4 @@
--- The text of a catalogue is that of its lines.
+-- The text of a catalogue is the text of its lines.
 use Rattle.std.proofs.Common.{◌≡◌, ℕ, ◌≤◌, ◌<◌, List, [], ◌∷◌, ◌++◌, length, map, refl, sym, ap, subst, ◌∙◌, append_assoc, arith, Bool, false}
 use Rattle.std.specs.Prelude.{flat_map, nat_eq}
 use Rattle.std.specs.List.{list_any, AllByRecursion, IsDistinct}
@@ -15,7 +15,7 @@ use Rattle.vp_catalog.specs.Entries.{IsSite, IsRecord, last_from, last_site, aft
 use Rattle.vp_catalog.specs.Document.{AreSites, IsCatalogue}
 use Rattle.vp_catalog.proofs.Steps.{Lines, all_said, last_from-push}
 
--- some lines with this text, which say this
+-- some lines with this text, which say this catalogue
 pub record Spelled (c : Catalogue) (text : List ℕ) : Type 0 where
   pub lines : List Entry
   pub lines_are : Lines lines text

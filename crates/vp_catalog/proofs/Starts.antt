@@ -1,4 +1,4 @@
--- The copies of a site as they start, one record further.
+-- The copies that a site starts with, one record more.
 use Rattle.std.proofs.Common.{◌≡◌, ◌∙◌, ℕ, ◌+◌, ◌<◌, true, false, List, [], ◌∷◌, ◌++◌, length, get_or, drop, sym, ap, append_assoc}
 use Rattle.std.proofs.lemmas.List.{drop_more}
 use Rattle.vp_model.specs.Types.{Stored}

@@ -32,7 +32,7 @@ all_said = reached nothing after EntryText Onward
 abbrev pub Lines : List Entry → List ℕ → Type 0
 Lines = LinesText nothing after EntryText Onward
 
--- where the reading stands
+-- the place that the reading has reached
 abbrev pub Stands : List ℕ → List ℕ → Catalogue → ℕ → Type 0
 Stands = SoFar nothing after EntryText Onward entry_at
 
@@ -50,7 +50,7 @@ or_none : (x y : Bool) → (x || y) ≡ false → (x ≡ false) × (y ≡ false)
 or_none false y e = (refl, e)
 or_none true y e = absurd (false≢true (sym e))
 
--- no key is the last one's, and the others differ
+-- no key is that of the last one, and the others differ
 distinct_push : {X K : Type 0} (key : X → K) (same : K → K → Bool) (xs : List X) (x : X) → IsDistinct same (map key xs) → list_any (λ y. same (key y) (key x)) xs ≡ false → IsDistinct same (map key (xs ++ x ∷ []))
 unfolding IsDistinct
 distinct_push key same [] x h e = (tt, tt)
@@ -152,7 +152,7 @@ pub stands_more : (text rest new : List ℕ) (c d : Catalogue) (e : Entry) (line
 stands_more text rest new c d e line s read n =
     subst (λ (d : Catalogue). Stands text new d (line + 1)) (sym n.0) (so_far_more nothing after EntryText Onward entry_at text rest new c line e (readable (length text)) s read n.1)
 
--- a line says a site, or stands behind one
+-- a line says a site, or comes after one that does
 some_sites : (e : Entry) (es : List Entry) (t : List ℕ) → Lines (e ∷ es) t → 0 < length (all_said (e ∷ es)).sites
 some_sites (kind.Site site port) es t h = omega (arith, length-append (all_said es).sites ((site, port) ∷ []))
 some_sites (kind.Record entry) es t h = held_at (all_said es).sites entry.weights h.3.record_is.held h.3.record_is.weights_are
@@ -187,7 +187,7 @@ bad_here text rest c line left s on read =
       owed = λ none. no_lines s.lines s.front s.lines_are (ap (λ (c : Catalogue). length c.sites) s.state_is ∙ owed_is rest c on none);
     }
 
--- ---- what is answered
+-- ---- what is returned
 
 pub answered_next : (text rest new : List ℕ) (c : Catalogue) (line : ℕ) (e : CatalogFault) → Stands text rest c line → is_owed rest c ≡ true → NextEntry c line rest new (Err e) → Answered text (Err e)
 answered_next text rest new c line (faults.BadLine l at) s on n =

@@ -1,4 +1,4 @@
--- What comes of adding a line to a catalogue.
+-- The result of adding a line to a catalogue.
 use Rattle.std.specs.Prelude.{◌≡◌, ⊤, ℕ, List, Result, Ok, Err}
 use Rattle.vp_model.specs.Catalogue.{Catalogue}
 use Rattle.vp_catalog.specs.declared.entry.Entry.{Entry}
@@ -6,7 +6,7 @@ use Rattle.vp_catalog.specs.declared.fault.CatalogFault.{CatalogFault}
 use Rattle.vp_catalog.specs.declared.fault.CatalogFault.TheVariants as faults
 use Rattle.vp_catalog.specs.Entries.{EntryText, after, Onward, Repeats, Overfills}
 
--- The line is allowed where the lines before it say so much.
+-- The lines before it allow the line.
 abbrev pub IsAllowed : Catalogue → Entry → Type 0
 IsAllowed c entry = (text : List ℕ) × EntryText c entry text
 

@@ -1,4 +1,4 @@
--- What a catalogue is, its text, and the places of faults.
+-- Catalogues, their texts, and the places of faults.
 use Rattle.std.specs.Prelude.{◌≡◌, ◌≢◌, ⊤, ℕ, ◌+◌, ◌-◌, ◌≤◌, ◌<◌, List, [], ◌∷◌, length, map, Bool, ◌||◌, nat_eq, nat_lt, nat_le, Result, Ok, Err}
 use Rattle.std.specs.List.{AllByRecursion, IsDistinct}
 use Rattle.std.specs.Str.{bytes_eq}
@@ -16,7 +16,8 @@ abbrev pub AreSites : ℕ → List (ℕ × ℕ) → Type 0
 AreSites above [] = ⊤
 AreSites above (s ∷ ss) = IsSite above s × AreSites s.0 ss
 
--- What lines of a catalogue say so far: sites, maybe none, and at most 256 records with copies at them; no port and no name stands twice.
+-- What the first lines of a catalogue say: sites, perhaps none, and at most 256 records with copies at them; no port and no name is
+-- there twice.
 pub record IsCatalogueSoFar (c : Catalogue) : Type 0 where
   pub sites_are : AreSites 0 c.sites
   pub ports_differ : IsDistinct nat_eq (map (λ s. s.1) c.sites)
@@ -24,14 +25,14 @@ pub record IsCatalogueSoFar (c : Catalogue) : Type 0 where
   pub names_differ : IsDistinct bytes_eq (map (λ entry. entry.name) c.records)
   pub few : length c.records ≤ 256
 
--- That, with one or more sites.
+-- The same, with at least one site.
 pub record IsCatalogue (c : Catalogue) : Type 0 where
   pub some : 0 < length c.sites
   pub so_far : IsCatalogueSoFar c
 
--- ---- what is answered of a text
+-- ---- what is returned for a text
 
--- No allowed line stands there, and a line has to: more bytes do, or no line stands before.
+-- The next line is not an allowed one though a line has to come: there are more bytes, or no line before.
 pub record IsBadEntry (text : List ℕ) (line at : ℕ) : Type 0 where
   pub bad : IsBadLine nothing after EntryText Onward text line at
   pub owed : length bad.rest ≡ 0 → length bad.lines ≡ 0
@@ -43,14 +44,14 @@ Answered text (Err (faults.Twice line)) = IsFaultyLine nothing after EntryText O
 Answered text (Err (faults.TooMany line limit)) = (limit ≡ 256) × IsFaultyLine nothing after EntryText Onward Overfills text line
 Answered text (Err faults.NoMemory) = ⊤
 
--- Nothing else can be answered of the text, but for want of memory.
+-- Only one result is possible for a text, apart from want of memory.
 abbrev pub IsOnly : List ℕ → Result Catalogue CatalogFault → Type 0
 IsOnly text result =
     (other : Result Catalogue CatalogFault) → Answered text other → result ≢ Err faults.NoMemory → other ≢ Err faults.NoMemory → other ≡ result
 
 -- ---- the steps of the reader
 
--- the next line was read, or this is its place in the text
+-- the next line was read, or its fault is at this place in the text
 abbrev pub NextEntry : Catalogue → ℕ → List ℕ → List ℕ → Result Entry CatalogFault → Type 0
 NextEntry c number old new (Ok entry) = entry_at c old ≡ Ok (entry, new)
 NextEntry c number old new (Err (faults.BadLine line at)) = (line ≡ number) × (left : ℕ) × (entry_at c old ≡ Err left) × (at ≡ length old - left + 1)

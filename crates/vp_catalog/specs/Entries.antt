@@ -1,4 +1,4 @@
--- The lines of a catalogue, each allowed after the lines before it, which say a part of the catalogue.
+-- The lines of a catalogue, each allowed by the lines before it, which say a part of the catalogue.
 use Rattle.std.specs.Prelude.{◌≡◌, ◌++◌, ◌∷◌, [], ⊤, ℕ, ◌≤◌, ◌<◌, List, Bool, true, false, length, nat_le, ◌==◌}
 use Rattle.std.specs.List.{list_any}
 use Rattle.std.specs.Str.{bytes_eq}
@@ -30,7 +30,7 @@ abbrev pub AreWeights : List ℕ → ℕ → List (ℕ × ℕ) → Type 0
 AreWeights sites above [] = ⊤
 AreWeights sites above (w ∷ ws) = IsWeight sites above w × AreWeights sites w.0 ws
 
--- a record with one or more holders
+-- a record with at least one holder
 pub record IsRecord (sites : List ℕ) (entry : RecordEntry) : Type 0 where
   pub name_is : IsName entry.name entry.name
   pub start_is : IsValue entry.start entry.start
@@ -47,7 +47,7 @@ last_from above (s ∷ ss) = last_from s.0 ss
 abbrev pub last_site : Catalogue → ℕ
 last_site c = last_from 0 c.sites
 
--- Site lines stand before the record lines.
+-- Site lines come before record lines.
 pub record SiteText (c : Catalogue) (site : ℕ × ℕ) (text : List ℕ) : Type 0 where
   pub first : length c.records ≡ 0
   pub site_is : IsSite (last_site c) site
@@ -57,12 +57,12 @@ pub record RecordText (c : Catalogue) (entry : RecordEntry) (text : List ℕ) : 
   pub record_is : IsRecord (sites_of c) entry
   pub is : text ≡ record_line entry
 
--- The line is allowed where the lines before it say so much, and this is its text.
+-- The lines before it allow the line, and this is its text.
 abbrev pub EntryText : Catalogue → Entry → List ℕ → Type 0
 EntryText c (kind.Site site port) text = SiteText c (site, port) text
 EntryText c (kind.Record entry) text = RecordText c entry text
 
--- ---- from line to line
+-- ---- from one line to the next
 
 abbrev pub nothing : Catalogue
 nothing = record { sites = []; records = [] }
@@ -80,7 +80,7 @@ has_name c name = list_any (λ entry. bytes_eq entry.name name) c.records
 abbrev pub is_full : Catalogue → Bool
 is_full c = nat_le 256 (length c.records)
 
--- The line may be followed: it repeats no port and no name, and has room among 256 records.
+-- Another line may follow: this one repeats no port and no name, and is not one record too many.
 abbrev pub Onward : Catalogue → Entry → Type 0
 Onward c (kind.Site site port) = has_port c port ≡ false
 Onward c (kind.Record entry) = (is_full c ≡ false) × (has_name c entry.name ≡ false)
@@ -90,7 +90,7 @@ abbrev pub Repeats : Catalogue → Entry → Type 0
 Repeats c (kind.Site site port) = has_port c port ≡ true
 Repeats c (kind.Record entry) = (is_full c ≡ false) × (has_name c entry.name ≡ true)
 
--- It is a record line behind 256 records.
+-- It is a record line after 256 records.
 abbrev pub Overfills : Catalogue → Entry → Type 0
 Overfills c (kind.Site site port) = ⊥
 Overfills c (kind.Record entry) = is_full c ≡ true

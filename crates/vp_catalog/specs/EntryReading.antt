@@ -12,7 +12,7 @@ use Rattle.vp_catalog.specs.Entries.{last_site}
 
 -- ---- holders
 
--- a holder may come behind the given one
+-- a holder above the given one may come
 abbrev pub some_above : List ℕ → ℕ → Bool
 some_above sites above = list_any (λ s. nat_lt above s) sites
 
@@ -24,7 +24,7 @@ weight_at sites above bytes = do
   weight ← number_at 1 65535 colon.1
   Ok ((site.0, weight.0), weight.1)
 
--- the holders behind the given one, and the newline
+-- the holders after the given one, and the newline
 abbrev pub others_at : List ℕ → ℕ → ℕ → List ℕ → Result (List (ℕ × ℕ) × List ℕ) ℕ
 others_at sites fuel above bytes = items_at (some_above sites) (λ above weight. weight.0) (weight_at sites) (10 ∷ []) fuel above bytes
 

@@ -1,4 +1,4 @@
--- The number of a site that stands in a list.
+-- The number of a site in a list.
 use Rattle.std.specs.Prelude.{◌≡◌, ℕ, ◌≤◌, ◌<◌, List, true, map, filter, nat_lt, slice_index_or, Option, option_map, Result, Ok}
 use Rattle.std.specs.List.{AllByRecursion}
 use Rattle.std.specs.Fmt.{decimal}

@@ -20,8 +20,8 @@ use vp_base::{
     ViewId,
 };
 
-/// Sites with their ports, ascending by site, and at most 256 records, which are known by their places. The bytes of the
-/// records' names stand in a set beside them, each at the place of its record.
+/// Sites with their ports, ascending by site, and at most 256 records, known by their places. The bytes of the records' names are
+/// in a separate set, each at the place of its record.
 pub struct Catalog {
     sites: Sites,
     ports: Vec<(SiteId, u16)>,
@@ -66,7 +66,7 @@ impl CopyOf for Catalog {
 }
 
 impl Catalog {
-    /// A catalogue without sites and records, which takes no memory.
+    /// Makes a catalogue without sites and records. Takes no memory.
     pub fn new(alloc: Global) -> Catalog
         ensures { result ≡ record { sites = []; records = [] } }
     {
@@ -78,7 +78,7 @@ impl Catalog {
         }
     }
 
-    /// Puts a site behind the last one. Without memory the catalogue is as it was.
+    /// Appends a site. Where memory is lacking, the catalogue stays as it is.
     fn add_site(&mut self, site: SiteId, port: u16) -> Result<(), NoMemory>
         requires first { length self.old.records ≡ 0 }
         requires allowed { IsSite (last_site self.old) (site, port) }
@@ -91,7 +91,7 @@ impl Catalog {
         Ok(())
     }
 
-    /// Puts a record behind the last one. Without memory the catalogue is as it was.
+    /// Appends a record. Where memory is lacking, the catalogue stays as it is.
     fn add_record(&mut self, placed: Placed) -> Result<(), NoMemory>
         requires room { length self.old.records < 256 }
         requires allowed { IsRecord (sites_of self.old) placed }
@@ -105,8 +105,8 @@ impl Catalog {
         Ok(())
     }
 
-    /// Adds what the line of this number says. A record line behind 256 records is too many, and a port or a name that stands
-    /// already is there twice. After an `Err` the catalogue is as it was.
+    /// Adds what the line of this number says. The error is `TooMany` for a record line after 256 records, and `Twice` for a port
+    /// or a name that is there already. After an `Err` the catalogue is as it was.
     pub fn add(&mut self, entry: Entry, line: usize) -> Result<(), CatalogFault>
         requires { IsAllowed self.old entry }
         ensures { Adds self.old entry line self.new result }
@@ -160,7 +160,7 @@ impl Catalog {
         &self.sites
     }
 
-    /// The last site, by its number; 0 where there is none.
+    /// The number of the last site; 0 where there is none.
     pub fn last_site(&self) -> u8
         ensures last { result ≡ last_site self.now }
         ensures fits { result ≤ 16 }
@@ -178,21 +178,21 @@ impl Catalog {
         &self.ports
     }
 
-    /// The records, in their order.
+    /// The records, each at its place.
     pub fn records(&self) -> &[Placed]
         ensures { result.now ≡ self.now.records }
     {
         &self.records
     }
 
-    /// The port of a site; none where the catalogue lacks the site.
+    /// The port of a site, or `None` where the catalogue lacks the site.
     pub fn port(&self, site: SiteId) -> Option<u16>
         ensures { result ≡ value_at site self.now.sites }
     {
         number_of(&self.ports, site)
     }
 
-    /// How many records there are, 256 at most.
+    /// How many records there are; at most 256.
     pub fn count(&self) -> usize
         ensures count { result ≡ length self.now.records }
         ensures most { result ≤ 256 }
@@ -200,7 +200,7 @@ impl Catalog {
         self.records.len()
     }
 
-    /// The place of a name; none where the catalogue lacks it.
+    /// The place of the record with this name, or `None` where there is none.
     pub fn find(&self, name: &Name) -> Option<RecId>
         ensures { result ≡ find_record self.now name.now }
     {
@@ -216,7 +216,7 @@ impl Catalog {
         self.records.get(usize::from(rec.get()))
     }
 
-    /// The name of a record; none where its place is not below the count.
+    /// The name of a record, or `None` where its place is not below the count.
     pub fn name(&self, rec: RecId) -> Option<&Name>
         ensures { option_copied result ≡ option_map (λ entry. entry.name) (slice_get self.now.records rec) }
     {
@@ -226,7 +226,7 @@ impl Catalog {
         }
     }
 
-    /// The value that each copy starts with; none where the place is not below the count.
+    /// The value that each copy of a record starts with, or `None` where its place is not below the count.
     pub fn start(&self, rec: RecId) -> Option<&Value>
         ensures { option_copied result ≡ option_map (λ entry. entry.start) (slice_get self.now.records rec) }
     {
@@ -236,7 +236,7 @@ impl Catalog {
         }
     }
 
-    /// The sites with a copy, ascending; none where the place is not below the count.
+    /// The sites with a copy of the record, ascending, or `None` where its place is not below the count.
     pub fn holders(&self, rec: RecId) -> Option<&Sites>
         ensures { option_copied result ≡ option_map (λ entry. keys entry.weights) (slice_get self.now.records rec) }
     {
@@ -256,7 +256,7 @@ impl Catalog {
         }
     }
 
-    /// The holders of the record that are members of the view, but for this site; none where there is no view.
+    /// The holders of the record that are members of the view, except this site; none where there is no view.
     pub fn other_holders(
         &self,
         id: SiteId,
@@ -275,7 +275,7 @@ impl Catalog {
         }
     }
 
-    /// The least of the other holders of the record in the view; none where there is no view.
+    /// The lowest of the other holders of the record in the view, or `None` where there is none or no view.
     #[tactic(auto, using(crate::proofs::Least::first_kept))]
     pub fn least_other_holder(&self, id: SiteId, held: Option<&View>, rec: RecId) -> Option<SiteId>
         ensures { result ≡ first (other_holders_in self.now id (option_copied held.entry) rec) }
@@ -286,7 +286,7 @@ impl Catalog {
         }
     }
 
-    /// The weight of the copy at a site, 0 where it has none.
+    /// The weight of the record's copy at a site; 0 where it has none.
     pub fn weight(&self, rec: RecId, site: SiteId) -> u32
         ensures { result ≡ weight self.now rec site }
     {
@@ -296,7 +296,7 @@ impl Catalog {
         }
     }
 
-    /// The weight of the copies at the members.
+    /// The weight of the record's copies at the members.
     pub fn inside(&self, rec: RecId, members: &Sites) -> u32
         ensures { result ≡ inside self.now rec members.now }
     {
@@ -306,7 +306,7 @@ impl Catalog {
         }
     }
 
-    /// The weight of all copies.
+    /// The weight of all copies of the record.
     pub fn total(&self, rec: RecId) -> u32
         ensures { result ≡ total self.now rec }
     {
@@ -316,14 +316,14 @@ impl Catalog {
         }
     }
 
-    /// Whether more than half of the weight of the copies is at the members.
+    /// Whether more than half of the weight of the record's copies is at the members. (El Abbadi, Skeen and Cristian 1985.)
     pub fn accessible(&self, rec: RecId, members: &Sites) -> bool
         ensures { result ≡ accessible self.now rec members.now }
     {
         u64::from(self.total(rec)) < 2 * u64::from(self.inside(rec, members))
     }
 
-    /// The names of the records, in their order.
+    /// Copies the names of the records, in their order.
     pub fn names(&self) -> Result<Names, NoMemory>
         ensures { IfOk result (λ names. names ≡ map (λ entry. entry.name) self.now.records) }
     {
@@ -334,7 +334,7 @@ impl Catalog {
         Ok(names)
     }
 
-    /// The values that the records start with, in their order.
+    /// Copies the values that the records start with, in their order.
     pub fn start_values(&self) -> Result<Vec<Value>, NoMemory>
         ensures { IfOk result (λ values. values.items ≡ start_values self.now) }
     {
@@ -345,7 +345,7 @@ impl Catalog {
         Ok(values)
     }
 
-    /// The copies of a site as they start: the catalogue's values, dated with the opening view.
+    /// Makes the copies that a site starts with: the catalogue's values, with the opening view as their date.
     pub fn copies(&self, site: SiteId) -> Result<Copies, NoMemory>
         ensures { IfOk result (λ copies. copies ≡ start_copies self.now site) }
     {
@@ -354,7 +354,7 @@ impl Catalog {
     }
 }
 
-/// The members of the view; `none` where there is no view.
+/// The members of the view, or the list `none` where there is no view.
 pub fn members_of<'a>(held: Option<&'a View>, none: &'a Sites) -> &'a Sites
     requires { none.now ≡ [] }
     ensures { result.now ≡ members_in (option_copied held.entry) }
@@ -375,7 +375,7 @@ fn copy_records(alloc: Global, records: &[Placed]) -> Result<Vec<Placed>, NoMemo
     Ok(copies)
 }
 
-/// The copies that a site has of the records, which has to be at most 256.
+/// The copies that a site has of these records, of which there are at most 256.
 fn copies_at(
     alloc: Global,
     records: &[Placed],

@@ -7,13 +7,13 @@ ghost use Rattle.vp_catalog.specs.Document.{Answered, IsOnly, NextEntry, is_owed
 use crate::catalog::Catalog;
 use crate::entry::Entry;
 use crate::fault::CatalogFault;
-use crate::reading::take_entry;
+use crate::reading::parse_entry;
 use std::alloc::Global;
 use vp_base::LineFault;
 use vp_text::Cursor;
 
 impl Catalog {
-    /// The catalogue that the whole text spells. The first line at fault is named.
+    /// Reads the whole text as a catalogue. An error names the first faulty line.
     pub fn read(alloc: Global, text: &[u8]) -> Result<Catalog, CatalogFault>
         ensures answer { Answered text.now result }
         ensures only { IsOnly text.now result }
@@ -30,14 +30,14 @@ impl Catalog {
     }
 }
 
-/// Whether another line has to come: there are more bytes, or no site stands yet.
+/// Whether another line has to come: more bytes are left, or there is no site yet.
 fn owes_line(cursor: &Cursor, catalog: &Catalog) -> bool
     ensures { result ≡ is_owed cursor.now catalog.now }
 {
     cursor.left() > 0 || catalog.sites().as_slice().is_empty()
 }
 
-/// The next line, which is allowed behind what the catalogue keeps so far.
+/// Reads the next line, which the lines before it allow.
 fn next_entry(
     alloc: Global,
     cursor: &mut Cursor,
@@ -49,7 +49,7 @@ fn next_entry(
     ensures { NextEntry catalog.now line cursor.old cursor.new result }
 {
     let here = cursor.left();
-    match take_entry(alloc, cursor, catalog) {
+    match parse_entry(alloc, cursor, catalog) {
         Ok(entry) => Ok(entry),
         Err(LineFault::NoMemory) => Err(CatalogFault::NoMemory),
         Err(LineFault::Unexpected(e)) => Err(CatalogFault::BadLine {

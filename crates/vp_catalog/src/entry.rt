@@ -1,4 +1,4 @@
-//! A line of a catalogue.
+//! The lines of a catalogue.
 
 use crate::placed::Placed;
 use vp_base::SiteId;

@@ -1,16 +1,17 @@
-//! Why a catalogue could not be read.
+//! Why a catalogue can't be read.
 
 use vp_base::NoMemory;
 
-/// Why a catalogue could not be read. Lines and places are counted from 1.
+/// Why a catalogue can't be read. Lines, and bytes within a line, are counted from 1.
 #[derive(Clone, Copy, Debug, Drop, PartialEq, Eq)]
 pub enum CatalogFault {
-    /// No allowed line stands there: it goes wrong at this byte.
+    /// The line is not an allowed one: it goes wrong at the byte `at`.
     BadLine { line: usize, at: usize },
-    /// The line gives a port or a record's name that an earlier line gives.
+    /// The line repeats the port or the record's name of an earlier line.
     Twice { line: usize },
-    /// The record line is one more than there may be.
+    /// The record line is one more than `limit`, which is 256.
     TooMany { line: usize, limit: u32 },
+    /// Memory is lacking; nothing is known of the text.
     NoMemory,
 }
 

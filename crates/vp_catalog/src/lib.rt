@@ -1,5 +1,5 @@
-//! The catalogue: the sites with their ports, and the records with their starting values and the weights of their
-//! copies. A contract sees it as the definitions' catalogue.
+//! The catalogue: the sites with their ports, and the records with their starting values and the weights of their copies. A
+//! contract sees it as the `Catalogue` of the definitions.
 #![tactic(auto)]
 
 mod catalog;
@@ -19,5 +19,5 @@ pub use fault::CatalogFault;
 pub use majority::majorities_share_a_holder;
 pub use others::{alone, others_of};
 pub use placed::{Placed, has_site};
-pub use reading::take_entry;
-pub use site::take_site;
+pub use reading::parse_entry;
+pub use site::parse_site;

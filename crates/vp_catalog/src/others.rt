@@ -1,4 +1,4 @@
-//! Lists of sites: the others, and the other holders of a record in a view.
+//! Lists of other sites, and of the other holders of a record in a view.
 
 ghost use Rattle.std.specs.Prelude.{◌≡◌, ◌≤◌, ◌∷◌, [], ℕ, false, not, ◌==◌, ◌&&◌, get_or, filter, find, length, IfOk};
 ghost use Rattle.vp_model.specs.Words.{has};
@@ -7,7 +7,7 @@ use crate::placed::has_site;
 use std::alloc::Global;
 use vp_base::{NoMemory, SiteId, Sites};
 
-/// The list of this site alone.
+/// Makes a list of this site only.
 pub fn alone(alloc: Global, site: SiteId) -> Result<Sites, NoMemory>
     ensures { IfOk result (λ sites. sites ≡ site ∷ []) }
 {
@@ -16,7 +16,7 @@ pub fn alone(alloc: Global, site: SiteId) -> Result<Sites, NoMemory>
     Ok(sites)
 }
 
-/// The sites but this one.
+/// Copies the list without this site.
 pub fn others_of(sites: &Sites, id: SiteId) -> Result<Sites, NoMemory>
     ensures { IfOk result (λ others. others ≡ filter (λ q. not (q == id)) sites.now) }
 {
@@ -29,7 +29,7 @@ pub fn others_of(sites: &Sites, id: SiteId) -> Result<Sites, NoMemory>
     Ok(Sites::from_vec(others))
 }
 
-/// The sites of the list that are members, but for this site.
+/// The sites of the list that are members, except this site.
 pub(crate) fn others_in(
     alloc: Global,
     sites: &[SiteId],
@@ -48,7 +48,7 @@ pub(crate) fn others_in(
     Ok(Sites::from_vec(others))
 }
 
-/// The first site of the list that is a member, but for this site.
+/// The first site of the list that is a member, except this site.
 pub(crate) fn least_other(sites: &[SiteId], members: &Sites, id: SiteId) -> Option<SiteId>
     ensures { result ≡ find (λ q. has members.now q && not (q == id)) sites.now }
 {
@@ -66,7 +66,7 @@ fn is_other_member(members: &Sites, id: SiteId, site: SiteId) -> bool
     has_site(members.as_slice(), site) && site != id
 }
 
-/// By the number of a site, whether it is a member, but for this site.
+/// Marks, by the number of each site, whether it is a member, except this site.
 fn other_members(members: &[SiteId], id: SiteId) -> [bool; 17]
     ensures all { length result ≡ 17 }
     ensures each { (q : ℕ) → q ≤ 16 → get_or result q false ≡ (has members.now q && not (q == id)) }

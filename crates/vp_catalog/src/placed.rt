@@ -9,7 +9,7 @@ use std::alloc::Global;
 use std::marker::Model;
 use vp_base::{CopyOf, Name, NoMemory, SiteId, Sites, Value};
 
-/// A record: its name, the value that each copy starts with, and the weights of the copies, ascending by holder.
+/// A record: its name, the value that each copy starts with, and the weights of its copies, ascending by holder.
 pub struct Placed {
     pub name: Name,
     pub start: Value,
@@ -53,7 +53,7 @@ impl CopyOf for Placed {
 }
 
 impl Placed {
-    /// Makes the list of holders, which takes memory.
+    /// Makes a record with these weights, and the list of its holders, which takes memory.
     pub(crate) fn new(
         alloc: Global,
         name: Name,
@@ -71,18 +71,21 @@ impl Placed {
         })
     }
 
+    /// The sites with a copy, ascending.
     pub fn holders(&self) -> &Sites
         ensures { result.now ≡ keys self.now.weights }
     {
         &self.holders
     }
 
+    /// Its name.
     pub fn name(&self) -> &Name
         ensures { result.now ≡ self.now.name }
     {
         &self.name
     }
 
+    /// The value that each copy starts with.
     pub fn start(&self) -> &Value
         ensures { result.now ≡ self.now.start }
     {
@@ -96,7 +99,7 @@ impl Placed {
         &self.weights
     }
 
-    /// The weight of the copy at a site, 0 where it has none.
+    /// The weight of the copy at a site; 0 where it has none.
     pub fn weight(&self, site: SiteId) -> u32
         ensures { result ≡ option_map_or (λ w. w) (value_at site self.now.weights) 0 }
     {
@@ -113,13 +116,14 @@ impl Placed {
         has_site(self.holders.as_slice(), site)
     }
 
-    /// The sum of the weights at the members.
+    /// The weight of the copies at the members.
     pub fn inside(&self, members: &Sites) -> u32
         ensures { result ≡ weight_inside members.now self.now.weights }
     {
         weight_at(&self.weights, members.as_slice())
     }
 
+    /// The weight of all copies.
     pub fn total(&self) -> u32
         ensures { result ≡ sum_by (λ w. w.1) self.now.weights }
     {
@@ -137,7 +141,7 @@ fn holders_of(alloc: Global, weights: &[(SiteId, u16)]) -> Result<Sites, NoMemor
     Ok(holders)
 }
 
-/// The number beside the site in the list; none where the site is not in it.
+/// The number that the list gives for the site, or `None` where the site is not in it.
 pub(crate) fn number_of(numbers: &[(SiteId, u16)], site: SiteId) -> Option<u16>
     ensures { result ≡ value_at site numbers.now }
 {
@@ -149,7 +153,7 @@ pub(crate) fn number_of(numbers: &[(SiteId, u16)], site: SiteId) -> Option<u16>
     None
 }
 
-/// Whether the site stands in the list.
+/// Whether the site is in the list.
 pub fn has_site(sites: &[SiteId], site: SiteId) -> bool
     ensures { result ≡ has sites.now site }
 {

@@ -1,4 +1,4 @@
-//! The text of a catalogue.
+//! Printing a catalogue.
 
 ghost use Rattle.std.specs.Prelude.{◌++◌, ◌∷◌, [], flat_map};
 ghost use Rattle.std.specs.Fmt.{decimal};
@@ -10,7 +10,7 @@ use crate::placed::Placed;
 use vp_base::{NoMemory, SiteId};
 use vp_text::print_number;
 
-/// The site and the number beside it, behind these bytes and with a mark between them.
+/// Appends these bytes, then the site and its number with a mark between them.
 fn print_pair(
     out: &mut Vec<u8>,
     before: &[u8],
@@ -45,7 +45,7 @@ fn print_weights(out: &mut Vec<u8>, weights: &[(SiteId, u16)]) -> Result<(), NoM
     Ok(())
 }
 
-/// The value that each copy starts with, the weights of the copies, and the newline.
+/// Appends the value that each copy starts with, the weights of the copies, and a newline.
 fn print_copies(out: &mut Vec<u8>, placed: &Placed) -> Result<(), NoMemory>
     ensures { Appends result out.old.items
         (placed.now.start ++ (flat_map weight_text placed.now.weights ++ 10 ∷ []))
@@ -76,7 +76,7 @@ fn print_records(out: &mut Vec<u8>, records: &[Placed]) -> Result<(), NoMemory>
 }
 
 impl Catalog {
-    /// Appends the lines of the catalogue. Without memory only a beginning of them may stand there.
+    /// Appends the lines of the catalogue. After want of memory a beginning of them may have been appended.
     #[tactic(auto, using(vp_text::proofs::Printing::printing))]
     pub fn print(&self, out: &mut Vec<u8>) -> Result<(), NoMemory>
         ensures { Appends result out.old.items (catalogue_text self.now) out.new.items }

@@ -8,22 +8,22 @@ ghost use Rattle.vp_catalog.specs.EntryReading.{some_above, weight_at, weights_a
 use crate::catalog::Catalog;
 use crate::entry::Entry;
 use crate::placed::Placed;
-use crate::site::take_site;
+use crate::site::parse_site;
 use std::alloc::Global;
 use vp_base::{LAST_SITE, LineFault, Name, SiteId, Value};
 use vp_text::{Cursor, Unexpected};
 
-/// A number from 1 to 65535.
-fn take_u16(cursor: &mut Cursor) -> Result<u16, Unexpected>
+/// Reads a number from 1 to 65535.
+fn parse_u16(cursor: &mut Cursor) -> Result<u16, Unexpected>
     ensures { Reads (λ n. n) (λ e. e.left) result cursor.new (number_at 1 65535 cursor.old) }
 {
     let number = cursor.number_u32(1, 65535)?;
     Ok(number as u16)
 }
 
-/// A holder above the given one with the weight of its copy.
+/// Reads a holder above the given one and the weight of its copy.
 #[tactic(auto, unfolding(crate::specs::EntryReading::weight_at))]
-fn take_weight(
+fn parse_weight(
     cursor: &mut Cursor,
     sites: &[SiteId],
     above: u8,
@@ -32,9 +32,9 @@ fn take_weight(
     ensures higher { IfOk result (λ w. above < w.0) }
 {
     cursor.literal(b" ")?;
-    let site = take_site(cursor, sites, above)?;
+    let site = parse_site(cursor, sites, above)?;
     cursor.literal(b":")?;
-    let weight = take_u16(cursor)?;
+    let weight = parse_u16(cursor)?;
     Ok((site, weight))
 }
 
@@ -50,9 +50,9 @@ fn has_above(sites: &[SiteId], above: u8) -> bool
     false
 }
 
-/// The next holder, or None for the end of the line.
+/// Reads the next holder, or the end of the line, which is `None`.
 #[tactic(auto, unfolding(vp_text::specs::Reading::next_at))]
-fn take_next(
+fn parse_next(
     cursor: &mut Cursor,
     sites: &[SiteId],
     above: u8,
@@ -64,7 +64,7 @@ fn take_next(
     match cursor.literal(b"\n") {
         Ok(()) => Ok(None),
         Err(first) if !has_above(sites, above) => Err(first),
-        Err(first) => match take_weight(&mut other, sites, above) {
+        Err(first) => match parse_weight(&mut other, sites, above) {
             Ok(weight) => {
                 *cursor = other;
                 Ok(Some(weight))
@@ -74,8 +74,8 @@ fn take_next(
     }
 }
 
-/// The holders up to the end of the line, one at least.
-fn take_weights(
+/// Reads holders up to the end of the line, at least one.
+fn parse_weights(
     alloc: Global,
     cursor: &mut Cursor,
     sites: &[SiteId],
@@ -83,45 +83,45 @@ fn take_weights(
     ensures read { Tries (λ w. w.items) line_left result cursor.new (weights_at sites.now cursor.old) }
     ensures few { IfOk result (λ w. length w.items ≤ 16) }
 {
-    let first = take_weight(cursor, sites, 0)?;
+    let first = parse_weight(cursor, sites, 0)?;
     let mut weights = Vec::new(alloc);
     let mut next = Some(first);
     while let Some(weight) = next {
         let above = weight.0.get();
         weights.push(weight)?;
-        next = take_next(cursor, sites, above)?;
+        next = parse_next(cursor, sites, above)?;
     }
     Ok(weights)
 }
 
 #[tactic(auto, unfolding(crate::specs::EntryReading::record_at))]
-fn take_record(alloc: Global, cursor: &mut Cursor, sites: &[SiteId]) -> Result<Entry, LineFault>
+fn parse_record(alloc: Global, cursor: &mut Cursor, sites: &[SiteId]) -> Result<Entry, LineFault>
     ensures { Tries (λ e. e) line_left result cursor.new (record_at sites.now cursor.old) }
 {
     cursor.literal(b"record ")?;
-    let name = Name::take(alloc, cursor)?;
+    let name = Name::parse(alloc, cursor)?;
     cursor.literal(b" ")?;
-    let start = Value::take(alloc, cursor)?;
-    let weights = take_weights(alloc, cursor, sites)?;
+    let start = Value::parse(alloc, cursor)?;
+    let weights = parse_weights(alloc, cursor, sites)?;
     Ok(Entry::Record(Placed::new(alloc, name, start, weights)?))
 }
 
-/// A site above the last one and its port.
+/// Reads a site above the last one, and its port.
 #[tactic(auto, unfolding(crate::specs::EntryReading::port_at))]
-fn take_port(cursor: &mut Cursor, last: u8) -> Result<Entry, Unexpected>
+fn parse_port(cursor: &mut Cursor, last: u8) -> Result<Entry, Unexpected>
     requires { last < 16 }
     ensures { Reads (λ e. e) (λ e. e.left) result cursor.new (port_at last cursor.old) }
 {
     cursor.literal(b"site ")?;
     let site = SiteId::of(cursor.number_u8(last + 1, LAST_SITE)?);
     cursor.literal(b" ")?;
-    let port = take_u16(cursor)?;
+    let port = parse_u16(cursor)?;
     cursor.literal(b"\n")?;
     Ok(Entry::Site { site, port })
 }
 
-/// A site line or a record line.
-fn take_either(
+/// Reads a site line or a record line.
+fn parse_either(
     alloc: Global,
     cursor: &mut Cursor,
     sites: &[SiteId],
@@ -131,9 +131,9 @@ fn take_either(
     ensures { Tries (λ e. e) line_left result cursor.new (either (port_at last cursor.old) (record_at sites.now cursor.old)) }
 {
     let mut other = cursor.fork();
-    match take_port(cursor, last) {
+    match parse_port(cursor, last) {
         Ok(entry) => Ok(entry),
-        Err(first) => match take_record(alloc, &mut other, sites) {
+        Err(first) => match parse_record(alloc, &mut other, sites) {
             Ok(entry) => {
                 *cursor = other;
                 Ok(entry)
@@ -144,19 +144,22 @@ fn take_either(
     }
 }
 
-/// Takes the next line, which is allowed behind the lines that the catalogue keeps so far. Without memory the cursor may stand
-/// anywhere in the line.
+/// Reads the next line, which the lines before it allow. Where memory is lacking, the cursor may be anywhere in the line.
 #[tactic(auto, unfolding(crate::specs::EntryReading::entry_at))]
-pub fn take_entry(alloc: Global, cursor: &mut Cursor, catalog: &Catalog) -> Result<Entry, LineFault>
+pub fn parse_entry(
+    alloc: Global,
+    cursor: &mut Cursor,
+    catalog: &Catalog,
+) -> Result<Entry, LineFault>
     ensures { Tries (λ e. e) line_left result cursor.new (entry_at catalog.now cursor.old) }
 {
     let sites = catalog.sites().as_slice();
     let last = catalog.last_site();
     if catalog.count() > 0 || last >= LAST_SITE {
-        take_record(alloc, cursor, sites)
+        parse_record(alloc, cursor, sites)
     } else if sites.is_empty() {
-        Ok(take_port(cursor, last)?)
+        Ok(parse_port(cursor, last)?)
     } else {
-        take_either(alloc, cursor, sites, last)
+        parse_either(alloc, cursor, sites, last)
     }
 }

@@ -11,11 +11,11 @@ ghost use Rattle.vp_catalog.specs.Sites.{site_texts, site_named, site_at};
 use vp_base::SiteId;
 use vp_text::{Cursor, Unexpected};
 
-/// Takes the number of a site in the list that is above the given one (0: any site of the list), in decimal digits.
+/// Reads the number of a site in the list that is above the given one (0 for any site of the list), in decimal digits.
 ///
-/// It takes a digit only where the number of such a site begins so: of the sites 1 and 12 it takes nothing of `2`, and the
-/// 1 of `13`.
-pub fn take_site(cursor: &mut Cursor, sites: &[SiteId], above: u8) -> Result<SiteId, Unexpected>
+/// It reads a digit only where the number of such a site begins with the digits up to it: of the sites 1 and 12 it reads nothing of
+/// `2`, and the 1 of `13`.
+pub fn parse_site(cursor: &mut Cursor, sites: &[SiteId], above: u8) -> Result<SiteId, Unexpected>
     ensures read { Reads (λ site. site) (λ e. e.left) result cursor.new (site_at sites.now above cursor.old) }
     ensures higher { IfOk result (λ site. above < site) }
 {
@@ -35,7 +35,7 @@ pub fn take_site(cursor: &mut Cursor, sites: &[SiteId], above: u8) -> Result<Sit
     }
 }
 
-/// Whether the number of one of the sites above the given one begins so.
+/// Whether the number of one of the sites above the given one begins with these digits.
 fn some_starts(sites: &[SiteId], above: u8, prefix: &[u8]) -> bool
     ensures { result ≡ starts_any (site_texts sites.now above) prefix.now }
 {
@@ -47,7 +47,7 @@ fn some_starts(sites: &[SiteId], above: u8, prefix: &[u8]) -> bool
     false
 }
 
-/// The site above the given one whose number is the text.
+/// Finds the site above the given one whose number is the text.
 fn named(sites: &[SiteId], above: u8, text: &[u8]) -> Option<SiteId>
     ensures site { result ≡ site_named sites.now above text.now }
     ensures higher { IfSome result (λ site. above < site) }
@@ -60,7 +60,7 @@ fn named(sites: &[SiteId], above: u8, text: &[u8]) -> Option<SiteId>
     None
 }
 
-/// Whether the decimal digits of the site begin so.
+/// Whether the decimal digits of the site begin with these.
 fn begins(site: SiteId, prefix: &[u8]) -> bool
     ensures { result ≡ starts_with nat_eq (decimal site) prefix.now }
 {

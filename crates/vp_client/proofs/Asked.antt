@@ -1,4 +1,4 @@
--- Asking goes on datagram by datagram.
+-- Asking, datagram by datagram.
 use Rattle.std.proofs.Common.{◌≡◌, ◌∙◌, ℕ, ◌+◌, ◌≤◌, List, [], ◌∷◌, ◌++◌, length, take, refl, ap, arith, inl, inr, false, ◌==◌}
 use Rattle.std.specs.Prelude.{Option, Some, None, Ok, Err}
 use Rattle.std.specs.Option.{option_map_or}
@@ -14,7 +14,7 @@ use Rattle.vp_wire.specs.Grammar.{frame_bytes}
 use Rattle.vp_client.specs.Asked.{IsSent, Asks, of_output}
 use Rattle.vp_client.specs.declared.asking.AskFault.TheVariants as faults
 
--- These came so far, and none of them has an answer.
+-- These datagrams came so far, and none of them has an answer.
 pub record SoFar (port site : ℕ) (words : Call) (count : ℕ) (old new : LinkState) : Type 0 where
   pub sent : IsSent port site words old new
   pub arrived : List Datagram
@@ -26,7 +26,7 @@ pub record SoFar (port site : ℕ) (words : Call) (count : ℕ) (old new : LinkS
   pub same_faults : new.faults ≡ old.faults
   pub same_losses : new.losses ≡ old.losses
 
--- the first answer where none came before
+-- the first answer, if none came before
 pub first_after : (port site : ℕ) (words : Call) (front : List Datagram) (d : Datagram) → first_answer port site words front ≡ None → first_answer port site words (front ++ d ∷ []) ≡ option_map_or Some (answer_of port site words d) None
 first_after port site words [] d h = refl
 first_after port site words (x ∷ front) d h = go (answer_of port site words x) refl (λ e. first_after port site words front d e)

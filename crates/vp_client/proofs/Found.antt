@@ -1,15 +1,15 @@
--- The answer that bytes have, by what decoding says of them.
+-- The answer in some bytes, by what decoding reads in them.
 use Rattle.std.proofs.Common.{◌≡◌, ℕ, ◌∙◌, true, false, List, refl, Ok, Err, if◌then◌else◌, ◌==◌}
 use Rattle.std.specs.Prelude.{None}
 use Rattle.vp_text.specs.Meaning.{Answers}
 use Rattle.vp_model.specs.Types.{Call}
 use Rattle.vp_runs.specs.Asking.{answer_in, answer_of}
 use Rattle.vp_wire.specs.declared.frame.Frame.{Frame}
-use Rattle.vp_decoding.specs.declared.fault.WireFault.TheVariants as faults
-use Rattle.vp_decoding.specs.Decoded.{read_frame}
-use Rattle.vp_decoding.specs.Faults.{wire_place}
+use Rattle.vp_wire.specs.declared.fault.WireFault.TheVariants as faults
+use Rattle.vp_wire.specs.Decoded.{read_frame}
+use Rattle.vp_wire.specs.Faults.{wire_place}
 use Rattle.vp_wire.specs.Grammar.{IsSpelling}
-use Rattle.vp_decoding.proofs.Decoded.{answers_are_read}
+use Rattle.vp_wire.proofs.Decoded.{answers_are_read}
 use Rattle.vp_laws.proofs.Lists.Numbers.{eq_self}
 
 in_frame : (port site : ℕ) (words : Call) (bytes : List ℕ) (f : Frame) → IsSpelling f bytes

@@ -11,7 +11,7 @@ use Rattle.vp_outside.proofs.Passed.{firsts, given_firsts}
 
 -- ---- the first datagrams
 
--- what a link has left, and what it gives behind that
+-- what a link has left, and what it gives after that
 firsts_left : (n : ℕ) (left : List Datagram) → (rest : List Datagram) × (firsts n left ≡ take n left ++ rest)
 firsts_left zero left = ([], refl)
 firsts_left (suc n) [] = (firsts (suc n) [], refl)
@@ -30,7 +30,7 @@ gave_firsts old None left ds is gave = absurd (rw is at gave)
 -- ---- the first answer
 
 module _ (port site : ℕ) (words : Call) where
-  -- what stands behind it doesn't matter
+  -- what comes after it doesn't matter
   first_more : (front rest : List Datagram) (a : Answer) → first_answer port site words front ≡ Some a → first_answer port site words (front ++ rest) ≡ Some a
   first_more [] rest a h = let no : None ≡ Some a = h in absurd cc
   first_more (d ∷ front) rest a h = go (answer_of port site words d) refl (first_more front rest a)

@@ -11,8 +11,8 @@ use Rattle.vp_wire.specs.declared.frame.Frame.{Frame}
 use Rattle.vp_wire.specs.declared.frame.Body.{Body}
 use Rattle.vp_wire.specs.declared.frame.Body.TheVariants as body
 use Rattle.vp_wire.specs.Grammar.{IsAnswer, IsBody, IsSpelling}
-use Rattle.vp_decoding.specs.Decoded.{read_frame}
-use Rattle.vp_decoding.proofs.Decoded.{bytes_are_read}
+use Rattle.vp_wire.specs.Decoded.{read_frame}
+use Rattle.vp_wire.proofs.Decoded.{bytes_are_read}
 use Rattle.vp_client.specs.Claims.{AnswersAreShaped}
 
 -- what is found under a condition is found

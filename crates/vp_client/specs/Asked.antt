@@ -10,7 +10,7 @@ use Rattle.vp_runs.specs.Asking.{first_answer, call_datagram}
 use Rattle.vp_client.specs.declared.asking.AskFault.{AskFault}
 use Rattle.vp_client.specs.declared.asking.AskFault.TheVariants as faults
 
--- These datagrams came, at most so many.
+-- These datagrams came, at most `turns` of them.
 pub record Came (turns : ℕ) (arrived : List Datagram) (old new : LinkState) : Type 0 where
   pub gave : Gave old.left new.left arrived
   pub counted : new.given ≡ count_after old.given (length arrived)
@@ -24,7 +24,7 @@ HasFailed old new = Rose old.faults new.faults ⊎ Rose old.losses new.losses
 abbrev pub IsSent : ℕ → ℕ → Call → LinkState → LinkState → Type 0
 IsSent port site words old new = HandsNow old new (call_datagram port site words ∷ [])
 
--- it, or nothing
+-- that frame or nothing was handed over
 abbrev pub MaySent : ℕ → ℕ → Call → LinkState → LinkState → Type 0
 MaySent port site words old new = IsSent port site words old new ⊎ Hands old.handed new.handed []
 
@@ -38,7 +38,7 @@ module _ (port site : ℕ) (words : Call) (turns : ℕ) (old new : LinkState) wh
     pub none_before : first_answer port site words front ≡ None
     pub is : first_answer port site words (front ++ last ∷ []) ≡ Some a
 
-  -- None of these that came has an answer.
+  -- None of the datagrams that came has an answer.
   pub record IsUnanswered (arrived : List Datagram) : Type 0 where
     pub sent : IsSent port site words old new
     pub came : Came turns arrived old new
@@ -50,7 +50,7 @@ module _ (port site : ℕ) (words : Call) (turns : ℕ) (old new : LinkState) wh
   Asks (Err faults.LinkFault) = HasFailed old new × ((arrived : List Datagram) × IsUnanswered arrived)
   Asks (Err faults.NoMemory) = MaySent port site words old new × ((arrived : List Datagram) × Came turns arrived old new)
 
--- what a link says of sending, as an answer
+-- the fault of asking that a fault of sending becomes
 abbrev pub of_output : OutFault → AskFault
 of_output output.Failed = faults.LinkFault
 of_output output.NoMemory = faults.NoMemory

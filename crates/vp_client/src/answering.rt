@@ -6,11 +6,11 @@ ghost use Rattle.vp_runs.specs.Asking.{answer_in, answer_of};
 
 use std::alloc::Global;
 use vp_base::{Answer, Call, CallNo, NoMemory, SiteId, TxnId};
-use vp_decoding::{WireFault, decode};
 use vp_lists::is_same_txn;
-use vp_wire::Body;
+use vp_wire::{Body, WireFault, decode};
 
-/// The answer to the call that a datagram of the site has which came from its port.
+/// Reads the answer to the call from a datagram that came from the site's port; none where it has another site's reply, another answer
+/// or no frame.
 #[tactic(auto, using(crate::proofs::Found::found_in, crate::proofs::Found::stray_in, crate::proofs::Found::bad_in))]
 pub fn find_answer(
     alloc: Global,
@@ -81,7 +81,7 @@ fn regroups(answer: &Answer) -> bool
     }
 }
 
-/// Whether it is an answer to the call of this number on the transaction.
+/// Whether this is an answer to the call with this number on the transaction.
 fn is_numbered(txn: &TxnId, number: CallNo, answer: &Answer) -> bool
     ensures { result ≡ answers_numbered txn.now number answer.now }
 {

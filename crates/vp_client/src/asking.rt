@@ -1,4 +1,4 @@
-//! Asking a site.
+//! Sending a call to a site and waiting for its answer.
 
 ghost use Rattle.std.specs.Prelude.{◌≡◌, IsTrue, IfOk};
 ghost use Rattle.vp_base.specs.Calls.{IsCall};
@@ -15,10 +15,10 @@ use vp_base::{Answer, Call, CopyOf, NoMemory, SiteId};
 use vp_outside::{Failed, Link, MOST_GIVEN, OutFault};
 use vp_wire::{Body, Frame, encode};
 
-/// Why there is no answer.
+/// Why there is no answer. The call may be done all the same.
 #[derive(Clone, Copy, Debug, Drop, PartialEq, Eq)]
 pub enum AskFault {
-    /// So many datagrams came, and none was the answer.
+    /// `turns` datagrams came, and none was the answer.
     NoAnswer { turns: u64 },
     /// The link failed.
     LinkFault,
@@ -52,7 +52,8 @@ impl From<OutFault> for AskFault {
     }
 }
 
-/// Sends the call to the site's port and takes datagrams, at most `turns`, until the answer comes.
+/// Sends the call to the site's port once, and takes datagrams, at most `turns`, until the answer comes. It waits as long as no datagram
+/// comes.
 #[tactic(auto, using(crate::proofs::Asked::unsent, crate::proofs::Asked::begun))]
 pub fn ask<L: Link>(
     alloc: Global,
@@ -82,7 +83,7 @@ pub fn ask<L: Link>(
     Err(AskFault::NoAnswer { turns })
 }
 
-/// Hands over the one frame of the call.
+/// Sends the frame of the call.
 fn send_call<L: Link>(
     alloc: Global,
     link: &mut L,

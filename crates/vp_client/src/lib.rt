@@ -1,4 +1,4 @@
-//! One call of a client: the call is sent, and the answer is the first one to it among the datagrams that come.
+//! One call of a client: the call is sent, and the first datagram that answers it is its answer.
 #![tactic(auto)]
 
 mod answering;

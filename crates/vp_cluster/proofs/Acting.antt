@@ -21,16 +21,16 @@ use Rattle.vp_runs.specs.declared.arrival.Arrival.TheVariants as arrives
 use Rattle.vp_runs.specs.Arrivals.{arrival}
 use Rattle.vp_runs.specs.Keeping.{durable_in}
 use Rattle.vp_runs.specs.Turns.{Turn, turn_on, step_turn}
-use Rattle.vp_places.specs.Asked.{Asked, started, restart_asked}
+use Rattle.vp_world.specs.Asked.{Asked, started, restart_asked}
 use Rattle.vp_world.specs.Steps.{asked_of, IsReady}
-use Rattle.vp_kept.specs.Kept.{kept_in as batches_in}
-use Rattle.vp_kept.proofs.Happened.{Acts, Effect}
-use Rattle.vp_kept.proofs.Coming.{has_port}
-use Rattle.vp_hosts.specs.declared.letter.Letter.{Letter}
-use Rattle.vp_hosts.specs.Letters.{as_received}
+use Rattle.vp_runs.specs.Kept.{kept_in as batches_in}
+use Rattle.vp_runs.proofs.Happened.{Acts, Effect}
+use Rattle.vp_runs.proofs.Datagrams.{has_port}
+use Rattle.vp_cluster.specs.declared.letter.Letter.{Letter}
+use Rattle.vp_cluster.specs.Letter.{as_received}
 use Rattle.vp_cluster.specs.Letters.{letter_of}
-use Rattle.vp_hosts.specs.Hosts.{IsAt, Lends, turn_at}
-use Rattle.vp_hosts.specs.Ports.{LendsAt}
+use Rattle.vp_cluster.specs.Hosts.{IsAt, Lends, turn_at}
+use Rattle.vp_cluster.specs.Ports.{LendsAt}
 use Rattle.vp_cluster.specs.Nodes.{NodesValue, MayStep, MayRestart, MayDo}
 use Rattle.vp_cluster.specs.Clusters.{HasSite, AreTied}
 use Rattle.vp_cluster.proofs.Lent.{none_lent, site_lent}
@@ -52,7 +52,7 @@ site_shaped catalogue w id x world up =
     let here : p.0.up ≡ Some x = ap (option_and_then (λ (place : Place). place.up)) (sym p.1) ∙ up in
     (some_at (λ (site : SiteState). (site.id ≡ p.0.id) × IsShaped catalogue site) p.0.up x (all_at (IsPlace catalogue) w.places world.places_are p.0 (find_has (λ (place : Place). place.id == id) w.places p.0 p.1)).up_is here).1
 
--- what each site has to keep is what its log folds to
+-- the durable part of each site is what its log folds to
 abbrev pub Folds : Catalogue → List Moment → WorldState → Type 0
 Folds catalogue moments w = (id : ℕ) (place : Place) → place_of id w.places ≡ Some place → Has (sites_of catalogue) id → durable_in catalogue id (batches_in catalogue id moments) ≡ place.durable
 

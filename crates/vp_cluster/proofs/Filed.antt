@@ -1,4 +1,4 @@
--- Letters whose bytes stand side by side.
+-- Letters whose bytes are side by side.
 use Rattle.std.proofs.Common.{◌≡◌, ◌≤◌, ◌∙◌, ap, sym, arith, refl, ℕ, ◌-◌, ◌<◌, zero, suc, false, List, [], ◌∷◌, ◌++◌, length, take, drop, get_or}
 use Rattle.std.specs.Prelude.{◌==◌, Some, None, slice_get}
 use Rattle.std.proofs.Math.Seq.{drop-append_seam}
@@ -6,11 +6,11 @@ use Rattle.std.proofs.lemmas.List.{take-append-le, take_all, length-append}
 use Rattle.std.proofs.lemmas.Option.{slice_get_read}
 use Rattle.bytes.proofs.Ranges.{drop-take_less}
 use Rattle.vp_outside.specs.declared.datagram.Datagram.{Datagram}
-use Rattle.vp_hosts.specs.declared.letter.Letter.{Letter}
+use Rattle.vp_cluster.specs.declared.letter.Letter.{Letter}
 use Rattle.vp_cluster.specs.declared.sent_letters.Filed.{Filed}
 use Rattle.vp_cluster.specs.Letters.{in_order, sent_from, start_in, letters_in, AreInOrder}
 
--- none begins behind the end
+-- none begins after the end
 start_within : (end : ℕ) (fs : List Filed) → AreInOrder end fs → start_in end fs ≤ end
 start_within end [] h = omega arith
 start_within end (f ∷ fs) h =
@@ -33,7 +33,7 @@ letter_joins bytes [] from d h = rw (take_all (length (bytes ++ d.bytes)) (bytes
 letter_joins bytes (f ∷ fs) from d h =
     rw (start_joins (length (bytes ++ d.bytes)) (length bytes) fs from d.port, take-append-le (start_in (length bytes) fs) bytes d.bytes (start_within (length bytes) fs h.1), letter_joins bytes fs from d h.1) refl
 
--- the letter at a place ends where the next one begins
+-- a letter ends where the next one begins
 abbrev letter_then : List ℕ → Filed → ℕ → Letter
 letter_then bytes f end = record { from = f.from; to = f.to; bytes = drop f.start (take end bytes) }
 
@@ -56,7 +56,7 @@ start_at end [] i f at = cc
 start_at end (g ∷ fs) zero f at = let same : g ≡ f = cc in rw (← same) refl
 start_at end (g ∷ fs) (suc i) f at = start_at end fs i f at
 
--- it ends at or behind its start, and not behind the end of all
+-- it ends at or after its start, and not after the end of all
 pub span_within : (end : ℕ) (fs : List Filed) (i : ℕ) → AreInOrder end fs → i < length fs → (start_in end (drop i fs) ≤ start_in end (drop (suc i) fs)) × (start_in end (drop (suc i) fs) ≤ end)
 span_within end [] i h lt = absurd (omega (arith, lt))
 span_within end (g ∷ fs) zero h lt = (h.0, start_within end fs h.1)
@@ -67,7 +67,7 @@ more_bytes bytes more =
     let longer = length-append bytes more in
     omega (arith, longer)
 
--- where more bytes follow the last letter
+-- if more bytes follow the last letter
 pub order_longer : (m n : ℕ) (fs : List Filed) → n ≤ m → AreInOrder n fs → AreInOrder m fs
 order_longer m n [] le h = tt
 order_longer m n (f ∷ []) le h = let here = h.0 in (omega (arith, here, le), tt)

@@ -6,8 +6,8 @@ use Rattle.std.proofs.lemmas.Bool.Decides.{nat_tests}
 use Rattle.vp_model.specs.Words.{value_at}
 use Rattle.vp_model.specs.Catalogue.{Catalogue}
 use Rattle.vp_catalog.specs.Document.{IsCatalogueSoFar}
-use Rattle.vp_hosts.specs.Hosts.{HostValue, address_of, Begins}
-use Rattle.vp_hosts.specs.Ports.{AreBegun, host_at}
+use Rattle.vp_cluster.specs.Hosts.{HostValue, address_of, Begins}
+use Rattle.vp_cluster.specs.Ports.{AreBegun, host_at}
 use Rattle.vp_cluster.specs.Nodes.{NodesValue, Begin}
 
 -- the ports of hosts with these sites differ
@@ -22,7 +22,7 @@ pub hosts_differ : (catalogue : Catalogue) (hosts : List HostValue) → IsCatalo
 hosts_differ catalogue hosts k e =
     subst (IsDistinct nat_eq) (ports_of hosts) (subst (λ sites. IsDistinct nat_eq (map (λ (s : ℕ × ℕ). s.1) sites)) (sym e) k.ports_differ)
 
--- a host behind another one is found as if that were not there
+-- a host after another one is found as if that one were not there
 behind : (host : HostValue) (hosts : List HostValue) → AllByRecursion (λ port. nat_eq host.port port ≡ false) (map (λ (host : HostValue). host.port) hosts) → (all : List HostValue)
     → AllByRecursion (λ (it : HostValue). host_at it.port all ≡ Some it) hosts → AllByRecursion (λ (it : HostValue). host_at it.port (host ∷ all) ≡ Some it) hosts
 behind host [] h all found = tt
@@ -39,7 +39,7 @@ each_found (host ∷ hosts) h = (let same : (host.port == host.port) ≡ true = 
 
 -- ---- the first lives
 
--- a host whose port is another one than those of these is not at the port of one that is found among them
+-- a host whose port differs from those of these hosts is not at the port of one that is found among them
 other_than : (own : ℕ) (hosts : List HostValue) (port : ℕ) (it : HostValue) → AllByRecursion (λ p. nat_eq own p ≡ false) (map (λ (host : HostValue). host.port) hosts) → host_at port hosts ≡ Some it → (own == port) ≡ false
 other_than own [] port it h f = absurd cc
 other_than own (x ∷ xs) port it h f = go (x.port == port) refl f (other_than own xs port it h.1)

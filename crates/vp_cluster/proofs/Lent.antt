@@ -1,4 +1,4 @@
--- What an event asks of the nodes where it is neither a crash nor a restart: a step of the site that is lent for it, or nothing.
+-- What an event asks of the nodes if it is neither a crash nor a restart: a step of the site that is lent for it, or nothing.
 use Rattle.std.proofs.Common.{◌≡◌, ◌∙◌, ap, sym, ℕ, Bool, true, false, cond, refl}
 use Rattle.std.specs.Prelude.{Option, Some, None, is_some, option_map, option_and_then}
 use Rattle.std.specs.Option.{option_map_or}
@@ -12,11 +12,11 @@ use Rattle.vp_model.specs.Told.{is_step}
 use Rattle.vp_model.specs.World.{WorldState, Moved, site_of, message_at, is_cut, shows, site_step, at_site, deliver, happens, next}
 use Rattle.vp_laws.proofs.Lists.Items.{none_of}
 use Rattle.vp_laws.proofs.Worlds.Occurs.{Gives, counted}
-use Rattle.vp_places.specs.Asked.{Asked}
+use Rattle.vp_world.specs.Asked.{Asked}
 use Rattle.vp_world.specs.Steps.{step_at, step_by, asked_of}
-use Rattle.vp_kept.proofs.Happened.{IsPlain, named}
+use Rattle.vp_runs.proofs.Happened.{IsPlain, named}
 
--- what one event does is a step where something is lent for it
+-- an event is a step where a site is lent for it
 lent_by : {A B : Type 0} (f : A → Moved) (g : A → B) (o : Option A) (idle : Moved) → ((a : A) → is_step (f a).shown ≡ true) → is_step idle.shown ≡ false → is_step (option_map_or f o idle).shown ≡ is_some (option_map g o)
 lent_by f g None idle steps rests = rests
 lent_by f g (Some a) idle steps rests = steps a
@@ -61,7 +61,7 @@ module _ (catalogue : Catalogue) (w : WorldState) where
   pub none_lent : (e : Event) → IsPlain e → is_step (next catalogue e w).shown ≡ false → asked_of catalogue e w ≡ None
   none_lent e plain none = none_of (asked_of catalogue e w) (sym (shows_step e plain) ∙ none)
 
-  -- what comes to a site that is up is lent with that, where the event is a step
+  -- what comes to a site that is up is lent with the site, if the event is a step
   pub site_lent : (e : Event) (s : ℕ) (x : SiteState) (given : Input) → Gives e w s given → site_of w s ≡ Some x → is_step (next catalogue e w).shown ≡ true → asked_of catalogue e w ≡ Some (Asked.steps e x given)
   site_lent e s x given (Gives.called words is) up shows =
       ap (λ (e : Event). asked_of catalogue e w) is ∙ ap (option_map (λ (site : SiteState). Asked.steps (event.Call s words) site (input.Call 0 words))) up ∙ ap (λ (e : Event). Some (Asked.steps e x (input.Call 0 words))) (sym is)

@@ -1,3 +1,10 @@
+mod Appending
+mod Begun
+pub mod Changing
+mod Holding
+mod HostStops
+mod Hosting
+mod Replaced
 pub mod Acting
 mod Calls
 mod Coming

@@ -1,4 +1,4 @@
--- What the run of a schedule comes to.
+-- What the run of a schedule leaves.
 use Rattle.std.proofs.Common.{◌≡◌, ◌∙◌, inl, inr, ap, sym, subst, ℕ, true, List, [], ◌∷◌, ◌++◌, map, Some, None, refl}
 use Rattle.std.specs.Prelude.{Result, Ok, Err}
 use Rattle.std.specs.List.{AllByRecursion, flat_map}
@@ -21,9 +21,9 @@ use Rattle.vp_model.specs.World.{Schedule, run_of, moments_of}
 use Rattle.vp_playing.specs.Played.{SeesAll, SeesSome, StepsAll, IsReadyFor, Plays}
 use Rattle.vp_playing.proofs.Seen.{sees_appended}
 use Rattle.vp_stable.specs.Halves.{HaveBatches}
-use Rattle.vp_kept.specs.Kept.{kept, kept_in}
-use Rattle.vp_hosts.specs.Hosts.{HostValue, address_of, site_log, log_in, IsHost}
-use Rattle.vp_hosts.specs.Ports.{AreHosts, host_at}
+use Rattle.vp_runs.specs.Kept.{kept, kept_in}
+use Rattle.vp_cluster.specs.Hosts.{HostValue, address_of, site_log, log_in, IsHost}
+use Rattle.vp_cluster.specs.Ports.{AreHosts, host_at}
 use Rattle.vp_cluster.specs.Nodes.{NodesValue, Begin, MayDo, Does}
 use Rattle.vp_cluster.specs.Clusters.{AreTied}
 use Rattle.vp_cluster.specs.Ran.{AreLogs, Runs}
@@ -77,7 +77,7 @@ events_formed sites (e ∷ events) h = (event_formed sites e h.0, events_formed 
 abbrev pub SeesLine : Catalogue → ℕ × Line → List ℕ → List ℕ → Type 0
 SeesLine catalogue line old new = new ≡ old ++ line_text catalogue line
 
--- what it may have made of it without memory
+-- what it may have made of it if memory ran out
 abbrev pub BeginsLine : Catalogue → ℕ × Line → List ℕ → List ℕ → Type 0
 BeginsLine catalogue line old new = is_begun old (line_text catalogue line) new ≡ true
 
@@ -90,7 +90,7 @@ some_begun catalogue (line ∷ lines) old new (inr (inr (mid, h, rest))) =
     begun_then old (line_text catalogue line) (flat_map (line_text catalogue) lines) new
     (subst (λ (front : List ℕ). is_begun front (flat_map (line_text catalogue) lines) new ≡ true) h (some_begun catalogue lines mid new rest))
 
--- the same of a schedule that is equal
+-- the same for a schedule that is equal
 pub same_plays : (s t : Schedule) (result : Result Known WorldEnd) (old new : List ℕ) → s ≡ t → Plays SeesLine BeginsLine s result old new → Plays SeesLine BeginsLine t result old new
 same_plays s t result old new e = subst (λ (s : Schedule). Plays SeesLine BeginsLine s result old new) e
 

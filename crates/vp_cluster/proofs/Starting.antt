@@ -1,13 +1,13 @@
--- The site that the nodes answer at a restart.
+-- The site that the nodes return at a restart.
 use Rattle.std.proofs.Common.{◌≡◌, ◌∙◌, ap, sym, ℕ, List}
 use Rattle.std.specs.Prelude.{Option, None}
 use Rattle.vp_model.specs.Catalogue.{Catalogue}
 use Rattle.vp_model.specs.Durable.{DurableState}
 use Rattle.vp_model.specs.Site.{SiteState}
 use Rattle.vp_runs.specs.Keeping.{durable_in}
-use Rattle.vp_places.specs.Asked.{started}
-use Rattle.vp_hosts.specs.Hosts.{HostValue, Restarts}
-use Rattle.vp_hosts.specs.Ports.{HasHost, ChangesOf}
+use Rattle.vp_world.specs.Asked.{started}
+use Rattle.vp_cluster.specs.Hosts.{HostValue, Restarts}
+use Rattle.vp_cluster.specs.Ports.{HasHost, ChangesOf}
 use Rattle.vp_cluster.specs.Nodes.{NodesValue, MayRestart}
 
 pub has_host : (catalogue : Catalogue) (id : ℕ) (site : Option SiteState) (nodes : NodesValue) → MayRestart catalogue id site nodes → HasHost nodes.catalogue id nodes.hosts

@@ -14,13 +14,13 @@ use Rattle.vp_laws.proofs.Invariant.Views.{InvViews}
 use Rattle.vp_laws.proofs.Invariant.Known.{Known}
 use Rattle.vp_laws.proofs.Keeping.Views.{views_last}
 use Rattle.vp_laws.proofs.Shapes.Worlds.{each_world}
-use Rattle.vp_routes.proofs.InvRoutes.{InvRoutes, routes_last}
-use Rattle.vp_kept.proofs.Happened.{Effect, effect}
-use Rattle.vp_kept.proofs.Through.{Follow, moments_follow, starts_at}
-use Rattle.vp_kept.proofs.Steps.{events_are}
-use Rattle.vp_kept.proofs.Nodes.{sent_are}
-use Rattle.vp_kept.proofs.Folds.{folds_first}
-use Rattle.vp_kept.proofs.Coming.{has_port}
+use Rattle.vp_laws.proofs.Routes.InvRoutes.{InvRoutes, routes_last}
+use Rattle.vp_runs.proofs.Happened.{Effect, effect}
+use Rattle.vp_runs.proofs.Through.{Follow, moments_follow, starts_at}
+use Rattle.vp_runs.proofs.Steps.{events_are}
+use Rattle.vp_runs.proofs.Nodes.{sent_are}
+use Rattle.vp_runs.proofs.Folds.{folds_first}
+use Rattle.vp_runs.proofs.Datagrams.{has_port}
 use Rattle.vp_playing.specs.Played.{StepsAll, IsReadyFor}
 use Rattle.vp_cluster.specs.Nodes.{NodesValue, Begin, MayDo, Does}
 use Rattle.vp_cluster.specs.Clusters.{HasSite, AreTied}
@@ -71,12 +71,12 @@ module _ (catalogue : Catalogue) (k : IsCatalogue catalogue) where
 abbrev IsNext : Catalogue → Moment → WorldState → Type 0
 IsNext catalogue m w = m ≡ moment m.number w m.line.event (next catalogue m.line.event w)
 
--- where moments follow each other, each begins where those before it end
+-- if moments follow each other, each begins where those before it end
 follow_front : (catalogue : Catalogue) (before rest : List Moment) (m : Moment) (w v : WorldState) → Follow catalogue w (before ++ m ∷ rest) v → Follow catalogue w before m.before × IsNext catalogue m m.before
 follow_front catalogue [] rest m w v f = let is : w ≡ m.before = ap (λ (m : Moment). m.before) (sym f.0) in (is, subst (IsNext catalogue m) is f.0)
 follow_front catalogue (x ∷ before) rest m w v f = let more = follow_front catalogue before rest m x.after v f.1 in ((f.0, more.0), more.1)
 
--- each moment among these is found with those before and behind it
+-- each moment among these is found with those before and after it
 split_at : (ms : List Moment) (m : Moment) → Has ms m → (before rest : List Moment) × (ms ≡ before ++ m ∷ rest)
 split_at [] m h = absurd (has_none m h)
 split_at (x ∷ ms) m h =

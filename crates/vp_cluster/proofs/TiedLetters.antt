@@ -25,9 +25,9 @@ use Rattle.vp_runs.specs.Arrivals.{arrival}
 use Rattle.vp_runs.specs.Asking.{call_frame}
 use Rattle.vp_runs.specs.Turns.{datagram_to, message_datagram}
 use Rattle.vp_runs.proofs.Arriving.{messages_arrive, calls_arrive}
-use Rattle.vp_kept.proofs.Coming.{has_port, own, no_port, tick_comes, probe_comes}
-use Rattle.vp_hosts.specs.declared.letter.Letter.{Letter}
-use Rattle.vp_hosts.specs.Letters.{as_received}
+use Rattle.vp_runs.proofs.Datagrams.{has_port, own, no_port, tick_comes, probe_comes}
+use Rattle.vp_cluster.specs.declared.letter.Letter.{Letter}
+use Rattle.vp_cluster.specs.Letter.{as_received}
 use Rattle.vp_cluster.specs.Letters.{letter_to, sent_from, letter_of, port_of, letter_for}
 
 -- ---- ports
@@ -38,7 +38,7 @@ ports sites = map (λ (site : ℕ × ℕ). site.1) sites
 another : (p q : ℕ) → nat_eq p q ≡ false → p ≢ q
 another p q e same = grind (arith, nat_tests, e, same)
 
--- the port of a site among these, where the first of them is it or not
+-- the port of a site among these, whether the first of them is that site or not
 abbrev At : ℕ × ℕ → List (ℕ × ℕ) → Bool → ℕ → ℕ → Type 0
 At s sites here a port = option_map (λ (p : ℕ × ℕ). p.1) (cond here (Some s) (find (λ (p : ℕ × ℕ). p.0 == a) sites)) ≡ Some port
 

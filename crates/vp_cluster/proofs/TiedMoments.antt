@@ -24,18 +24,18 @@ use Rattle.vp_outside.specs.declared.datagram.Datagram.{Datagram}
 use Rattle.vp_runs.specs.Keeping.{durable_in, kept_with}
 use Rattle.vp_runs.specs.Runs.{start_node, after_turn}
 use Rattle.vp_runs.specs.Turns.{Turn, step_turn, datagrams_of, reply_datagram}
-use Rattle.vp_kept.specs.Kept.{with_life, kept_after, kept_in as batches_in}
-use Rattle.vp_kept.proofs.Happened.{Leaves, LeavesIt, LeavesOthers, Acts, put_down, RestartEffect, IsPlain, Effect, happened}
-use Rattle.vp_kept.proofs.Folds.{folds_on}
-use Rattle.vp_turns.specs.declared.turned.TurnEffects.{TurnEffects}
-use Rattle.vp_places.specs.Asked.{Asked, started, restart_asked}
-use Rattle.vp_places.specs.Places.{Did}
+use Rattle.vp_runs.specs.Kept.{with_life, kept_after, kept_in as batches_in}
+use Rattle.vp_runs.proofs.Happened.{Leaves, LeavesIt, LeavesOthers, Acts, put_down, RestartEffect, IsPlain, Effect, happened}
+use Rattle.vp_runs.proofs.Folds.{folds_on}
+use Rattle.vp_node.specs.declared.turned.TurnEffects.{TurnEffects}
+use Rattle.vp_world.specs.Asked.{Asked, started, restart_asked}
+use Rattle.vp_world.specs.Places.{Did}
 use Rattle.vp_world.specs.Steps.{asked_of, DoesEvent}
-use Rattle.vp_hosts.specs.declared.letter.Letter.{Letter}
-use Rattle.vp_hosts.specs.Letters.{as_received}
+use Rattle.vp_cluster.specs.declared.letter.Letter.{Letter}
+use Rattle.vp_cluster.specs.Letter.{as_received}
 use Rattle.vp_cluster.specs.Letters.{sent_from, letter_of, letter_for}
-use Rattle.vp_hosts.specs.Hosts.{HostValue, IsAt, node_at, turn_at, Takes, Crashes, Restarts}
-use Rattle.vp_hosts.specs.Ports.{host_at, ChangesOf}
+use Rattle.vp_cluster.specs.Hosts.{HostValue, IsAt, node_at, turn_at, Takes, Crashes, Restarts}
+use Rattle.vp_cluster.specs.Ports.{host_at, ChangesOf}
 use Rattle.vp_cluster.specs.Nodes.{NodesValue, Comes, Posts, ChangesHost, Does}
 use Rattle.vp_cluster.specs.Clusters.{HasSite, AreTied}
 use Rattle.vp_cluster.proofs.TiedLetters.{ports_differ, Brings, posted}
@@ -97,7 +97,7 @@ module _ (catalogue : Catalogue) (m : Moment) (moments : List Moment) (old new :
         go None none = ap (host_at port) (changes.nowhere none)
         go (Some q) there = (changes.there q there).others port (ports_differ catalogue k id s port q at there n)
 
-    -- to the site itself, or to another one
+    -- this one is the site itself, or another one
     pub changed : LeavesOthers catalogue m s → ((id port : ℕ) → value_at id catalogue.sites ≡ Some port → Before id port)
         → ((port : ℕ) (h : Before s port) (host : HostValue) → host_at port new.hosts ≡ Some host → does h.host host → After s port)
         → (id port : ℕ) → value_at id catalogue.sites ≡ Some port → After id port
@@ -128,7 +128,7 @@ module _ (catalogue : Catalogue) (k : IsCatalogue catalogue) (m : Moment) (momen
   abbrev Done : Option Asked → Type 0
   Done o = Did Does o old new
 
-  -- where nothing is asked for, nothing is done
+  -- if nothing is asked for, nothing is done
   nothing_done : asked_of catalogue m.line.event m.before ≡ None → new ≡ old
   nothing_done none = subst Done none does
 
@@ -138,11 +138,11 @@ module _ (catalogue : Catalogue) (k : IsCatalogue catalogue) (m : Moment) (momen
   tied_so : new.catalogue ≡ old.catalogue → Sites → new.letters ≡ map (letter_for catalogue) m.after.sent → Tied
   tied_so same sites letters = record { catalogue_is = same ∙ tied.catalogue_is; sites = sites; letters = letters }
 
-  -- the same where nothing is done
+  -- the same if nothing is done
   tied_still : new ≡ old → Sites → m.after.sent ≡ m.before.sent → Tied
   tied_still same sites sent = tied_so (ap (λ (nodes : NodesValue). nodes.catalogue) same) sites (letters_stay sent (ap (λ (nodes : NodesValue). nodes.letters) same))
 
-  -- the host of this site alone may change, and stays
+  -- only the host of this site may change, and it doesn't
   unchanged : new ≡ old → (s : ℕ) → ChangesOf catalogue s (λ h host. host ≡ h) old.hosts new.hosts
   unchanged same s = record { there = λ port e. record { there = λ host found. (host, ap (host_at port) hosts ∙ found, refl); others = λ other differs. ap (host_at other) hosts }; nowhere = λ none. hosts }
     where
@@ -248,7 +248,7 @@ module _ (catalogue : Catalogue) (k : IsCatalogue catalogue) (m : Moment) (momen
     goes_down : (port : ℕ) (h : HasSite catalogue moments m.before old s port) (host : HostValue) → host_at port new.hosts ≡ Some host → host.id ≡ h.host.id → IsAt (log s) None host → HasSite catalogue (moments ++ m ∷ []) m.after new s port
     goes_down port h host there id at = turns catalogue m moments old new s port (put_down h.place) (λ b. b) (own h.place h.place_is) host there (id ∙ h.id_is) at
 
-    -- a site that is down stays so
+    -- a site that is down stays down
     down_already : site_of m.before s ≡ None → Tied
     down_already none =
         let same : new ≡ old = nothing_done (crash_asked ∙ ap (option_map (λ _. Asked.crashes s)) none) in
@@ -280,7 +280,7 @@ module _ (catalogue : Catalogue) (k : IsCatalogue catalogue) (m : Moment) (momen
     it : host.id ≡ h.host.id → LeavesIt catalogue m s → IsAt (log s) h.place.up host → HasSite catalogue (moments ++ m ∷ []) m.after new s port
     it id l at = turns catalogue m moments old new s port h.place (λ b. b) (record { place_is = l.place_is ∙ h.place_is; log_is = l.log_is }) host there (id ∙ h.id_is) at
 
-    -- a site that is up stays so
+    -- a site that is up stays up
     up_already : (x : SiteState) → h.place.up ≡ Some x → host ≡ h.host → RestartEffect catalogue m s h.place → HasSite catalogue (moments ++ m ∷ []) m.after new s port
     up_already x u same (RestartEffect.is_up y v l) = it (ap (λ (host : HostValue). host.id) same) l (subst (λ (host : HostValue). IsAt (log s) h.place.up host) (sym same) h.at)
     up_already x u same (RestartEffect.spent down life l) = absurd (let z = sym u ∙ down in cc)

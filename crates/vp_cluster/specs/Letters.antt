@@ -11,18 +11,18 @@ use Rattle.vp_wire.specs.declared.frame.Frame.{Frame}
 use Rattle.vp_wire.specs.declared.frame.Body.TheVariants as body
 use Rattle.vp_wire.specs.Grammar.{frame_of, frame_bytes}
 use Rattle.vp_runs.specs.Asking.{call_frame}
-use Rattle.vp_hosts.specs.declared.letter.Letter.{Letter}
+use Rattle.vp_cluster.specs.declared.letter.Letter.{Letter}
 use Rattle.vp_cluster.specs.declared.sent_letters.Filed.{Filed}
 
 -- the frame in a letter from port 0, which is no site's, to the port of the site
 abbrev pub letter_to : Catalogue → ℕ → Frame → Option Letter
 letter_to catalogue site frame = option_map (λ port. record { from = 0; to = port; bytes = frame_bytes frame }) (value_at site catalogue.sites)
 
--- letter K, from 1
+-- letter K, counted from 1
 abbrev pub in_order : ℕ → List Letter → Option Letter
 in_order k letters = if k == 0 then None else slice_get letters (k - 1)
 
--- what the event brings to a site, where these letters were sent so far
+-- the letter that the event brings to a site, if these letters were sent so far
 abbrev pub letter_of : Catalogue → List Letter → Event → Option Letter
 letter_of catalogue letters (event.Call site words) = letter_to catalogue site (call_frame site words)
 letter_of catalogue letters (event.Deliver k) = in_order k letters
@@ -42,18 +42,18 @@ port_of catalogue site = option_map_or (λ port. port) (value_at site catalogue.
 abbrev pub letter_for : Catalogue → Sent → Letter
 letter_for catalogue sent = record { from = port_of catalogue sent.from; to = port_of catalogue sent.to; bytes = frame_bytes (message_frame sent) }
 
--- where the bytes of these letters begin, which end there
+-- the index where the bytes of these letters begin; they end at this end
 abbrev pub start_in : ℕ → List Filed → ℕ
 start_in end [] = end
 start_in end (f ∷ fs) = f.start
 
--- the letters whose bytes stand side by side in these
+-- the letters whose bytes are side by side in these
 abbrev pub letters_in : List ℕ → List Filed → List Letter
 letters_in bytes [] = []
 letters_in bytes (f ∷ fs) =
     record { from = f.from; to = f.to; bytes = drop f.start (take (start_in (length bytes) fs) bytes) } ∷ letters_in bytes fs
 
--- each letter ends at or behind its start, and none behind that end
+-- each letter ends at or after its start, and none after that end
 abbrev pub AreInOrder : ℕ → List Filed → Type 0
 AreInOrder end [] = Unit {0}
 AreInOrder end (f ∷ fs) = (f.start ≤ start_in end fs) × AreInOrder end fs

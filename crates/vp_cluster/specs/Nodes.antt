@@ -8,13 +8,13 @@ use Rattle.vp_runs.specs.declared.arrival.Arrival.TheVariants as arrives
 use Rattle.vp_laws.specs.ShapeLaws.{IsEvent}
 use Rattle.vp_runs.specs.Arrivals.{arrival}
 use Rattle.vp_runs.specs.Keeping.{durable_in}
-use Rattle.vp_places.specs.Asked.{Asked, started}
-use Rattle.vp_turns.specs.declared.turned.TurnEffects.{TurnEffects}
-use Rattle.vp_hosts.specs.declared.letter.Letter.{Letter}
-use Rattle.vp_hosts.specs.declared.host.StoppedLog.{StoppedLog}
-use Rattle.vp_hosts.specs.Hosts.{HostValue, IsAt, Takes, Stops, Crashes, Restarts, Begins}
-use Rattle.vp_hosts.specs.Letters.{as_received}
-use Rattle.vp_hosts.specs.Ports.{host_at, LendsAt, ChangesAt, ChangesOf}
+use Rattle.vp_world.specs.Asked.{Asked, started}
+use Rattle.vp_node.specs.declared.turned.TurnEffects.{TurnEffects}
+use Rattle.vp_cluster.specs.declared.letter.Letter.{Letter}
+use Rattle.vp_cluster.specs.declared.host.StoppedLog.{StoppedLog}
+use Rattle.vp_cluster.specs.Hosts.{HostValue, IsAt, Takes, Stops, Crashes, Restarts, Begins}
+use Rattle.vp_cluster.specs.Letter.{as_received}
+use Rattle.vp_cluster.specs.Ports.{host_at, LendsAt, ChangesAt, ChangesOf}
 use Rattle.vp_cluster.specs.Letters.{sent_from, letter_of}
 
 -- what contracts see of the nodes: their catalogue, their hosts, and the letters of the messages that were sent so far, in order
@@ -34,7 +34,7 @@ pub record MayStep (catalogue : Catalogue) (e : Event) (site : SiteState) (given
   pub lent : LendsAt nodes.catalogue site letter.to nodes.hosts
   pub same_catalogue : nodes.catalogue ≡ catalogue
 
--- The site with this number is down at its host, and from the log there it comes as this site, or not at all where its lives are spent.
+-- The site with this number is down at its host, and the log there starts it as this site, or as none if its lives are spent.
 pub record MayRestart (catalogue : Catalogue) (id : ℕ) (site : Option SiteState) (nodes : NodesValue) : Type 0 where
   pub port : ℕ
   pub host : HostValue
@@ -53,8 +53,8 @@ MayDo catalogue (Asked.restarts id site) nodes = MayRestart catalogue id site no
 
 -- ---- what they do
 
--- The letter comes to the host at its port, to which this site is lent. Of the datagrams that this gives the first are those of the
--- messages of its step, and are letters from then on.
+-- The letter comes to the host at its port, to which this site is lent. The first of the datagrams of its turn are those of the messages
+-- of its step, and are letters from then on.
 abbrev pub Comes : Letter → SiteState → NodesValue → NodesValue → Type 0
 Comes letter site old new = (after : SiteState) × (turn_effects : TurnEffects)
     × ChangesAt letter.to (λ host next. Takes old.catalogue (as_received letter) site host next after turn_effects) old.hosts new.hosts
@@ -67,7 +67,7 @@ pub record Posts (e : Event) (site : SiteState) (old new : NodesValue) : Type 0 
   pub comes : Comes letter site old new
   pub same_catalogue : new.catalogue ≡ old.catalogue
 
--- The host of the site with this number changes so.
+-- The host of the site with this number changes like this.
 pub record ChangesHost (id : ℕ) (does : HostValue → HostValue → Type 0) (old new : NodesValue) : Type 0 where
   pub hosts : ChangesOf old.catalogue id does old.hosts new.hosts
   pub letters_stay : new.letters ≡ old.letters

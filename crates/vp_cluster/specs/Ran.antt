@@ -7,7 +7,7 @@ use Rattle.vp_model.specs.Limits.{world_limits, limit_reached, trace_text_within
 use Rattle.vp_model.specs.Texts.Trace.{trace_text}
 use Rattle.vp_model.specs.World.{Schedule, run_of}
 use Rattle.vp_stable.specs.Halves.{HaveBatches}
-use Rattle.vp_kept.specs.Kept.{kept}
+use Rattle.vp_runs.specs.Kept.{kept}
 use Rattle.vp_world.specs.Limits.{limit_of}
 use Rattle.vp_world.specs.declared.end.WorldEnd.{WorldEnd}
 use Rattle.vp_world.specs.declared.end.WorldEnd.TheVariants as end
@@ -18,8 +18,8 @@ pub record AreLogs (s : Schedule) (logs : List (ℕ × List ℕ × List ℕ)) : 
   pub sites_are : map (λ (log : ℕ × List ℕ × List ℕ). log.0) logs ≡ sites_of s.catalogue
   pub kept : AllByRecursion (λ (log : ℕ × List ℕ × List ℕ). HaveBatches (kept s log.0) (log.1, log.2)) logs
 
--- The schedule is run: its trace is appended, its journal is answered with the logs. Or a limit of the world ends it, and the trace of the
--- steps before is appended. Or there is no memory, and a beginning of that is appended.
+-- The schedule is run: its trace is appended, and its journal is returned with the logs. Or a limit of the world ends it, and the trace
+-- of the steps before is appended. Or memory runs out, and a beginning of that is appended.
 abbrev pub Runs : Schedule → Result Ran WorldEnd → List ℕ → List ℕ → Type 0
 Runs s (Ok ran) old new =
     (limit_reached world_limits s ≡ None)

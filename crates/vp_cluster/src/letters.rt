@@ -1,24 +1,24 @@
-//! The letters of clients, and those of messages.
+//! The letters of clients and of messages.
 
 ghost use Rattle.std.specs.Prelude.{◌≡◌, ◌++◌, ℕ, IfOk, OnOk, map, take};
 ghost use Rattle.vp_bytes.specs.Fields.{IsSite};
 ghost use Rattle.vp_cluster.specs.Letters.{letter_to, sent_from};
 ghost use Rattle.vp_wire.specs.Grammar.{IsFrame, frame_bytes, frame_of};
 
+use crate::letter::Letter;
 use crate::sent_letters::SentLetters;
 use bytes::{Bytes, BytesMut};
 use std::alloc::Global;
 use vp_base::{NoMemory, SiteId};
 use vp_catalog::Catalog;
-use vp_hosts::Letter;
 use vp_outside::Datagrams;
 use vp_wire::{Body, Frame, encode};
 
 /// Room for the frame of most calls, in bytes.
 const ROOM: usize = 64;
 
-/// The letter of a client to the site, which comes from port 0; none where the catalogue lacks the site. The body is one that can be
-/// framed.
+/// Makes the letter of a client to the site, which comes from port 0; none where the catalogue lacks the site. The body must be one that
+/// can be framed.
 pub fn to_site(catalog: &Catalog, site: SiteId, body: Body) -> Result<Option<Letter>, NoMemory>
     requires { (id : ℕ) → IsSite id → IsFrame (frame_of 0 id body) }
     ensures { IfOk result (λ letter. letter ≡ letter_to catalog.now site (frame_of 0 site body)) }
@@ -38,7 +38,7 @@ pub fn to_site(catalog: &Catalog, site: SiteId, body: Body) -> Result<Option<Let
     }))
 }
 
-/// The one spelling of the frame.
+/// Encodes the frame.
 fn bytes_of(alloc: Global, frame: &Frame) -> Result<Bytes, NoMemory>
     requires { IsFrame frame.now }
     ensures { IfOk result (λ bytes. bytes ≡ frame_bytes frame.now) }
@@ -48,7 +48,7 @@ fn bytes_of(alloc: Global, frame: &Frame) -> Result<Bytes, NoMemory>
     Ok(bytes.freeze()?)
 }
 
-/// Puts the first of the datagrams, which were sent from this port, behind the other letters.
+/// Adds the first `count` of the datagrams, which were sent from this port, to the letters.
 pub fn put_letters(
     from: u16,
     count: usize,

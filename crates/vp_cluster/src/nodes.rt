@@ -1,28 +1,33 @@
-//! The nodes of all sites in one process. They do the steps of a world's sites, and what a step sends goes from node to node in datagrams.
+//! The nodes of all sites in one process. They do the steps of a world's sites, and what a step sends goes from node to node in
+//! datagrams.
 
 ghost use Rattle.std.specs.Prelude.{◌≡◌, OnOk, IfOk, IfSome, Some, None, length, map};
 ghost use Rattle.vp_laws.specs.ShapeLaws.{IsEvent};
-ghost use Rattle.vp_hosts.specs.Hosts.{site_log};
+ghost use Rattle.vp_cluster.specs.Hosts.{site_log};
 ghost use Rattle.vp_cluster.specs.Letters.{letter_of};
-ghost use Rattle.vp_hosts.specs.Ports.{LendsAt};
+ghost use Rattle.vp_cluster.specs.Ports.{LendsAt};
 ghost use Rattle.vp_cluster.specs.Nodes.{Begin, Comes, StopsWith};
 ghost use Rattle.vp_runs.specs.Arrivals.{arrival};
-ghost use Rattle.vp_turns.specs.Taking.{IsStepOf};
-ghost use Rattle.vp_hosts.specs.Letters.{as_received};
-ghost use Rattle.vp_hosts.specs.Stops.{is_kept};
-ghost use Rattle.vp_hosts.specs.declared.letter.Letter.{Letter};
+ghost use Rattle.vp_node.specs.Taking.{IsStepOf};
+ghost use Rattle.vp_cluster.specs.Letter.{as_received};
+ghost use Rattle.vp_cluster.specs.Stops.{is_kept};
+ghost use Rattle.vp_cluster.specs.declared.letter.Letter.{Letter};
 
+use crate::host::{Logs, StoppedLog};
+use crate::hosts::Hosts;
+use crate::letter::Letter;
 use crate::letters::{put_letters, to_site};
 use crate::sent_letters::SentLetters;
+use crate::stopping::Stop;
 use std::alloc::Global;
 use std::marker::Model;
 use vp_base::{CopyOf, Effects, Event, Input, NoMemory, SiteId};
 use vp_catalog::Catalog;
-use vp_hosts::{Hosts, Letter, Logs, Stop, StoppedLog};
-use vp_places::{Site, StartFault, Stepper};
+use vp_node::TurnEffects;
 use vp_records::Durable;
-use vp_turns::TurnEffects;
+use vp_site::{Site, StartFault};
 use vp_wire::Body;
+use vp_world::Stepper;
 
 /// The hosts of the sites of a catalogue, and the letters of the messages that were sent, in order.
 #[derive(Drop)]
@@ -32,7 +37,7 @@ pub struct Nodes {
 }
 
 impl Model for Nodes {
-    ghost use Rattle.vp_hosts.specs.Ports.{AreHosts};
+    ghost use Rattle.vp_cluster.specs.Ports.{AreHosts};
     ghost use Rattle.vp_cluster.specs.Nodes.{NodesValue};
 
     ghost Value = { NodesValue };
@@ -43,7 +48,7 @@ impl Model for Nodes {
 }
 
 impl Nodes {
-    /// Each site of the catalogue is in its first life.
+    /// Starts a node for each site of the catalogue, in its first life.
     pub fn begin(catalog: Catalog) -> Result<Nodes, NoMemory>
         ensures { IfOk result (Begin catalog) }
     {
@@ -54,14 +59,14 @@ impl Nodes {
         })
     }
 
-    /// The logs on the disks, ascending by site.
+    /// Copies the logs on the disks, ascending by site.
     pub fn logs(&self, alloc: Global) -> Result<Logs, NoMemory>
         ensures { IfOk result (λ logs. logs ≡ map site_log self.now.hosts) }
     {
         self.hosts.logs(alloc)
     }
 
-    /// What the event brings to a site.
+    /// Makes the letter that the event brings to a site, if it brings one.
     fn letter(&self, event: &Event) -> Result<Option<Letter>, NoMemory>
         requires { IsEvent event.now }
         ensures { IfOk result (λ letter. letter ≡ letter_of self.now.catalogue self.now.letters event.now) }
@@ -76,15 +81,14 @@ impl Nodes {
         }
     }
 
-    /// The letter comes to the host at its port, and the site, which is lent to it, takes its turn there. What its step sends are letters from
-    /// then on.
-    fn take(&mut self, site: Site, letter: &Letter) -> Result<(Site, Effects), NoMemory>
+    /// Does the turn of the letter at the host of its port, to which the site is lent. What its step sends are letters from then on.
+    fn handle(&mut self, site: Site, letter: &Letter) -> Result<(Site, Effects), NoMemory>
         requires { LendsAt self.old.catalogue site letter.now.to self.old.hosts }
         ensures comes { OnOk result (Comes letter.now site self.old self.new) }
         ensures stepped { IfOk result (λ it. IsStepOf self.old.catalogue site (arrival self.old.catalogue site.id (as_received letter.now)) it.0 it.1) }
         ensures same { OnOk result (self.new.catalogue ≡ self.old.catalogue) }
     {
-        let (site, turn_effects) = self.hosts.take(site, letter)?;
+        let (site, turn_effects) = self.hosts.handle(site, letter)?;
         let TurnEffects {
             effects,
             datagrams,
@@ -95,7 +99,7 @@ impl Nodes {
         Ok((site, effects))
     }
 
-    /// The letter comes, and the site, which is lent for it, stops within the append that this asks for.
+    /// Stops the site, which is lent for the letter, within the append of its turn.
     fn stop_by(
         &mut self,
         site: Site,
@@ -111,8 +115,8 @@ impl Nodes {
         self.hosts.stop(site, letter, stop)
     }
 
-    /// The event's step of the site, which is lent for it and stops within the append of its batch. Answers its log, and whether the batch is in
-    /// that; none where there is none.
+    /// Does the event's step of the site, which is lent for it and stops within the append of its batch. Returns its log, and whether
+    /// that has the batch; none where the step has no batch.
     pub fn stop(
         &mut self,
         event: &Event,
@@ -141,7 +145,7 @@ impl Stepper for Nodes {
 
     ghost did = { Does };
 
-    /// The event's letter comes, with the site.
+    /// Brings the event's letter to the site.
     fn step(
         &mut self,
         _: &Catalog,
@@ -151,7 +155,7 @@ impl Stepper for Nodes {
     ) -> Result<(Site, Effects), NoMemory> {
         match self.letter(event)? {
             None => unreachable!(),
-            Some(letter) => self.take(site, &letter),
+            Some(letter) => self.handle(site, &letter),
         }
     }
 
@@ -159,7 +163,7 @@ impl Stepper for Nodes {
         self.hosts.crash(site);
     }
 
-    /// The site starts from the log of its host.
+    /// Starts the site from the log of its host.
     fn restart(&mut self, _: &Catalog, id: SiteId, _: &Durable) -> Result<Site, StartFault> {
         self.hosts.restart(id)
     }

@@ -3,14 +3,14 @@
 ghost use Rattle.std.specs.Prelude.{◌≡◌, ◌≤◌, ◌<◌, ◌+◌, ◌++◌, ◌∷◌, [], IfOk, OnOk, length, drop};
 ghost use Rattle.vp_cluster.specs.Letters.{in_order, sent_from, start_in, AreInOrder};
 
+use crate::letter::Letter;
 use bytes::Bytes;
 use std::alloc::Global;
 use std::marker::Model;
 use vp_base::NoMemory;
-use vp_hosts::Letter;
 use vp_outside::Datagram;
 
-/// A letter whose bytes stand among others, from this place to that of the next letter.
+/// A letter whose bytes are among others, from this index to that of the next letter.
 #[derive(Clone, Copy)]
 struct Filed {
     from: u16,
@@ -18,7 +18,7 @@ struct Filed {
     start: usize,
 }
 
-/// The letters that were sent, in order. Their bytes stand side by side, since a schedule may send 2,000,000 of them, most of which are
+/// The letters that were sent, in order. Their bytes are side by side, since a schedule may send 2,000,000 of them, most of which are
 /// short.
 pub struct SentLetters {
     bytes: Vec<u8>,
@@ -33,7 +33,7 @@ impl Drop for SentLetters {
 
 impl Model for SentLetters {
     ghost use Rattle.std.specs.Prelude.{List, length};
-    ghost use Rattle.vp_hosts.specs.declared.letter.Letter.{Letter};
+    ghost use Rattle.vp_cluster.specs.declared.letter.Letter.{Letter};
     ghost use Rattle.vp_cluster.specs.Letters.{letters_in, AreInOrder};
 
     ghost Value = { List Letter };
@@ -43,7 +43,7 @@ impl Model for SentLetters {
     ghost invariant = { λ l. AreInOrder (length l.bytes.items) l.filed.items };
 }
 
-/// Where the bytes of the letters from this place in the list on begin; they end at `end`.
+/// The index where the bytes of the letters from this one in the list on begin; they end at `end`.
 fn start_in(filed: &[Filed], place: usize, end: usize) -> usize
     ensures { result ≡ start_in end (drop place filed.now) }
 {
@@ -53,7 +53,7 @@ fn start_in(filed: &[Filed], place: usize, end: usize) -> usize
     }
 }
 
-/// From where to where the bytes of the letter at this place in the list stand.
+/// The indices of the first byte of this letter in the list and of the first byte after it.
 fn span(filed: &[Filed], place: usize, end: usize) -> (usize, usize)
     requires order { AreInOrder end filed.now }
     requires at { place < length filed.now }
@@ -65,7 +65,7 @@ fn span(filed: &[Filed], place: usize, end: usize) -> (usize, usize)
 }
 
 impl SentLetters {
-    /// Nothing was sent yet.
+    /// Begins with no letters.
     pub fn none(alloc: Global) -> SentLetters
         ensures { result ≡ [] }
     {
@@ -75,7 +75,7 @@ impl SentLetters {
         }
     }
 
-    /// The datagram was sent from this port: it is the last letter so far.
+    /// Adds the datagram, which was sent from this port, as the last letter.
     pub fn put(&mut self, from: u16, datagram: &Datagram) -> Result<(), NoMemory>
         ensures { OnOk result (self.new ≡ self.old ++ sent_from from datagram.now ∷ []) }
     {
@@ -89,7 +89,7 @@ impl SentLetters {
         Ok(())
     }
 
-    /// Letter `k`, from 1.
+    /// Copies letter `k`, counted from 1; none where fewer were sent.
     pub fn letter(&self, k: u32) -> Result<Option<Letter>, NoMemory>
         ensures { IfOk result (λ letter. letter ≡ in_order k self.now) }
     {

@@ -7,9 +7,9 @@ use crate::{BEGIN, BEGUN, PORT, datagram};
 use std::alloc::{AllocError, Global};
 use std::process::Abort;
 use vp_base::{Call, NoMemory, SiteId};
-use vp_commands::call_site;
 use vp_outside::{Datagram, Link, MemLink};
 use vp_status::{Defined, Status};
+use vp_top::call_site;
 
 /// What is defined for a begin at site 1, from port 7100.
 fn begin<L: Link>(alloc: Global, link: &mut L, turns: u64) -> Result<Defined, NoMemory>
@@ -49,7 +49,7 @@ fn as_many_datagrams_without_the_answer_are_told(rt: HostRuntime) {
     }
 }
 
-/// Whether the link's fault is told where its call with this number fails. The frame was handed over, unless the port wasn't bound.
+/// Whether the link's fault is reported if its call with this number fails. The frame was handed over, unless the port wasn't bound.
 fn tells_fault(rt: &impl Abort, alloc: Global, call: u64) -> bool {
     let calls = vec![in alloc; call].expect(rt, "memory");
     let mut link = MemLink::new(alloc, Vec::new(alloc), calls);

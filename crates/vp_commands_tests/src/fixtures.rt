@@ -20,7 +20,7 @@ pub const BEGUN: &[u8] = b"\x56\x01\x21\x01\0\x01\x01\0\0\0\x01\0\0\0\x01\0\0\0\
 pub const WRITE: &[u8] =
     b"\x56\x01\x20\0\x01\x04\x01\0\0\0\x01\0\0\0\x01\0\0\0\x01\x01\x78\x02\x31\x31";
 
-/// The call to commit 1.1.1 behind it, to site 1.
+/// The call to commit 1.1.1 after it, to site 1.
 pub const COMMIT: &[u8] = b"\x56\x01\x20\0\x01\x05\x01\0\0\0\x01\0\0\0\x01\0\0\0\x02";
 
 /// The stop, to site 1.
@@ -29,7 +29,7 @@ pub const STOP: &[u8] = b"\x56\x01\x24\0\x01";
 /// A log's first half after Start of life 1.
 pub const STARTED: &[u8] = b"\x01\0\0\0\0\0\0\0\x05\x01\0\0\0\x01\0";
 
-/// It after Start of the lives 1 and 2.
+/// The same after Start of the lives 1 and 2.
 pub const STARTED_TWICE: &[u8] =
     b"\x01\0\0\0\0\0\0\0\x05\x01\0\0\0\x01\x01\0\0\0\0\0\0\0\x05\x01\0\0\0\x02\0";
 
@@ -37,7 +37,7 @@ pub const STARTED_TWICE: &[u8] =
 const HEAD: &[u8] = b"\x01\0\0\0\0\0\0\0\0\x01\0\0\0\0\0\0\xff\xd2";
 
 /// A log's first half of 65,509 bytes: no record, and then 13,098 times Start of life 16,843,009. Start of the next life makes it 65,523
-/// bytes long, and a promise behind it 65,542: then a checkpoint is due.
+/// bytes long, and a promise after it 65,542: then a checkpoint is due.
 pub fn long_half(alloc: Global) -> Result<Vec<u8>, AllocError> {
     let mut half = HEAD.to_vec(alloc)?;
     half.extend_from_slice(&vec![in alloc; 1; 65_490]?)?;

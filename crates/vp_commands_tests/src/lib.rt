@@ -1,9 +1,13 @@
-//! The tests of the commands that use a network, outside the crate that has them: a crate with tests is proved twice.
+//! The tests of a client's call and of the commands that use a network, outside their crates: a crate with tests is proved twice.
 #![tactic(auto)]
 
 #[cfg(test)]
+mod asking;
+#[cfg(test)]
 mod calls;
 mod fixtures;
+#[cfg(test)]
+mod gateways;
 #[cfg(test)]
 mod long_logs;
 #[cfg(test)]
@@ -11,6 +15,8 @@ mod nodes;
 #[cfg(test)]
 mod outcomes;
 mod running;
+#[cfg(test)]
+mod sessions;
 #[cfg(test)]
 mod signals;
 

@@ -9,7 +9,7 @@ use vp_status::Status;
 const CHECKPOINT: &[u8] = b"\x01\0\0\0\0\0\0\0\x35\x08\0\0\0\0\0\0\0\x01\x01\x01\x01\x02\
     \0\0\0\0\0\0\0\x01\x01\0\x01\0\x02\x31\x30\0\0\0\0\0\0\0\0\0\0\0\0\0\0\0\0\0\0\0\0\0\0\0\0\0\0";
 
-/// What is printed where the node regroups.
+/// What is printed if the node regroups.
 const REGROUPED: &[u8] =
     b"start 16843010\nin 560120000102\nout 560121010006000000000000000101\nin 5601240001\nend\n";
 

@@ -87,7 +87,7 @@ fn no_inputs(alloc: Global) -> Result<Vec<Datagram>, AllocError> {
     Ok(datagrams)
 }
 
-/// What is printed of them.
+/// What is printed for them.
 const RECORDED: &str = "start 1\nbad 0\nbad 1\nbad 6\nbad 3\nstray 560120000201\n\
     stray 560121010001010000000100000001000000000000000000\nstray 560120000101\nlink fault\n";
 
@@ -108,7 +108,7 @@ const VOTES: [&[u8]; 3] = [
     b"\x56\x01\x0b\x02\x01\x01\0\0\0\x01\0\0\0\x01",
 ];
 
-/// They come from its port.
+/// These votes, from the port of site 2.
 fn votes(alloc: Global) -> Result<Vec<Datagram>, AllocError> {
     let mut datagrams = Vec::new(alloc);
     for vote in VOTES {

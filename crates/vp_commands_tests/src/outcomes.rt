@@ -1,4 +1,4 @@
-//! What a call or a signal comes to.
+//! The result of a call or a signal.
 
 use crate::PORT;
 use vp_outside::Handed;

@@ -4,15 +4,15 @@ use crate::datagram;
 use std::alloc::{AllocError, Global};
 use vp_base::{SiteId, Word};
 use vp_catalog::{Catalog, has_site};
-use vp_commands::serve_log;
 use vp_disks::MemDisk;
 use vp_outside::{Datagram, MemLink, OutFault, TextSink};
 use vp_status::Status;
+use vp_top::serve_log;
 
 /// Site 1 alone.
 const ALONE: &[u8] = b"site 1 7001\nrecord x 10 1:1\n";
 
-/// As many turns as no node takes that is stopped, or gets nothing more.
+/// More turns than a node does that is stopped, or gets nothing more.
 const MANY: u64 = 100;
 
 /// Which call of each object fails; no call has number 0.
@@ -37,7 +37,7 @@ pub struct Setup<'a> {
     pub site: SiteId,
     /// The halves of its log.
     pub halves: [&'a [u8]; 2],
-    /// The most datagrams that it takes.
+    /// The most turns that it does.
     pub turns: u64,
     pub failing: Failing,
 }
@@ -73,7 +73,7 @@ impl Setup<'_> {
         Ok(disk)
     }
 
-    /// Runs the node, to which these datagrams come and then none. There is no run where the catalogue is none or has no such site.
+    /// Runs the node, to which these datagrams come and then none. There is no run if the catalogue is none or has no such site.
     pub fn run(&self, alloc: Global, datagrams: Vec<Datagram>) -> Option<Ended> {
         let catalog = Catalog::read(alloc, self.catalogue).ok()?;
         if !has_site(catalog.sites().as_slice(), self.site) {
@@ -95,7 +95,7 @@ impl Setup<'_> {
     }
 }
 
-/// The plan that the call with this number fails.
+/// The plan by which the call with this number fails.
 fn planned(alloc: Global, call: u64) -> Result<Vec<u64>, AllocError> {
     let mut calls = Vec::new(alloc);
     calls.push(call)?;

@@ -5,9 +5,9 @@ use crate::{PORT, STOP};
 use std::alloc::Global;
 use std::process::Abort;
 use vp_base::SiteId;
-use vp_commands::signal_site;
 use vp_outside::MemLink;
 use vp_status::Status;
+use vp_top::signal_site;
 use vp_words::Signal;
 
 /// Whether the signal to site 3 is this frame.
@@ -28,7 +28,7 @@ fn each_signal_has_its_frame(rt: HostRuntime) {
     }
 }
 
-/// Whether the link's fault is told where its call with this number fails. The frame was handed over, unless the port wasn't bound.
+/// Whether the link's fault is reported if its call with this number fails. The frame was handed over, unless the port wasn't bound.
 fn tells_fault(rt: &impl Abort, alloc: Global, call: u64) -> bool {
     let calls = vec![in alloc; call].expect(rt, "memory");
     let mut link = MemLink::new(alloc, Vec::new(alloc), calls);

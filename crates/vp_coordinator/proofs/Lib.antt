@@ -1,1 +1,10 @@
+pub mod Answered
+pub mod Operations
+pub mod Presence
+pub mod LastWrites
+pub mod Some
+pub mod Ascending
+pub mod Each
+pub mod Rows
+pub mod Ends
 pub mod Told

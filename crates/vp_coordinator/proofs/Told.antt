@@ -1,4 +1,4 @@
--- What is told again changes the effects alone.
+-- Sending decisions again changes only the effects.
 use Rattle.std.proofs.Common.{◌≡◌, ℕ, List, [], ◌∷◌, refl}
 use Rattle.vp_model.specs.Types.{Decision, Effects}
 use Rattle.vp_model.specs.Site.{Here, CoordinatorState}

@@ -1,1 +1,5 @@
+pub mod Answered
+pub mod Records
+pub mod InPlace
+pub mod Ends
 pub mod Lent

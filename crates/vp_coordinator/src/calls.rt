@@ -1,4 +1,4 @@
-//! What a client's call does: the tests before an operation, and the answers that were given.
+//! What a client's call does: the tests before an operation, and answers that were given before.
 
 ghost use Rattle.std.specs.Prelude.{◌≡◌, ◌+◌, ◌<◌, ◌^◌, ◌-◌, OnOk, IfOk, Some, None, true, option_copied};
 ghost use Rattle.vp_base.specs.declared.answer.Answer.TheVariants as answer;
@@ -8,18 +8,21 @@ ghost use Rattle.vp_model.specs.Words.{for_some};
 ghost use Rattle.vp_model.specs.Transactions.{finished_of};
 ghost use Rattle.vp_model.specs.Calls.{handled, next_txn, start_txn, begin_in, on_begin, new_call, kept_answer, live_call, finished_call, on_txn_call, own_call};
 ghost use Rattle.vp_transactions.specs.Waiting.{waits};
-ghost use Rattle.vp_endings.specs.Lent.{in_place};
+ghost use Rattle.vp_coordinator.specs.InPlace.{in_place};
 ghost use Rattle.vp_coordinator.specs.Lent.{around};
 
+use crate::around::Around;
+use crate::commits::commit;
+use crate::lent::Lent;
+use crate::reads::read_named;
+use crate::writes::write_named;
 use std::alloc::Global;
 use vp_base::{
     Answer, Call, CallNo, CopyOf, Ending, MOST_LIVE, NoMemory, Pending, Sites, TxnId, View, ViewId,
 };
-use vp_endings::{Around, Lent};
-use vp_operations::{commit, read_named, write_named};
 use vp_transactions::{Handled, Transactions, told_again};
 
-/// A call of a transaction, under its number, from the port of a client.
+/// A call of a transaction: its number, and the port of the client.
 #[derive(Clone, Copy)]
 struct TxnCall<'a> {
     port: u16,
@@ -28,7 +31,7 @@ struct TxnCall<'a> {
     call: &'a Call,
 }
 
-/// The call as it waits.
+/// The call in the form in which it waits.
 fn pending_call(alloc: Global, asked: &TxnCall<'_>) -> Result<Pending, NoMemory>
     ensures { IfOk result (λ p. p ≡ handled asked.now.port asked.now.number asked.now.call.now) }
 {
@@ -41,7 +44,7 @@ fn pending_call(alloc: Global, asked: &TxnCall<'_>) -> Result<Pending, NoMemory>
     })
 }
 
-/// The number after so many answers, where a larger one has come.
+/// The number of the next call after `count` answers, where the given number is higher.
 fn next_number(count: usize, number: CallNo) -> CallNo
     requires { count + 1 < number }
     ensures { result ≡ count + 1 }
@@ -106,7 +109,7 @@ fn on_begin(lent: &mut Lent, at: &Around<'_>, port: u16) -> Result<(), NoMemory>
     }
 }
 
-#[tactic(auto, unfolding(vp_model::specs::Calls::new_call), using(vp_endings::proofs::Rows::in_places))]
+#[tactic(auto, unfolding(vp_model::specs::Calls::new_call), using(crate::proofs::Rows::in_places))]
 fn new_call(
     lent: &mut Lent,
     at: &Around<'_>,
@@ -132,7 +135,7 @@ fn new_call(
     }
 }
 
-/// A call that was answered gets its answer again.
+/// Gives a call that was answered its answer again.
 fn repeat(lent: &mut Lent, handled: &mut Handled) -> Result<(), NoMemory>
     requires { waits handled.old.live ≡ true }
     ensures { OnOk result (lent.new ≡
@@ -190,7 +193,7 @@ fn on_txn_call(lent: &mut Lent, at: &Around<'_>, asked: &TxnCall<'_>) -> Result<
     }
 }
 
-/// A call of a transaction that is not live.
+/// Answers a call of a transaction that is not live.
 #[tactic(auto, unfolding(vp_model::specs::Calls::finished_call))]
 fn ended_call(lent: &mut Lent, asked: &TxnCall<'_>) -> Result<(), NoMemory>
     ensures { OnOk result (lent.new ≡
@@ -203,7 +206,7 @@ fn ended_call(lent: &mut Lent, asked: &TxnCall<'_>) -> Result<(), NoMemory>
     }
 }
 
-/// What a client's call does to the transactions of its site.
+/// Does what a client's call does to the transactions of its site.
 #[tactic(auto, unfolding(vp_model::specs::Calls::own_call))]
 pub fn own_call(lent: &mut Lent, at: &Around<'_>, port: u16, call: &Call) -> Result<(), NoMemory>
     ensures { OnOk result (lent.new ≡

@@ -9,18 +9,20 @@ ghost use Rattle.vp_model.specs.Views.{abandon};
 ghost use Rattle.vp_model.specs.Generated.{newest};
 ghost use Rattle.vp_coordinator.specs.Lent.{lent_of, around};
 
+use crate::answers::{Incoming, on_answer};
+use crate::around::Around;
 use crate::calls::own_call;
+use crate::here::Here;
+use crate::lent::Lent;
 use std::alloc::Global;
 use std::marker::Model;
 use std::mem;
-use vp_answers::{Incoming, on_answer};
 use vp_base::{Call, CopyOf, Decisions, Effects, Message, Newest, NoMemory, SiteId, View, ViewId};
 use vp_catalog::Catalog;
-use vp_endings::{Around, Here, Lent};
 use vp_records::Durable;
 use vp_transactions::Transactions;
 
-/// The transactions of one life of a site.
+/// The transactions that a site began in its current life.
 pub struct Coordinator {
     id: SiteId,
     life: u32,
@@ -46,7 +48,7 @@ impl Model for Coordinator {
 }
 
 impl Coordinator {
-    /// The coordinator of a site that starts a life with this durable part: it keeps the decisions, and has no transaction.
+    /// The coordinator of a site that starts a life with this durable part: it keeps the decisions, and has no transactions.
     pub fn restore(
         alloc: Global,
         id: SiteId,
@@ -64,20 +66,22 @@ impl Coordinator {
         })
     }
 
+    /// The site.
     pub fn id(&self) -> SiteId
         ensures { result ≡ self.now.id }
     {
         self.id
     }
 
+    /// The number of the site's life.
     pub fn life(&self) -> u32
         ensures { result ≡ self.now.life }
     {
         self.life
     }
 
-    /// Does what the call of a client at this port asks; a call that changes the view does nothing here. Without
-    /// memory the coordinator, what is here and the effects may only be dropped.
+    /// Does what the call of the client at this port asks; a call to regroup does nothing here. After want of memory the
+    /// coordinator, `here` and the effects may be changed in part: drop them.
     pub fn call(
         &mut self,
         catalog: &Catalog,
@@ -106,9 +110,9 @@ impl Coordinator {
         done
     }
 
-    /// Does what a message does to the transactions of this site: an answer, a refusal, a vote, an acknowledgement or an
-    /// inquiry; another message does nothing here. Without memory the coordinator, what is here and the effects may only be
-    /// dropped.
+    /// Does what a message does to the transactions of this site: an answer, a refusal, a vote, an acknowledgement or an inquiry;
+    /// any other message does nothing here. After want of memory the coordinator, `here` and the effects may be changed in part:
+    /// drop them.
     pub fn on_answer(
         &mut self,
         catalog: &Catalog,
@@ -133,8 +137,8 @@ impl Coordinator {
         done
     }
 
-    /// Ends each transaction whose call was pending at the tick before, and marks the other pending calls. Without memory
-    /// the coordinator, what is here and the effects may only be dropped.
+    /// Aborts each transaction whose call was pending at the tick before, and marks the other pending calls. After want of memory
+    /// the coordinator, `here` and the effects may be changed in part: drop them.
     pub fn tick(&mut self, here: &mut Here, effects: &mut Effects) -> Result<(), NoMemory>
         ensures row { OnOk result (lent_of self.new.coordinator here.new effects.new ≡
             time_out_calls self.old.id (lent_of self.old.coordinator here.old effects.old)) }
@@ -147,7 +151,8 @@ impl Coordinator {
         done
     }
 
-    /// Tells each decision again to the sites that have not acknowledged it. Without memory the effects may only be dropped.
+    /// Sends each decision again to the sites that have not acknowledged it. After want of memory the effects may be changed in
+    /// part: drop them.
     #[tactic(auto, using(crate::proofs::Told::told_again))]
     pub fn resend(&self, effects: &mut Effects) -> Result<(), NoMemory>
         ensures { OnOk result ((here : HereState) → lent_of self.now.coordinator here effects.new ≡
@@ -156,8 +161,8 @@ impl Coordinator {
         self.transactions.resend(self.id, effects)
     }
 
-    /// Ends each live transaction, as the site leaves its view. Without memory the coordinator, what is here and the effects
-    /// may only be dropped.
+    /// Aborts each live transaction, since the site leaves its view. After want of memory the coordinator, `here` and the effects
+    /// may be changed in part: drop them.
     pub fn leave(&mut self, here: &mut Here, effects: &mut Effects) -> Result<(), NoMemory>
         ensures row { OnOk result (lent_of self.new.coordinator here.new effects.new ≡
             abandon self.old.id (lent_of self.old.coordinator here.old effects.old)) }
@@ -170,14 +175,14 @@ impl Coordinator {
         done
     }
 
-    /// What a client would call next of the transaction that began last among the live ones.
+    /// What a client would call next on the live transaction that began last.
     pub fn newest(&self) -> Option<Newest>
         ensures { result ≡ newest self.now.coordinator.live }
     {
         self.transactions.live.newest()
     }
 
-    /// The decisions that some site has not acknowledged.
+    /// Copies the decisions that some site has not acknowledged.
     pub fn decisions(&self) -> Result<Decisions, NoMemory>
         ensures { IfOk result (λ decisions. decisions ≡ self.now.coordinator.decisions) }
     {
@@ -185,7 +190,7 @@ impl Coordinator {
     }
 }
 
-/// What a row changes, as one. What stands in its place may only be dropped.
+/// Takes what a row changes as one value. What is left in its place is empty, and is to be replaced by `give_back`.
 fn take(transactions: &mut Transactions, here: &mut Here, effects: &mut Effects) -> Lent
     ensures { result ≡ lent_of transactions.old here.old effects.old }
 {

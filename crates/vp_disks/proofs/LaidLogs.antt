@@ -1,4 +1,4 @@
--- Logs that are laid anew.
+-- Logs that are laid on another disk.
 use Rattle.std.proofs.Common.{◌≡◌, ◌∙◌, ⊎_elim, List, [], ◌∷◌, ℕ, true, false, cond, get_or, refl, sym, ap, Option, Some, None}
 use Rattle.std.proofs.lemmas.List.Quantifiers.{position-Some}
 use Rattle.std.proofs.lemmas.Slice.Eq.{bytes_eq-Decides}
@@ -22,11 +22,11 @@ lays_over : (named : List NamedLog) (changes : List Change) → OnlyLays changes
 lays_over [] changes lays = lays
 lays_over (kept ∷ later) changes lays = lays_over later changes lays
 
--- another log is chosen, and none changes
+-- another log is attached, and none changes
 content_attached : (log : Option (List ℕ)) (name : List ℕ) (changes : List Change) → content_of (changes_of log (Attached name ∷ changes)) ≡ content_of (changes_of log changes)
 content_attached log name changes = by_log log (Attached name) changes (λ c. content_of c ≡ content_of (changes_of log changes)) (λ _. refl) refl
 
--- what was laid is what is kept
+-- what was laid is what the record says
 content_laid : (log : Option (List ℕ)) (unnamed : Halves) (named : List NamedLog) → content_of (changes_of log (laid_over named (laid_first unnamed))) ≡ halves_of log unnamed named
 content_laid None unnamed [] = refl
 content_laid (Some name) unnamed [] = refl
@@ -54,7 +54,7 @@ content_laid (Some name) unnamed (kept ∷ later) = ⊎_elim same (other (conten
         ∙ rest
         ∙ sym (ap (λ b. found (cond b (Some kept) (find (is_named name) later))) elsewhere)
 
--- where none was ever chosen, each call spoke of the log without a name
+-- where no log was ever attached, each call concerned the log without a name
 elsewhere : (name : List ℕ) (change : Change) (earlier : List Change) → asked_of earlier ≡ None → changes_of (Some name) (change ∷ earlier) ≡ changes_of (Some name) earlier
 elsewhere name change earlier none = changes_of-not_same (Some name) change earlier (ap (is_same_log (Some name)) none)
 
@@ -66,7 +66,7 @@ none_asked name (Cut half n ∷ earlier) none = elsewhere name (Cut half n) earl
 none_asked name (Synced ∷ earlier) none = elsewhere name Synced earlier none ∙ none_asked name earlier none
 none_asked name (Laid first second ∷ earlier) none = elsewhere name (Laid first second) earlier none ∙ none_asked name earlier none
 
--- ---- what is kept, laid on another disk
+-- ---- the logs that are kept, laid on another disk
 
 asks_none : (changes : List Change) (named : List NamedLog) → StandsAt (asked_of changes) named None → asked_of changes ≡ None
 asks_none changes named stands = by (asked_of changes) stands

@@ -1,4 +1,4 @@
--- What a stop leaves of a disk in memory is one of the images that a crash may leave, and how the images change with it.
+-- What a stop leaves of a disk in memory is one of the images that a crash may leave, and how a change alters the images.
 use Rattle.std.proofs.Common.{◌≡◌, ◌∙◌, inl, ⊎_elim, ℕ, List, [], ◌∷◌, Bool, true, false, refl, sym, ap, subst, Option}
 use Rattle.std.specs.Prelude.{length}
 use Rattle.vp_outside.specs.Disk.{Torn, MaybeCut, Only}
@@ -27,7 +27,7 @@ MayLeave-image : (late : Bool) (changes : List Change) → MayLeave changes (ima
 MayLeave-image true changes = MayLeave-content changes
 MayLeave-image false changes = MayLeave-synced changes
 
--- where only lays were done, what a read gives is the only image
+-- where logs were only laid, what a read gives is the only image
 only_content : (changes : List Change) → OnlyLays changes → Only (content_of changes) (MayLeave changes)
 only_content [] lays image is = is
 only_content (Attached name ∷ earlier) lays image left = only_content earlier lays image left
@@ -36,7 +36,7 @@ only_content (Cut half n ∷ earlier) lays image left = absurd lays
 only_content (Synced ∷ earlier) lays image left = absurd lays
 only_content (Laid first second ∷ earlier) lays image is = is
 
--- and so of each log of a disk
+-- and so for each log of a disk
 lays_of : (log : Option (List ℕ)) (changes : List Change) → OnlyLays changes → OnlyLays (changes_of log changes)
 lays_of log [] lays = tt
 lays_of log (Attached name ∷ earlier) lays = let rest = lays_of log earlier lays in by_log log (Attached name) earlier OnlyLays (λ _. rest) rest
@@ -45,7 +45,7 @@ lays_of log (Cut half n ∷ earlier) lays = absurd lays
 lays_of log (Synced ∷ earlier) lays = absurd lays
 lays_of log (Laid first second ∷ earlier) lays = let rest = lays_of log earlier lays in by_log log (Laid first second) earlier OnlyLays (λ _. rest) rest
 
--- what a stop leaves is what a crash may leave, and then nothing else is
+-- what a stop leaves is what a crash may leave, and from then on it is all that a crash may leave
 pub is_left : (late : Bool) (old new : List Change) (stop stop' : Option ℕ) (attached attached' : Bool) (faults faults' : ℕ) → LeavesImages late old new
     → IsLeftByCrash (state_before stop old attached faults) (state_before stop' new attached' faults')
 is_left late old new stop stop' attached attached' faults faults' leaves = record {
@@ -69,16 +69,16 @@ image_laid false changes lays = by changes lays
     by (Synced ∷ earlier) lays = absurd lays
     by (Laid first second ∷ earlier) lays = refl
 
--- a disk on which only lays were done is its own image
+-- a disk on which logs were only laid is its own image
 pub left_itself : (late : Bool) (changes : List Change) → OnlyLays changes → LeavesImages late changes changes
 left_itself late changes lays = record { asked = refl; images = λ log. image_laid late (changes_of log changes) (lays_of log changes lays); only_laid = lays }
 
 pub left_again : (late : Bool) (a b c : List Change) → LeavesImages late a b → LeavesImages true b c → LeavesImages late a c
 left_again late a b c first next = record { asked = next.asked ∙ first.asked; images = λ log. next.images log ∙ first.images log; only_laid = next.only_laid }
 
--- ---- one change more
+-- ---- one more change
 
--- a change that alters no image of its log alters none of any log
+-- a change that alters no image of its own log alters none of any log
 image_same : (late : Bool) (change : Change) → ((earlier : List Change) → image_of late (change ∷ earlier) ≡ image_of late earlier)
     → (log : Option (List ℕ)) (earlier : List Change) → image_of late (changes_of log (change ∷ earlier)) ≡ image_of late (changes_of log earlier)
 image_same late change same log earlier =
@@ -92,7 +92,7 @@ left_unchanged late change same a b asks leaves = record {
   only_laid = leaves.only_laid;
 }
 
--- another log is chosen
+-- another log is attached
 attached_same : (late : Bool) (name : List ℕ) (earlier : List Change) → image_of late (Attached name ∷ earlier) ≡ image_of late earlier
 attached_same true name earlier = refl
 attached_same false name earlier = refl
@@ -104,7 +104,7 @@ left_attached late name a b leaves = record {
   only_laid = leaves.only_laid;
 }
 
--- The attached log gets another image from a change of the one disk, and from another change of the other.
+-- The attached log gets another image by this change of the one disk, and by that change of the other.
 module _ (late : Bool) (change other : Change) (a b : List Change) (leaves : LeavesImages late a b) where
   pub left_changed : asked_of (change ∷ a) ≡ asked_of a → asked_of (other ∷ b) ≡ asked_of b
       → content_of (other ∷ changes_of (asked_of a) b) ≡ image_of late (change ∷ changes_of (asked_of a) a)

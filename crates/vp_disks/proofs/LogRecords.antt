@@ -1,4 +1,4 @@
--- What the record of a disk in memory tells of its logs, at one change more.
+-- What the record of a disk in memory says of its logs, after one more change.
 use Rattle.std.proofs.Common.{◌≡◌, ◌∙◌, ◌⊎◌, inl, inr, ⊎_elim, ℕ, List, ◌∷◌, Bool, true, false, cond, refl, sym, ap, subst, arith, Option, Some, None, Decides}
 use Rattle.std.proofs.lemmas.Slice.Eq.{bytes_eq-Decides}
 use Rattle.std.specs.Prelude.{Ok}
@@ -9,7 +9,7 @@ use Rattle.vp_disks.specs.declared.changes.Change.{Change}
 use Rattle.vp_disks.specs.declared.changes.Change.TheVariants.{Synced}
 use Rattle.vp_disks.specs.DiskLaws.{MayLeave-content}
 
--- ---- which log
+-- ---- which log a change concerns
 
 pub is_same_log-Decides : (a b : Option (List ℕ)) → Decides (is_same_log a b) (a ≡ b)
 is_same_log-Decides None None = (λ _. refl, λ _. refl)
@@ -27,18 +27,18 @@ same_or_other a b = by (is_same_log a b) (is_same_log-Decides a b)
 is_other : (a b : Option (List ℕ)) → (a ≡ b → ⊥) → is_same_log a b ≡ false
 is_other a b differ = ⊎_elim (λ same. absurd (differ same)) (λ other. other) (same_or_other a b)
 
--- a call speaks of the log that was attached
+-- a call concerns the log that was attached
 pub changes_of-same : (log : Option (List ℕ)) (change : Change) (earlier : List Change) → log ≡ asked_of earlier → changes_of log (change ∷ earlier) ≡ change ∷ changes_of log earlier
 changes_of-same log change earlier same = ap (λ b. cond b (change ∷ changes_of log earlier) (changes_of log earlier)) ((is_same_log-Decides log (asked_of earlier)).1 same)
 
 pub changes_of-not_same : (log : Option (List ℕ)) (change : Change) (earlier : List Change) → is_same_log log (asked_of earlier) ≡ false → changes_of log (change ∷ earlier) ≡ changes_of log earlier
 changes_of-not_same log change earlier other = ap (λ b. cond b (change ∷ changes_of log earlier) (changes_of log earlier)) other
 
--- and of no other
+-- and it concerns no other
 pub changes_of-other : (log : Option (List ℕ)) (change : Change) (earlier : List Change) → (log ≡ asked_of earlier → ⊥) → changes_of log (change ∷ earlier) ≡ changes_of log earlier
 changes_of-other log change earlier differ = changes_of-not_same log change earlier (is_other log (asked_of earlier) differ)
 
--- a fact of a log after one change more, from both cases
+-- a fact on a log after one more change, shown for both cases
 pub by_log : (log : Option (List ℕ)) (change : Change) (earlier : List Change) (P : List Change → Type 0) → (log ≡ asked_of earlier → P (change ∷ changes_of log earlier)) → P (changes_of log earlier) → P (changes_of log (change ∷ earlier))
 by_log log change earlier P here elsewhere =
     ⊎_elim (λ same. subst P (sym (changes_of-same log change earlier same)) (here same))
@@ -59,7 +59,7 @@ pub Elapses-still : (log : Option (List ℕ)) (changes : List Change) (stop stop
     → Elapses log (state_before stop changes attached faults) (state_before stop' changes attached' faults') (MayLeave (changes_of log changes))
 Elapses-still log changes stop stop' attached attached' faults faults' = record { later = omega arith; nothing_else = λ since image le left. inl left; keeps = λ since image le left. left }
 
--- a sync leaves no image that there wasn't before
+-- a sync leaves no image that wasn't there before
 synced_alike : (log : Option (List ℕ)) (earlier : List Change) (stop stop' : Option ℕ) (attached attached' : Bool) (faults faults' : ℕ)
     → Untouched log (state_before stop earlier attached faults) (state_before stop' (Synced ∷ earlier) attached' faults')
 synced_alike log earlier stop stop' attached attached' faults faults' = record {
@@ -69,7 +69,7 @@ synced_alike log earlier stop stop' attached attached' faults faults' = record {
       (λ image left. left);
 }
 
--- the attached log is as it was when that is recorded
+-- the attached log is as it was when its sync was recorded
 synced_now : (earlier : List Change) → synced_of (changes_of (asked_of earlier) (Synced ∷ earlier)) ≡ content_of (changes_of (asked_of earlier) earlier)
 synced_now earlier = ap synced_of (changes_of-same (asked_of earlier) Synced earlier refl)
 

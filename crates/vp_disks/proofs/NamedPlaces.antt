@@ -29,14 +29,14 @@ module _ {X : Type 0} (p : X → Bool) where
       let there : nat_lt (position_or_len p xs) (length xs) ≡ true = lt-ltb (position_or_len p xs) (length xs) (subst (λ n. n < length xs) (sym e) lt) in
       ap (λ b. cond b (Some (position_or_len p xs)) None) there ∙ ap (λ n. Some n) e
 
-  -- the item at that place is the one that is found
+  -- the item at the place that is found is the item that is found
   pub find-at : (xs : List X) (i : ℕ) (x : X) → position p xs ≡ Some i → x ≡ get_or xs i x → find p xs ≡ Some x
   find-at xs i x e read =
       let passes = position-Some p xs i x e in
       ap (find p) (sym (set-get_or xs i x) ∙ ap (set xs i) (sym read))
       ∙ find-set p xs i x (sym (place_is xs i e)) passes.0 (ap p read ∙ passes.1)
 
-  -- an item is put for another one, and neither is sought
+  -- an item is replaced, and neither the old nor the new one is sought
   pub find-set_other : (xs : List X) (i : ℕ) (y d : X) → p y ≡ false → p (get_or xs i d) ≡ false → find p (set xs i y) ≡ find p xs
   find-set_other [] i y d after before = refl
   find-set_other (x ∷ xs) zero y d after before = ap (λ b. cond b (Some y) (find p xs)) after ∙ sym (ap (λ b. cond b (Some x) (find p xs)) before)
@@ -49,7 +49,7 @@ module _ {X : Type 0} (p : X → Bool) where
   beyond true n e = absurd cc
   beyond false n e = refl
 
-  -- where nothing is found, an item behind the last one is
+  -- where nothing is found, an item that is sought is found at the end once it is appended
   pub position-push : (xs : List X) (y : X) → position p xs ≡ None → p y ≡ true → position p (xs ++ y ∷ []) ≡ Some (length xs)
   position-push xs y none passes =
       let n = position_or_len p xs in
@@ -83,11 +83,11 @@ bytes_differ x y differ = by (bytes_eq x y) (bytes_eq-Decides x y)
     by true d = absurd (differ (d.0 refl))
     by false d = refl
 
--- what is kept of a log that is found, or of one that isn't there
+-- the halves of a log that is found, or of one that doesn't exist
 abbrev found : Option NamedLog → Halves
 found log = option_map_or (λ (kept : NamedLog). kept.log) log ([], [])
 
--- an empty log behind the last one changes nothing
+-- appending an empty log changes nothing
 pub halves_of-push : (log : Option (List ℕ)) (unnamed : Halves) (named : List NamedLog) (empty : NamedLog) → empty.log ≡ ([], []) → halves_of log unnamed (named ++ empty ∷ []) ≡ halves_of log unnamed named
 halves_of-push None unnamed named empty is = refl
 halves_of-push (Some name) unnamed named empty is = find-push (is_named name) found named empty is
@@ -110,7 +110,7 @@ module _ (unnamed : Halves) (named : List NamedLog) (i : ℕ) where
     StandsAt-set None stands = absurd cc
     StandsAt-set (Some name) stands = (position-set (is_named name) named i y at stands.0 (passes name), refl)
 
-    -- a write to a log changes no other one
+    -- a write to one log changes no other
     halves_of-set_other : (log asked : Option (List ℕ)) → StandsAt asked named (Some i) → is_same_log log asked ≡ false → halves_of log unnamed (set named i y) ≡ halves_of log unnamed named
     halves_of-set_other log None stands other = absurd cc
     halves_of-set_other None (Some name) stands other = refl
@@ -120,9 +120,9 @@ module _ (unnamed : Halves) (named : List NamedLog) (i : ℕ) where
         let apart : is_named other y ≡ false = bytes_differ y.name other (λ (e : y.name ≡ other). let same = (bytes_eq-Decides other name).1 (sym e ∙ is_name) in absurd cc) in
         ap found (find-set_other (is_named other) named i y at apart (sym (passes other) ∙ apart))
 
--- ---- the record
+-- ---- the record of changes
 
--- what stands at the place of the attached log is its content
+-- what is at the place of the attached log is its content
 pub Keeps-at : (unnamed : Halves) (named : List NamedLog) (place : Option ℕ) (changes : List Change) → Keeps unnamed named place changes
     → (i : ℕ) (at : NamedLog) → place ≡ Some i → at ≡ get_or named i at → at.log ≡ content_of (changes_of (asked_of changes) changes)
 Keeps-at unnamed named place changes keeps i at there read =

@@ -32,6 +32,6 @@ written-lengthened at bytes old =
     ap (λ front. front ++ bytes ++ drop (at + length bytes) (old ++ replicate (at + length bytes - length old) 0)) (take-lengthened at (length bytes) old)
     ∙ ap (λ rest. take at (old ++ replicate (at - length old) 0) ++ bytes ++ rest) (drop-lengthened (at + length bytes) old)
 
--- a write that did nothing is one of those that a crash may leave of it
+-- a write that did nothing is one of those that a crash may leave
 pub Torn-refl : (at n : ℕ) (old : List ℕ) → Torn at n old old
 Torn-refl at n old = record { before = take_min at old; after = refl; no_shorter = omega arith; no_longer = omega arith }

@@ -1,4 +1,4 @@
--- What the record of a disk in memory tells of its logs. The record is the list of the calls that changed it, the newest first.
+-- What the record of a disk in memory says of its logs. The record is the list of the calls that changed it, the newest first.
 use Rattle.std.specs.Prelude.{◌≡◌, ◌⊎◌, ℕ, ◌≤◌, if◌then◌else◌, List, [], ◌∷◌, length, take, Option, Some, None, Bool}
 use Rattle.std.specs.Option.{option_eq}
 use Rattle.std.specs.Str.{bytes_eq}
@@ -6,7 +6,7 @@ use Rattle.vp_outside.specs.Disk.{Halves, InHalf, in_half, written, Torn, MaybeC
 use Rattle.vp_disks.specs.declared.changes.Change.{Change}
 use Rattle.vp_disks.specs.declared.changes.Change.TheVariants.{Attached, Wrote, Cut, Synced, Laid}
 
--- ---- which log a call speaks of
+-- ---- the log that a call concerns
 
 -- the name last given to `attach`
 abbrev pub asked_of : List Change → Option (List ℕ)
@@ -17,7 +17,7 @@ asked_of (change ∷ earlier) = asked_of earlier
 abbrev pub is_same_log : Option (List ℕ) → Option (List ℕ) → Bool
 is_same_log = option_eq bytes_eq
 
--- the changes of one log: each call speaks of the one that was attached when it came
+-- the changes of one log: each call concerns the one that was attached when it came
 abbrev pub changes_of : Option (List ℕ) → List Change → List Change
 changes_of log [] = []
 changes_of log (change ∷ earlier) = if is_same_log log (asked_of earlier) then change ∷ changes_of log earlier else changes_of log earlier
@@ -33,7 +33,7 @@ content_of (Cut half n ∷ earlier) = in_half half (take n) (content_of earlier)
 content_of (Synced ∷ earlier) = content_of earlier
 content_of (Laid first second ∷ earlier) = (first, second)
 
--- what a read gave of a log as it was last synced or laid
+-- what a read gave of a log when it was last synced or laid
 abbrev pub synced_of : List Change → Halves
 synced_of [] = ([], [])
 synced_of (Attached name ∷ earlier) = synced_of earlier
@@ -60,7 +60,7 @@ MightHaveLeft log since (change ∷ earlier) image = ((since ≤ length (change 
 
 -- ---- the disk
 
--- what a disk in memory tells after these changes, where so many are left before a stop
+-- the state of a disk in memory after these changes, where that many calls are left before a stop
 abbrev pub state_before : Option ℕ → List Change → Bool → ℕ → DiskState
 state_before until_stop changes attached faults = record {
   logs = λ log. Some (content_of (changes_of log changes));
@@ -75,6 +75,6 @@ state_before until_stop changes attached faults = record {
   until_stop = until_stop;
 }
 
--- where it isn't to stop
+-- the same, where it isn't to stop
 abbrev pub state_after : List Change → Bool → ℕ → DiskState
 state_after = state_before None

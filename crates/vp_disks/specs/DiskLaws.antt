@@ -1,4 +1,4 @@
--- A disk in memory is a disk: what a read gives is one of the images, and its moments are the lengths of its record.
+-- A disk in memory obeys the laws of disks: what a read gives is one of the images, and its moments are the lengths of its record.
 use Rattle.std.proofs.Common.{◌≡◌, ◌∙◌, inl, inr, Bool, ℕ, None, zero, suc, ◌+◌, ◌-◌, ◌≤◌, min, max, List, [], ◌∷◌, ◌++◌, length, take, drop, replicate, refl, subst, ap, arith, Option, Some, length-append, append_assoc}
 use Rattle.std.proofs.lemmas.List.{drop_at, take-append-le, length-take-le, length-drop, length-replicate, take-take, take_min}
 use Rattle.vp_outside.specs.Disk.{Halves, InHalf, in_half, written, Torn, MaybeCut, IsDisk}
@@ -6,7 +6,7 @@ use Rattle.vp_disks.specs.Changes.{changes_of, content_of, MayLeave, MightHaveLe
 use Rattle.vp_disks.specs.declared.changes.Change.{Change}
 use Rattle.vp_disks.specs.declared.changes.Change.TheVariants.{Attached, Wrote, Cut, Synced, Laid}
 
--- the bytes before that place, with 0 behind the old end, have its length
+-- the bytes before `at`, with 0 after the old end, are `at` many
 pub length-front : (at : ℕ) (old : List ℕ) → length (take at (old ++ replicate (at - length old) 0)) ≡ at
 length-front at old = length-take-le at (old ++ replicate (at - length old) 0) (omega (arith, length-append old (replicate (at - length old) 0), length-replicate {A = ℕ} (at - length old) 0))
 
@@ -15,7 +15,7 @@ length-written at bytes old =
     let front = take at (old ++ replicate (at - length old) 0) in
     omega (arith, length-append (front ++ bytes) (drop (at + length bytes) old), length-append front bytes, length-front at old, length-drop (at + length bytes) old)
 
--- a write that is done is one of those that a crash may leave of it
+-- a write that is done is one of those that a crash may leave
 pub Torn-written : (at : ℕ) (bytes old : List ℕ) → Torn at (length bytes) old (written at bytes old)
 Torn-written at bytes old =
     let front = take at (old ++ replicate (at - length old) 0) in

@@ -1,4 +1,4 @@
--- The disks that are kept beside a disk in memory, one of which a stop puts in its place.
+-- The disks that are kept beside a disk in memory, of which a stop takes one instead.
 use Rattle.std.specs.Prelude.{true, false, List, ◌∷◌, Option, Some, None}
 use Rattle.vp_disks.specs.Images.{OnlyLays, LeavesImages}
 use Rattle.vp_disks.specs.declared.changes.Change.{Change}
@@ -7,11 +7,11 @@ use Rattle.vp_disks.specs.declared.imaged_disk.Images.{Images}
 abbrev pub AreImages : List Change → Images → Type 0
 AreImages changes images = LeavesImages true changes images.late × LeavesImages false changes images.synced
 
--- where none are kept, the disk is one of its own images
+-- where none are kept, the disk is its own image
 abbrev pub KeepsImages : List Change → Option Images → Type 0
 KeepsImages changes None = OnlyLays changes
 KeepsImages changes (Some images) = AreImages changes images
 
--- what were the images of a disk are those of that disk after this change
+-- if these were the images of a disk, those are the images of that disk after this change
 abbrev pub Mirror : Change → Images → Images → Type 0
 Mirror change old new = (changes : List Change) → AreImages changes old → AreImages (change ∷ changes) new

@@ -1,4 +1,4 @@
--- What a disk in memory with a plan shows, and what the plan makes of a call.
+-- The state of a disk in memory with a plan, and what the plan says of a call.
 use Rattle.std.specs.Prelude.{List, Bool}
 use Rattle.vp_outside.specs.Disk.{Halves}
 use Rattle.vp_disks.specs.Changes.{asked_of, changes_of, content_of}
@@ -12,6 +12,6 @@ record_of d = d.disk
 abbrev pub is_attached : MemDisk → Bool
 is_attached d = d.attached
 
--- the halves of the log that `attach` was last asked for
+-- the halves of the log that `attach` was last called with
 abbrev pub attached_of : MemDisk → Halves
 attached_of d = content_of (changes_of (asked_of (record_of d)) (record_of d))

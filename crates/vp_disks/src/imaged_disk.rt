@@ -1,4 +1,4 @@
-//! A disk in memory, and what a stop may leave of it.
+//! A disk in memory, with what a stop may leave of it.
 
 ghost use Rattle.std.specs.Prelude.{◌≡◌, ◌∷◌, [], ◌+◌, ◌≤◌, ◌^◌, IfOk, IsTrue, OnErr, OnOk, length, true};
 ghost use Rattle.vp_disks.specs.Changes.{asked_of, changes_of, content_of};
@@ -12,8 +12,8 @@ use std::alloc::Global;
 use std::marker::Model;
 use vp_base::{NoMemory, Word};
 
-/// The disks that a stop may leave: one with all that was done, and one with each log as it was last synced. Nothing was done on them but
-/// to lay their logs.
+/// The disks that a stop may leave: one with all that was done, and one with each log as it was last synced. Their own records have
+/// only calls that laid logs.
 #[derive(Drop)]
 pub struct Images {
     pub late: SureDisk,
@@ -32,7 +32,7 @@ impl Images {
         })
     }
 
-    /// Makes them those of the disk after the log of this name is attached.
+    /// Changes the images as attaching the log of this name does.
     fn attach_log(&mut self, name: &Word) -> Result<(), NoMemory>
         ensures { OnOk result (Mirror (Attached name.now) self.old self.new) }
     {
@@ -41,7 +41,7 @@ impl Images {
         Ok(())
     }
 
-    /// Makes them those of the disk after the piece is written.
+    /// Changes the images as writing the piece does.
     fn write_piece(&mut self, half: u8, at: u64, piece: &[u8]) -> Result<(), NoMemory>
         requires { at + length piece.now ≤ 2 ^ 62 }
         ensures { OnOk result (Mirror (Wrote half at piece.now) self.old self.new) }
@@ -51,7 +51,7 @@ impl Images {
         Ok(())
     }
 
-    /// Makes them those of the disk after the half is cut.
+    /// Changes the images as cutting the half does.
     fn cut_half(&mut self, half: u8, length: u64) -> Result<(), NoMemory>
         ensures { OnOk result (Mirror (Cut half length) self.old self.new) }
     {
@@ -60,7 +60,7 @@ impl Images {
         Ok(())
     }
 
-    /// Makes them those of the disk after the attached log is synced.
+    /// Changes the images as syncing the attached log does.
     fn mark_synced(&mut self) -> Result<(), NoMemory>
         ensures { OnOk result (Mirror Synced self.old self.new) }
     {
@@ -68,7 +68,7 @@ impl Images {
         Ok(())
     }
 
-    /// Makes them those of the disk after this log is laid.
+    /// Changes the images as laying this log does.
     fn lay(&mut self, log: &LogBytes) -> Result<(), NoMemory>
         ensures { OnOk result (Mirror (Laid log.now.0 log.now.1) self.old self.new) }
     {
@@ -78,7 +78,8 @@ impl Images {
     }
 }
 
-/// A disk in memory that fails only for want of it. Each call that changes it makes the images first, so that a stop takes no memory.
+/// A disk in memory that fails only for want of memory. Each call that changes it makes its images first, so that a stop needs no
+/// memory.
 pub struct ImagedDisk {
     disk: SureDisk,
     images: Option<Images>,
@@ -105,6 +106,7 @@ impl Model for ImagedDisk {
 impl ImagedDisk {
     ghost use Rattle.vp_disks.specs.ImagedDisks.{AreImages};
 
+    /// Makes a disk with an empty log attached, which has no name.
     pub fn new(alloc: Global) -> ImagedDisk
         ensures { result ≡ [] }
     {
@@ -121,7 +123,7 @@ impl ImagedDisk {
         self.disk.half(half)
     }
 
-    /// Both images once more.
+    /// A copy of both images.
     fn images(&self) -> Result<Images, NoMemory>
         ensures { IfOk result (AreImages self.now) }
     {
@@ -143,7 +145,7 @@ impl ImagedDisk {
         Ok(())
     }
 
-    /// Writes the piece from this byte of the half on.
+    /// Writes the piece from the byte `at` of the half on.
     pub fn write_piece(&mut self, half: u8, at: u64, piece: &[u8]) -> Result<(), NoMemory>
         requires { at + length piece.now ≤ 2 ^ 62 }
         ensures ok { OnOk result (self.new ≡ Wrote half at piece.now ∷ self.old) }
@@ -180,7 +182,7 @@ impl ImagedDisk {
         Ok(())
     }
 
-    /// Lays these halves in place of those of the attached log, as synced.
+    /// Replaces the halves of the attached log by these, as synced.
     pub fn lay(&mut self, first: Vec<u8>, second: Vec<u8>) -> Result<(), NoMemory>
         ensures ok { OnOk result (self.new ≡ Laid first.items second.items ∷ self.old) }
         ensures err { OnErr result (self.new ≡ self.old) }
@@ -193,7 +195,8 @@ impl ImagedDisk {
         Ok(())
     }
 
-    /// Its image takes its place: the one with all that was done where `late`, else the one with each log as it was last synced.
+    /// Replaces the disk by one of its images: where `late`, the one with all that was done, else the one with each log as it was
+    /// last synced.
     pub fn leave(&mut self, late: bool)
         ensures { LeavesImages late self.old self.new }
     {

@@ -11,7 +11,7 @@ use std::alloc::Global;
 use std::marker::Model;
 use vp_base::{NoMemory, Seq, Word};
 
-/// The two halves of a log.
+/// The two halves of a log, each from its first byte on.
 #[derive(Drop)]
 pub struct LogBytes {
     first: Vec<u8>,
@@ -27,6 +27,7 @@ impl Model for LogBytes {
 }
 
 impl LogBytes {
+    /// Makes a log of two empty halves.
     pub fn new(alloc: Global) -> LogBytes
         ensures { result ≡ ([], []) }
     {
@@ -36,18 +37,22 @@ impl LogBytes {
         }
     }
 
+    /// Makes a log of these halves without copying them.
     pub fn of_halves(first: Vec<u8>, second: Vec<u8>) -> LogBytes
         ensures { result ≡ (first.items, second.items) }
     {
         LogBytes { first, second }
     }
 
+    /// The bytes of a half, 0 or 1.
     pub fn half(&self, half: u8) -> &[u8]
         ensures { result.now ≡ half_of half self.now }
     {
         if half == 0 { &self.first } else { &self.second }
     }
 
+    /// Writes the piece from the byte `at` of a half on; what is between the old end and `at` becomes 0. Without memory the log
+    /// stays as it is.
     pub fn write_at(&mut self, half: u8, at: u64, piece: &[u8]) -> Result<(), NoMemory>
         requires { at + length piece.now ≤ 2 ^ 62 }
         ensures ok { OnOk result (self.new ≡ in_half half (written at piece.now) self.old) }
@@ -60,6 +65,7 @@ impl LogBytes {
         }
     }
 
+    /// Cuts a half to a length in bytes; a shorter half stays as it is.
     pub fn cut(&mut self, half: u8, length: u64)
         ensures { self.new ≡ in_half half (take length) self.old }
     {
@@ -71,7 +77,7 @@ impl LogBytes {
     }
 }
 
-/// A log that is kept under a name.
+/// A log that is kept by name.
 #[derive(Drop)]
 pub struct NamedLog {
     pub name: Word,
@@ -79,6 +85,7 @@ pub struct NamedLog {
 }
 
 impl NamedLog {
+    /// Whether the log has this name.
     pub fn is_of(&self, name: &Word) -> bool
         ensures { result ≡ bytes_eq self.now.name name.now }
     {
@@ -86,7 +93,7 @@ impl NamedLog {
     }
 }
 
-/// The place of the log of that name, which is made, empty, where there is none.
+/// Finds the place of the log of that name; where there is none, appends an empty one. Without memory the list stays as it is.
 pub fn take_place(alloc: Global, logs: &mut Vec<NamedLog>, name: &Word) -> Result<usize, NoMemory>
     ensures place { IfOk result (λ place. position (is_named name.now) logs.new.items ≡ Some place) }
     ensures ok { OnOk result ((log : Option (List ℕ)) → (unnamed : Halves) → halves_of log unnamed logs.new.items ≡ halves_of log unnamed logs.old.items) }
@@ -112,7 +119,7 @@ fn place_of(logs: &[NamedLog], name: &Word) -> Option<usize>
     logs.iter().position(|log| log.is_of(name))
 }
 
-/// Writes over what is there, and past the end. What lies between the old end and that place is 0.
+/// Writes over what is there, and past the end. What is between the old end and `at` becomes 0.
 fn write_over(half: &mut Vec<u8>, at: usize, piece: &[u8]) -> Result<(), NoMemory>
     requires { at + length piece.now ≤ 2 ^ 62 }
     ensures ok { OnOk result (half.new.items ≡ written at piece.now half.old.items) }
@@ -123,7 +130,7 @@ fn write_over(half: &mut Vec<u8>, at: usize, piece: &[u8]) -> Result<(), NoMemor
     Ok(())
 }
 
-/// Puts 0 behind the end, up to that length.
+/// Appends zeros, up to that length.
 fn lengthen(half: &mut Vec<u8>, length: usize) -> Result<(), NoMemory>
     ensures ok { OnOk result (half.new.items ≡ half.old.items ++ replicate (length - vec_len half.old) 0) }
     ensures err { OnErr result (half.new.items ≡ half.old.items) }
@@ -141,7 +148,7 @@ fn overwrite(bytes: &mut [u8], at: usize, piece: &[u8])
     bytes[at..at + piece.len()].copy_from_slice(piece);
 }
 
-/// Whether the piece ends at 2^62 or before.
+/// Whether the piece ends at 2^62 or before, so that it may be written there.
 pub fn fits(at: u64, piece: &[u8]) -> bool
     ensures { IsTrue result ↔ (at + length piece.now ≤ 2 ^ 62) }
 {
@@ -150,7 +157,7 @@ pub fn fits(at: u64, piece: &[u8]) -> bool
     length <= LONGEST && at <= LONGEST - length
 }
 
-/// A copy of its own.
+/// Copies the bytes to a list of their own.
 pub fn kept(alloc: Global, bytes: &[u8]) -> Result<Seq<u8>, NoMemory>
     ensures { IfOk result (λ kept. kept ≡ bytes.now) }
 {

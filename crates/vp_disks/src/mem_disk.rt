@@ -1,4 +1,4 @@
-//! A disk in memory, some calls of which fail.
+//! A disk in memory at which some calls fail.
 
 ghost use Rattle.std.specs.Prelude.{◌≡◌, ◌⊎◌, ◌+◌, ◌<◌, ◌≤◌, ◌^◌, ◌∷◌, [], IfOk, IsErr, IsErrOf, List, ℕ, None, OnErr, OnOk, Some, false, is_ok, length};
 ghost use Rattle.vp_outside.specs.Causes.{HasCause};
@@ -15,12 +15,12 @@ use std::alloc::Global;
 use vp_base::{NoMemory, Word};
 use vp_outside::{Disk, Failed, FaultPlan, OutFault, give};
 
-/// A disk in memory, with a plan of the calls that fail. It tells its logs, and keeps a record of the calls that changed them. At first
-/// no log is attached. It can be stopped, and left as a crash may leave it.
+/// A disk in memory, with a plan of the calls that fail. Contracts know its logs, and it keeps a record of the calls that changed
+/// them. At first no log is attached. It can be stopped, and then be left as a crash may leave it.
 pub struct MemDisk {
     disk: ImagedDisk,
     attached: bool,
-    /// The calls that fail. A call that finds no memory isn't counted there.
+    /// Which calls fail. A call that lacks memory isn't counted.
     pub plan: FaultPlan,
 }
 
@@ -39,7 +39,7 @@ impl MemDisk {
     ghost use Rattle.vp_outside.specs.Plans.{unstarted};
     ghost use Rattle.vp_disks.specs.declared.changes.Change.TheVariants.{Attached, Laid};
 
-    /// The calls with these numbers will fail. The first call has number 1.
+    /// Makes an empty disk at which the calls with these numbers fail. The first call has number 1.
     pub fn new(alloc: Global, failing: Vec<u64>) -> MemDisk
         ensures record { record_of result ≡ [] }
         ensures attached { is_attached result ≡ false }
@@ -52,7 +52,8 @@ impl MemDisk {
         }
     }
 
-    /// Puts these halves under a name, as if they had always been there. It is no call of the plan, and no log is attached after it.
+    /// Gives the log of a name these halves, as if they had always been there. The plan doesn't count this call, and no log is
+    /// attached after it.
     pub fn lay(&mut self, name: &Word, first: Vec<u8>, second: Vec<u8>) -> Result<(), NoMemory>
         ensures laid { OnOk result (record_of self.new ≡ Laid first.items second.items ∷ Attached name.now ∷ record_of self.old) }
         ensures not_laid { OnErr result ((record_of self.new ≡ record_of self.old) ⊎ (record_of self.new ≡ Attached name.now ∷ record_of self.old)) }
@@ -64,14 +65,14 @@ impl MemDisk {
         self.disk.lay(first, second)
     }
 
-    /// The bytes of a half of the log that `attach` was last asked for.
+    /// The bytes of a half of the log that `attach` was last called with.
     pub fn half(&self, half: u8) -> &[u8]
         ensures { result.now ≡ half_of half (attached_of self.now) }
     {
         self.disk.half(half)
     }
 
-    /// So many calls more go by the plan, and each later one fails, until `leave`.
+    /// Sets a stop: the next `calls` calls go by the plan, and each one after them fails, until `leave`.
     pub fn stop_after(&mut self, calls: u64)
         ensures same { record_of self.new ≡ record_of self.old }
         ensures attached { is_attached self.new ≡ is_attached self.old }
@@ -80,8 +81,8 @@ impl MemDisk {
         self.plan.until_stop = Some(calls);
     }
 
-    /// Ends the stop, and leaves each log as a crash at this moment may leave it: as it is where `late`, else as it was last synced. The
-    /// record begins again with that. It takes no memory.
+    /// Ends the stop, and leaves each log as a crash at this moment may leave it: as it is where `late`, else as it was last
+    /// synced. The record starts again from that. Takes no memory.
     pub fn leave(&mut self, late: bool)
         ensures images { LeavesImages late (record_of self.old) (record_of self.new) }
         ensures crash { IsLeftByCrash (⟦<MemDisk as Disk>⟧.state self.old) (⟦<MemDisk as Disk>⟧.state self.new) }

@@ -1,4 +1,4 @@
-//! A disk in memory that never fails.
+//! A disk in memory that fails only for want of memory.
 
 ghost use Rattle.std.specs.Prelude.{◌≡◌, ◌∷◌, [], ◌+◌, ◌≤◌, ◌^◌, IfOk, OnErr, OnOk, Some, length, true};
 ghost use Rattle.std.specs.Io.{ReadsAtMost};
@@ -16,8 +16,8 @@ use std::marker::Model;
 use vp_base::{NoMemory, Word};
 use vp_outside::{Disk, Failed, OutFault, give};
 
-/// A disk in memory that never fails but for want of it. It tells its logs, and keeps a record of the calls that changed them. It is
-/// made with an empty log attached, which has no name.
+/// A disk in memory that fails only for want of memory. Contracts know its logs, and it keeps a record of the calls that changed
+/// them. It is made with an empty log attached, which has no name.
 pub struct SureDisk {
     alloc: Global,
     unnamed: LogBytes,
@@ -51,6 +51,7 @@ impl Model for SureDisk {
 }
 
 impl SureDisk {
+    /// Makes the disk, with an empty log attached.
     pub fn new(alloc: Global) -> SureDisk
         ensures { result ≡ [] }
     {
@@ -63,7 +64,7 @@ impl SureDisk {
         }
     }
 
-    /// A disk whose attached log has these halves, as if they had always been there.
+    /// Makes a disk whose attached log has these halves, as if they had always been there.
     pub fn holding(alloc: Global, first: Vec<u8>, second: Vec<u8>) -> Result<SureDisk, NoMemory>
         ensures { IfOk result (λ disk. disk ≡ Laid first.items second.items ∷ []) }
     {
@@ -79,7 +80,7 @@ impl SureDisk {
         self.attached_log().half(half)
     }
 
-    // The calls below do what the disk's calls do, and are put on record.
+    // The methods below do what the calls of a disk do, and add that to the record.
 
     pub(crate) fn attach_log(&mut self, name: &Word) -> Result<(), NoMemory>
         ensures ok { OnOk result (self.new ≡ Attached name.now ∷ self.old) }
@@ -132,7 +133,7 @@ impl SureDisk {
         Ok(())
     }
 
-    /// Puts these halves into the attached log, as if they had always been there.
+    /// Replaces the halves of the attached log by these, as if they had always been there.
     pub fn lay(&mut self, first: Vec<u8>, second: Vec<u8>) -> Result<(), NoMemory>
         ensures ok { OnOk result (self.new ≡ Laid first.items second.items ∷ self.old) }
         ensures err { OnErr result (self.new ≡ self.old) }
@@ -178,7 +179,7 @@ impl SureDisk {
         Ok(disk)
     }
 
-    /// Lays a copy of a log into the attached one, and keeps no more on record than how the logs are laid.
+    /// Gives the attached log a copy of this one, and starts the record again from the logs as they are then.
     pub(crate) fn lay_alone(&mut self, log: &LogBytes) -> Result<(), NoMemory>
         ensures { OnOk result (LeavesImages true (Laid log.now.0 log.now.1 ∷ self.old) self.new) }
     {
@@ -187,7 +188,7 @@ impl SureDisk {
         Ok(())
     }
 
-    // Puts a copy of each log under its name. Of two with one name the first counts, so it is laid last.
+    // Gives each named log a copy of these. Of two with one name the first one counts, so it is laid last.
     fn lay_named(&mut self, logs: &[NamedLog]) -> Result<(), NoMemory>
         ensures { OnOk result (self.new ≡ laid_over logs.now self.old) }
     {

@@ -28,7 +28,7 @@ use Rattle.vp_gateway.proofs.Splitting.{Asks, asks_none, asks_more, none_whole, 
 use Rattle.vp_gateway.proofs.Talking.{nothing_answered, answered_then, lost_then, cut_then, run_out_then, run_out_here}
 
 module _ (port site turns : ℕ) (old : Ahead) (source : SourceState) (sink : SinkState) (link : LinkState) where
-  -- These bytes were taken, and the lines passed are answered.
+  -- These bytes were taken, and the lines that came so far are answered.
   pub record Going (source' : SourceState) (now : Ahead) (sink' : SinkState) (link' : LinkState) : Type 0 where
     pub bytes : List ℕ
     pub took : Took bytes source source'
@@ -270,7 +270,7 @@ module _ (own site turns : ℕ) (source source' : SourceState) (sink : SinkState
   unopened ahead ends.LinkFault h = absurd h
 
   module _ (ahead : Ahead) (port : ℕ) (o : HasOpened site port ahead source source') (link1 : LinkState) where
-    -- behind the head stands what is unread, and more that is taken
+    -- after the head comes what is unread, and more that is taken
     abbrev with_more : (source'' : SourceState) (sink' : SinkState) (link' : LinkState) (h : HasTaken source' source'') → HasBegun own site turns (gate source source'' sink sink' link link')
     with_more source'' sink' link' h = record {
       bytes = o.bytes ++ h.bytes;

@@ -1,4 +1,4 @@
--- Reading the head of a session goes on line by line.
+-- Reading the head of a session, line by line.
 use Rattle.std.proofs.Common.{◌≡◌, ◌∙◌, ◌⊎◌, ℕ, ◌+◌, ◌-◌, ◌≤◌, ◌<◌, Bool, true, false, ◌==◌, List, [], ◌∷◌, ◌++◌, length, take, refl, sym, ap, subst, arith, append_assoc, append-nil, inl, inr, Result, Ok, Err, if◌then◌else◌}
 use Rattle.std.specs.Prelude.{codes, Option, Some, None}
 use Rattle.std.proofs.lemmas.Bool.{false≢true, ne_eqb, eqb-true}
@@ -56,10 +56,10 @@ first_plain : (text : List ℕ) → HasNoNewline text → first_line text ≡ te
 first_plain [] h = refl
 first_plain (c ∷ text) h = rw (ne_eqb c 10 h.0) (ap (λ (l : List ℕ). c ∷ l) (first_plain text h.1))
 
--- ---- where the reading stands
+-- ---- how far the reading is
 
 module _ (source : SourceState) where
-  -- These bytes were taken, and these lines of a head passed.
+  -- These bytes were taken, and these lines of a head were read.
   pub record Heading (source' : SourceState) (ahead : Ahead) (head : Head) (number : ℕ) : Type 0 where
     pub bytes : List ℕ
     pub took : Took bytes source source'
@@ -94,7 +94,7 @@ module _ (source : SourceState) where
   pub so_far : (source' : SourceState) (ahead : Ahead) (head : Head) (number : ℕ) → Heading source' ahead head number → IsCatalogueSoFar head.catalog
   so_far source' ahead head number h = subst (λ (d : Head). IsCatalogueSoFar d.catalog) h.head_is (part key h.lines h.front h.lines_are)
 
-  -- This text was taken next: a line, which leaves less than so much to take, or the rest of the input.
+  -- This text was taken next: a line, after which fewer bytes are left to take, or the rest of the input.
   pub record Next (size : ℕ) (source' : SourceState) (ahead : Ahead) (front text : List ℕ) : Type 0 where
     pub bytes : List ℕ
     pub took : Took bytes source source'
@@ -105,11 +105,11 @@ module _ (source : SourceState) where
     pub same_faults : source'.faults ≡ source.faults
 
   module _ (source' : SourceState) (ahead : Ahead) (head : Head) (number : ℕ) (h : Heading source' ahead head number) where
-    -- how much is left to pass and to take
+    -- how much is left to read and to take
     abbrev pub size : ℕ
     size = length ahead.unread + ahead.credit
 
-    -- what was taken by now and what is taken next
+    -- what was taken until now, and what is taken next
     joined : (more : List ℕ) → take most (h.bytes ++ more) ≡ h.front ++ (ahead.unread ++ fitting ahead.credit more)
     joined more =
         fitting_more 16777217 h.bytes more ∙ ap (λ n. take most h.bytes ++ fitting n more) (sym h.left) ∙ ap (λ (l : List ℕ). l ++ fitting ahead.credit more) h.parts
@@ -118,7 +118,7 @@ module _ (source : SourceState) where
     abbrev taken : (source'' : SourceState) (more : List ℕ) → Took more source' source'' → HasTaken source source''
     taken source'' more t = record { bytes = h.bytes ++ more; took = took_then h.bytes more source source' source'' h.took t }
 
-    -- no more bytes than there may be stand in a line
+    -- a line has no more bytes than it may have
     fits : (more body behind : List ℕ) → ahead.unread ++ fitting ahead.credit more ≡ body ++ behind → length body ≤ most
     fits more body behind e =
         omega (arith, ap length (joined more), length-append h.front (ahead.unread ++ fitting ahead.credit more), ap length e, length-append body behind, length-take most (h.bytes ++ more))
@@ -165,7 +165,7 @@ module _ (source : SourceState) where
 
       -- ---- nothing was found
 
-      -- behind the last newline no line stands
+      -- after the last newline there is no line
       lacks_head : (site : ℕ) → head.opened ≡ false → (n : HasNoLine most ahead ahead' line source' source'') → LacksHead site (take most (h.bytes ++ n.more))
       lacks_head site off n port text body is parts =
           let rest = ahead.unread ++ fitting ahead.credit n.more in
@@ -194,7 +194,7 @@ module _ (source : SourceState) where
       is_line : (e : HeadLine) (t : List ℕ) → LineText key head e t → IsLine t
       is_line e t l = line_is key key_is head so_far_here e t l
 
-      -- a line that is allowed is whole
+      -- an allowed line is whole
       line_whole : (e : HeadLine) → LineText key head e text → r.behind ≡ ahead'.unread
       line_whole e l = elim r.whole [ inl x ↦ x.1 | inr x ↦ absurd (newline_inside text (is_line e text l) x.0) ]
 
@@ -232,7 +232,7 @@ module _ (source : SourceState) where
         | inr x ↦ ap (λ (l : List ℕ). first_line (text ++ l)) x.1 ∙ ap first_line (append-nil text) ∙ first_plain text x.0
       ]
 
-      -- no line that is allowed stands there, if the text is none
+      -- there is no allowed line, if the text is none
       none_there : (at : ℕ) → IsNoLine head text at → (e : HeadLine) (t more : List ℕ) → LineText key head e t → text ++ r.behind ≡ t ++ more → ⊥
       none_there at miss e t more l parts = elim r.whole [
         | inl x ↦
@@ -284,7 +284,7 @@ module _ (source : SourceState) where
       refused site (faults.TooMany line limit) t = record { bytes = r.bytes; took = r.took; left = r.left; refused = (t.1, faulty_there Overfills line t.0 t.2.0 t.2.1 t.2.2) }
       refused site faults.NoMemory t = forgotten
 
-    -- ---- the key line has come
+    -- ---- the line `session` has come
 
     module _ (site : ℕ) (on : head.opened ≡ true) where
       abbrev whole_head : IsCatalogue head.catalog × (h.front ≡ catalogue_text head.catalog ++ key)
@@ -311,7 +311,7 @@ module _ (source : SourceState) where
         refused = record { catalogue = head.catalog; catalogue_is = whole_head.0; body = ahead.unread; parts = h.parts ∙ ap (λ (l : List ℕ). l ++ ahead.unread) whole_head.1; lacks = none };
       }
 
--- ---- where too much may have been taken
+-- ---- if too much was taken by then
 
 refused_lacks : (site : ℕ) (source : SourceState) (bytes : List ℕ) (end : GateEnd) → Refuses site source bytes end → LacksHead site bytes
 refused_lacks site source bytes (ends.BadLine line at) r port head body is parts =

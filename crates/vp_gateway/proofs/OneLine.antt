@@ -23,7 +23,7 @@ use Rattle.vp_gateway.specs.Answering.{Says, AnswersLine}
 use Rattle.vp_gateway.proofs.Talking.{asked_one, bad_one, long_one, no_lines, none_prefix}
 
 module _ (port site turns : ℕ) where
-  -- ---- what is said
+  -- ---- the text of the answer
 
   module _ {T : Type 0} (view : T → List ℕ) (text : T) (old new : LinkState) where
     pub says_answer : (words : Call) (a : Answer) → Asks port site words turns old new (Ok a) → view text ≡ said_line (Some a) → Says port site turns view (asked.Call words) old new (Ok text)
@@ -43,7 +43,7 @@ module _ (port site turns : ℕ) where
         subst (λ (a : Asked). IsSession port site turns (a ∷ []) (view text) old new) (sym line_is)
         (subst (λ (t : List ℕ). IsSession port site turns (asked.Long ∷ []) t old new) (sym is) (long_one port site turns old new same))
 
-  -- what is said of a line, where it asks this
+  -- the answer to a line that asks this
   pub says_as : {T : Type 0} (view : T → List ℕ) (line words : Asked) (old new : LinkState) (r : Result T GateEnd) → line ≡ words → Says port site turns view words old new r → Says port site turns view line old new r
   says_as view line words old new r same h = subst (λ (a : Asked). Says port site turns view a old new r) (sym same) h
 

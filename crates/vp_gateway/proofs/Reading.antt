@@ -1,4 +1,4 @@
--- What a line asks, by what reading it as a call answers.
+-- What a line asks, by the result of reading it as a call.
 use Rattle.std.proofs.Common.{◌≡◌, ◌∙◌, ℕ, ◌+◌, ◌-◌, ◌≤◌, Bool, true, false, List, [], length, refl, sym, ap, arith, Result, Ok, Err}
 use Rattle.std.proofs.lemmas.Bool.{lt-ltb, le-ltb}
 use Rattle.vp_text.specs.Meaning.{IsRefused}

@@ -15,7 +15,7 @@ split_line : (line more : List ℕ) → HasNoNewline line → split (line ++ 10 
 split_line [] more h = refl
 split_line (c ∷ cs) more h = rw (ne_eqb c 10 h.0) (ap (λ (s : Split). with_byte c s.lines s.rest) (split_line cs more h.1))
 
--- ---- what they ask
+-- ---- what the lines ask
 
 abbrev whole_of : Split → List Asked
 whole_of s = map (λ (line : List ℕ). line_as true line) s.lines
@@ -26,7 +26,7 @@ none_whole bytes h = ap whole_of (split_plain bytes h)
 pub last_alone : (bytes : List ℕ) → HasNoNewline bytes → all_lines bytes ≡ last_line bytes
 last_alone bytes h = ap (λ (s : Split). whole_of s ++ last_line s.rest) (split_plain bytes h)
 
--- These bytes are whole lines, which ask so, and what comes after them stands behind them.
+-- These bytes are whole lines that ask this, and what comes after them is after these lines.
 pub record Asks (front : List ℕ) (done : List Asked) : Type 0 where
   pub whole : (more : List ℕ) → whole_lines (front ++ more) ≡ done ++ whole_lines more
   pub all : (more : List ℕ) → all_lines (front ++ more) ≡ done ++ all_lines more
@@ -45,7 +45,7 @@ asks_more front done line plain h = record {
     joined : (more : List ℕ) → (front ++ (line ++ 10 ∷ [])) ++ more ≡ front ++ (line ++ 10 ∷ more)
     joined more = append_assoc front (line ++ 10 ∷ []) more ∙ ap (λ (l : List ℕ). front ++ l) (append_assoc line (10 ∷ []) more)
 
--- of a long line the front is enough
+-- the front of a long line is enough
 pub kept_as : (newline : Bool) (line : List ℕ) → line_as newline (take 4097 line) ≡ line_as newline line
 kept_as newline line = elim (cases_lt 4096 (length line)) [
   | inl lt ↦

@@ -1,4 +1,4 @@
--- Sessions that go on.
+-- Sessions that continue.
 use Rattle.std.proofs.Common.{◌≡◌, ◌∙◌, ◌⊎◌, ℕ, ◌+◌, ◌≤◌, List, [], ◌∷◌, ◌++◌, length, take, refl, sym, ap, subst, arith, append_assoc, append-nil, inl, inr}
 use Rattle.std.specs.Prelude.{Option, Some, None, Err}
 use Rattle.std.specs.Io.KnownBytes.{Appends}
@@ -94,7 +94,7 @@ module _ (port site turns : ℕ) where
       writes = Appends-trans sink.held sink1.held sink2.held h.text k.text h.writes k.writes;
     }
 
-    -- more lines stand behind the one that is answered
+    -- more lines come after the one that is answered
     regrouped : (front back more : List Asked) → line ∷ [] ≡ front ++ back → done ++ line ∷ more ≡ (done ++ front) ++ (back ++ more)
     regrouped front back more e = ap (λ (l : List Asked). done ++ (l ++ more)) e ∙ ap (λ (l : List Asked). done ++ l) (append_assoc front back more) ∙ sym (append_assoc done front (back ++ more))
 

@@ -26,7 +26,7 @@ module _ (port site turns : ℕ) where
       ⊎ ((text : List ℕ) × IsSession port site turns (line ∷ []) text old new)
   Says view line old new (Err end) = ⊥
 
-  -- That, and the text was put to the sink.
+  -- That holds, and the text was put to the sink.
   abbrev pub AnswersLine : Asked → Talk → Result ⊤ GateEnd → Type 0
   AnswersLine line t (Ok u) = HasAnswered port site turns t (line ∷ []) × (t.sink'.faults ≡ t.sink.faults)
   AnswersLine line t (Err ends.WriteFault) = HasCut port site turns t (line ∷ []) × Rose t.sink.faults t.sink'.faults
@@ -34,11 +34,11 @@ module _ (port site turns : ℕ) where
   AnswersLine line t (Err ends.NoMemory) = HasRunOut port site turns t (line ∷ [])
   AnswersLine line t (Err end) = ⊥
 
-  -- what there may be of a body, of which this was taken before and these bytes now
+  -- the body as far as the input may go, of which this was taken before and these bytes now
   abbrev pub body_of : Ahead → {source source' : SourceState} → HasTaken source source' → List ℕ
   body_of old h = old.unread ++ fitting old.credit h.bytes
 
-  -- Each line was answered, or those before the fault.
+  -- Each line was answered, or those before the fault were.
   abbrev pub AnswersLines : Ahead → SourceState → SourceState → Talk → Result ⊤ GateEnd → Type 0
   AnswersLines old source source' t (Ok u) =
       (h : HasTaken source source') × (length h.bytes < old.credit) × IsEnded source' × HasAnswered port site turns t (all_lines (body_of old h))

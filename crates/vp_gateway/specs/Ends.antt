@@ -1,4 +1,4 @@
--- The end of a gateway that a fault is.
+-- The end of a gateway that a fault of the catalogue becomes.
 use Rattle.vp_catalog.specs.declared.fault.CatalogFault.{CatalogFault}
 use Rattle.vp_catalog.specs.declared.fault.CatalogFault.TheVariants as lines
 use Rattle.vp_outside.specs.declared.source.InputFault.{InputFault}

@@ -1,4 +1,4 @@
--- The lines of a stream, and what each asks. It depends on the bytes alone, and not on how they were cut.
+-- The lines of a stream, and what each asks. It depends on the bytes alone, and not on how they came in parts.
 use Rattle.std.specs.Prelude.{⊤, ℕ, ◌+◌, ◌-◌, Bool, true, false, nat_lt, if◌then◌else◌, List, [], ◌∷◌, ◌++◌, length, map, codes, Option, Some, None, Result, Ok, Err}
 use Rattle.std.specs.Fmt.{decimal}
 use Rattle.vp_text.specs.Reading.{whole}
@@ -12,17 +12,17 @@ use Rattle.vp_gateway.specs.declared.asked.Asked.TheVariants as asked
 
 -- ---- what a line asks
 
--- by what a reader of calls says of the line, which has so many bytes
+-- what a line of so many bytes asks, by the result of reading it as a call
 abbrev pub read_as : Bool → ℕ → Result (Call × List ℕ) ℕ → Asked
 read_as true size (Ok read) = asked.Call read.0
 read_as false size (Ok read) = asked.Bad (size + 1)
 read_as newline size (Err left) = asked.Bad (size - left + 1)
 
--- A line asks a call where its newline has come and it isn't long.
+-- A line asks a call if its newline has come and it isn't long.
 abbrev pub line_as : Bool → List ℕ → Asked
 line_as newline line = if nat_lt 4096 (length line) then asked.Long else read_as newline (length line) (whole call_at line)
 
--- a call that may be sent, where it is one
+-- a call that may be sent, if it is a call
 abbrev pub AsksCall : Asked → Type 0
 AsksCall (asked.Call words) = IsCall words
 AsksCall (asked.Bad at) = ⊤
@@ -30,11 +30,11 @@ AsksCall asked.Long = ⊤
 
 -- ---- the lines of a stream
 
--- those whose newline stands there
+-- the lines whose newline is there
 abbrev pub whole_lines : List ℕ → List Asked
 whole_lines bytes = map (λ (line : List ℕ). line_as true line) (split bytes).lines
 
--- and, at its end, what stands behind the last newline, if there is any of it
+-- and, at the end, what comes after the last newline, if anything does
 abbrev pub last_line : List ℕ → List Asked
 last_line [] = []
 last_line (c ∷ cs) = line_as false (c ∷ cs) ∷ []

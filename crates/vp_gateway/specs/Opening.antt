@@ -19,7 +19,7 @@ use Rattle.vp_heads.specs.Heads.{LineText, blank, after, Onward, Repeats, Overfi
 use Rattle.vp_gateway.specs.declared.end.GateEnd.{GateEnd}
 use Rattle.vp_gateway.specs.declared.end.GateEnd.TheVariants as ends
 
--- the most bytes that an input has
+-- the most bytes that an input may have
 abbrev pub most : ℕ
 most = 16777216
 
@@ -43,12 +43,12 @@ pub record LacksSite (site : ℕ) (bytes : List ℕ) : Type 0 where
   pub parts : bytes ≡ (catalogue_text catalogue ++ key) ++ body
   pub lacks : value_at site catalogue.sites ≡ None
 
--- No allowed line stands there, and its newline has come, or the input has ended.
+-- This line is not allowed there, and its newline has come, or the input has ended.
 pub record IsBad (source : SourceState) (bytes : List ℕ) (line at : ℕ) : Type 0 where
   pub bad : IsBadLine blank after (LineText key) Onward bytes line at
   pub whole : IsLine (first_line bad.rest) ⊎ IsEnded source
 
--- what is said of these bytes
+-- the fault of these bytes
 abbrev pub Refuses : ℕ → SourceState → List ℕ → GateEnd → Type 0
 Refuses site source bytes (ends.BadLine line at) = IsBad source bytes line at
 Refuses site source bytes (ends.Twice line) = IsFaultyLine blank after (LineText key) Onward Repeats bytes line
@@ -60,7 +60,7 @@ Refuses site source bytes _ = ⊥
 abbrev pub LacksHead : ℕ → List ℕ → Type 0
 LacksHead site bytes = (port : ℕ) (head body : List ℕ) → IsHead site port head → bytes ≡ head ++ body → ⊥
 
--- ---- what is taken for it
+-- ---- the bytes that are taken for it
 
 -- These bytes were taken.
 pub record HasTaken (source source' : SourceState) : Type 0 where
@@ -71,11 +71,11 @@ pub record HasTaken (source source' : SourceState) : Type 0 where
 abbrev pub HasFailed : ℕ → SourceState → SourceState → Type 0
 HasFailed site source source' = Rose source.faults source'.faults × ((h : HasTaken source source') × LacksHead site (take most h.bytes))
 
--- More was taken than there may be, and no head with the site begins what there may be.
+-- More was taken than an input may have, and no head with the site begins its first 16,777,216 bytes.
 abbrev pub HasTakenTooMany : ℕ → SourceState → SourceState → Type 0
 HasTakenTooMany site source source' = (h : HasTaken source source') × (most < length h.bytes) × LacksHead site (take most h.bytes)
 
--- A head was taken, and what is left of the bytes that there may be stands behind it.
+-- A head was taken, and what was taken after it, as far as the input may go, is unread.
 pub record HasOpened (site port : ℕ) (new : Ahead) (source source' : SourceState) : Type 0 where
   pub bytes : List ℕ
   pub took : Took bytes source source'
@@ -85,7 +85,7 @@ pub record HasOpened (site port : ℕ) (new : Ahead) (source source' : SourceSta
   pub left : new.credit ≡ 16777217 - length bytes
   pub same_faults : source'.faults ≡ source.faults
 
--- A head was refused, by what was taken that there may be.
+-- A head was refused, by the bytes that were taken, as far as the input may go.
 pub record HasRefused (site : ℕ) (new : Ahead) (source source' : SourceState) (end : GateEnd) : Type 0 where
   pub bytes : List ℕ
   pub took : Took bytes source source'
@@ -102,7 +102,7 @@ FindsPort site new source source' (Err ends.Limit) = HasTakenTooMany site source
 FindsPort site new source source' (Err ends.NoMemory) = HasTaken source source'
 FindsPort site new source source' (Err end) = HasRefused site new source source' end
 
--- A head that is refused is no longer than there may be.
+-- A head that is refused is no longer than an input may be.
 pub record IsRefused (site : ℕ) (source source' : SourceState) (end : GateEnd) : Type 0 where
   pub bytes : List ℕ
   pub took : Took bytes source source'
@@ -128,7 +128,7 @@ limited true (ends.TooMany line limit) = ends.Limit
 limited true ends.NoSite = ends.Limit
 limited spent end = end
 
--- a line that was found, with its newline where that has come
+-- a line that was found, with its newline if that has come
 abbrev pub text_of : Found → List ℕ → List ℕ
 text_of found.Line line = line ++ 10 ∷ []
 text_of found.Rest line = line
@@ -143,7 +143,7 @@ pub record IsNoLine (d : Head) (text : List ℕ) (at : ℕ) : Type 0 where
 abbrev pub IsLineOf : (Head → HeadLine → Type 0) → Head → List ℕ → Type 0
 IsLineOf Fact d text = (e : HeadLine) × LineText key d e text × Fact d e
 
--- What the text says was added, or why not.
+-- What the text says was added, or why it was not.
 abbrev pub TakesLine : Head → List ℕ → ℕ → Head → Result ⊤ CatalogFault → Type 0
 TakesLine old text number new (Ok u) = (e : HeadLine) × LineText key old e text × (new ≡ after old e) × Onward old e
 TakesLine old text number new (Err (faults.BadLine line at)) = (line ≡ number) × IsNoLine old text at

@@ -10,7 +10,7 @@ use Rattle.vp_gateway.specs.Opening.{most, IsHead, HasTaken, HasFailed, HasTaken
 use Rattle.vp_gateway.specs.declared.end.GateEnd.{GateEnd}
 use Rattle.vp_gateway.specs.declared.end.GateEnd.TheVariants as ends
 
--- What the source, the sink and the link told as the call began and as it returned.
+-- The source, the sink and the link as serving began and as it returned.
 pub record Gate : Type 0 where
   pub source : SourceState
   pub source' : SourceState
@@ -32,7 +32,7 @@ module _ (own site turns : ℕ) (g : Gate) where
     pub sink : g.sink' ≡ g.sink
     pub link : g.link' ≡ g.link
 
-  -- These bytes were taken; those of them that there may be are a head and a body.
+  -- These bytes were taken; as far as the input may go, they are a head and a body.
   pub record HasBegun : Type 0 where
     pub bytes : List ℕ
     pub took : Took bytes g.source g.source'
@@ -42,7 +42,7 @@ module _ (own site turns : ℕ) (g : Gate) where
     pub body : List ℕ
     pub parts : take most bytes ≡ head ++ body
 
-  -- behind the head: the own port was bound first
+  -- after the head: the gateway's own port was bound first
   abbrev pub bound : Talk
   bound = talk g.sink g.sink' (bound_at own g.link) g.link'
 
@@ -67,7 +67,7 @@ module _ (own site turns : ℕ) (g : Gate) where
       (IsUncalled × HasFailed site g.source g.source')
       ⊎ (Rose g.source.faults g.source'.faults × ((b : HasBegun) × HasAnswered b.port site turns bound (whole_lines b.body)))
 
-  -- More bytes were taken than there may be: the lines that end within those are answered.
+  -- More bytes were taken than an input may have: the lines that end within those are answered.
   abbrev pub IsLimit : Type 0
   IsLimit =
       (IsUncalled × HasTakenTooMany site g.source g.source')

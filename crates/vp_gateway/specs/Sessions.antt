@@ -19,13 +19,14 @@ pub data Answers : List Asked → List Exchange → List ℕ → Type 0 where
   bad : (at : ℕ) (more : List Asked) (exchanges : List Exchange) (text : List ℕ) → Answers more exchanges text → Answers (asked.Bad at ∷ more) exchanges (bad_line at ++ text)
   long : (more : List Asked) (exchanges : List Exchange) (text : List ℕ) → Answers more exchanges text → Answers (asked.Long ∷ more) exchanges (long_line ++ text)
 
--- These lines were answered with this text: their calls were asked of the site, one after the other, and nothing else was done with the link.
+-- These lines were answered with this text: their calls were asked of the site, one after the other, and nothing else was done with the
+-- link.
 pub record IsSession (port site turns : ℕ) (lines : List Asked) (text : List ℕ) (old new : LinkState) : Type 0 where
   pub exchanges : List Exchange
   pub answers : Answers lines exchanges text
   pub conversed : Conversed port site turns exchanges old new
 
--- What the sink and the link told before some lines were answered and after it.
+-- The sink and the link before some lines were answered and after it.
 pub record Talk : Type 0 where
   pub sink : SinkState
   pub sink' : SinkState
@@ -36,7 +37,7 @@ abbrev pub talk : SinkState → SinkState → LinkState → LinkState → Talk
 talk sink sink' link link' = record { sink = sink; sink' = sink'; link = link; link' = link' }
 
 module _ (port site turns : ℕ) (t : Talk) (lines : List Asked) where
-  -- These lines were answered, all of them, and no other call was made on sink or link.
+  -- These lines were answered, all of them, and no other call was made to the sink or the link.
   pub record HasAnswered : Type 0 where
     pub text : List ℕ
     pub session : IsSession port site turns lines text t.link t.link'
@@ -63,7 +64,7 @@ module _ (port site turns : ℕ) (t : Talk) (lines : List Asked) where
     pub session : IsSession port site turns front text t.link t.link'
     pub writes : AppendsPrefix t.sink.held t.sink'.held text
 
-  -- Memory ran out, in a call or beside one.
+  -- Memory ran out, in a call or between two.
   pub record HasRunOut : Type 0 where
     pub front : List Asked
     pub back : List Asked

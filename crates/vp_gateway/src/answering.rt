@@ -18,7 +18,7 @@ use vp_outside::{Link, Sink, write_all};
 use vp_text::print_number;
 use vp_trace::print_answer;
 
-/// Answers a line: puts its answer to the sink, after it asked the site where the line is a call.
+/// Answers a line: asks the site, if the line is a call, and puts the answer to the sink.
 #[tactic(auto, using(crate::proofs::OneLine::unsaid, crate::proofs::OneLine::put_whole, crate::proofs::OneLine::put_part))]
 pub fn answer<K: Sink, L: Link>(
     alloc: Global,
@@ -41,7 +41,7 @@ pub fn answer<K: Sink, L: Link>(
     Ok(())
 }
 
-/// The answer to a line, with its newline.
+/// Makes the answer to a line, with its newline: that of the site if the line is a call, and else its fault.
 #[tactic(auto, using(crate::proofs::OneLine::says_as, crate::proofs::OneLine::says_bad, crate::proofs::OneLine::says_long))]
 fn said<L: Link>(
     alloc: Global,
@@ -64,7 +64,7 @@ fn said<L: Link>(
     }
 }
 
-/// What the site answers, as a line.
+/// Asks the site, and makes a line of its answer: `no answer` where none is among `turns` datagrams.
 #[tactic(auto, using(crate::proofs::OneLine::says_answer, crate::proofs::OneLine::says_none, crate::proofs::OneLine::forgets_answer, crate::proofs::OneLine::forgets_none))]
 fn asked<L: Link>(
     alloc: Global,
@@ -87,7 +87,7 @@ fn asked<L: Link>(
     }
 }
 
-/// The line of an answer.
+/// Prints the answer as a line.
 #[tactic(auto, using(vp_text::proofs::Printing::printing))]
 fn print_said(alloc: Global, answer: &Answer) -> Result<Vec<u8>, NoMemory>
     ensures { IfOk result (λ text. text.items ≡ answer_text answer.now ++ 10 ∷ []) }
@@ -98,7 +98,7 @@ fn print_said(alloc: Global, answer: &Answer) -> Result<Vec<u8>, NoMemory>
     Ok(text)
 }
 
-/// The line that says at which byte a line is no call.
+/// Prints the line that says at which byte a line is no call.
 #[tactic(auto, using(vp_text::proofs::Printing::printing))]
 fn print_bad(alloc: Global, at: usize) -> Result<Vec<u8>, NoMemory>
     ensures { IfOk result (λ text. text.items ≡ bad_line at) }

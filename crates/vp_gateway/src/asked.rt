@@ -15,13 +15,14 @@ pub const MOST_LINE: usize = 4096;
 pub enum Asked {
     /// This call.
     Call(Call),
-    /// Nothing: it is no call, and goes wrong at this byte.
+    /// Nothing: it is no call, since no call goes on after the bytes before byte `at`, counted from 1.
     Bad { at: usize },
-    /// Nothing: it is too long.
+    /// Nothing: it is longer than 4,096 bytes.
     Long,
 }
 
-/// Reads a line, of which no more than a byte more than there may be is given. One whose newline hasn't come is no call.
+/// Reads what a line asks. No more than 4,097 bytes of a line are given, which is enough to see that it is too long. A line whose newline
+/// hasn't come is no call.
 #[tactic(auto, using(crate::proofs::Reading::long_as, crate::proofs::Reading::call_as, crate::proofs::Reading::unended_as, crate::proofs::Reading::bad_as))]
 pub fn read_line(alloc: Global, line: &[u8], newline: bool) -> Result<Asked, NoMemory>
     requires { length line.now ≤ 4097 }

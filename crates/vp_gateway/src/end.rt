@@ -9,16 +9,16 @@ use vp_base::NoMemory;
 use vp_catalog::CatalogFault;
 use vp_outside::{InputFault, OutFault};
 
-/// How a gateway ends.
+/// How a gateway ends. What was answered before is in the sink.
 #[derive(Clone, Copy, Debug, Drop, PartialEq, Eq)]
 pub enum GateEnd {
-    /// The input was answered to its end.
+    /// All lines were answered, to the end of the input.
     Done,
-    /// No allowed line of a catalogue or of its end stands there: it goes wrong at this byte.
+    /// The line is neither one of a catalogue nor the line after one: it goes wrong at byte `at`. Lines and bytes are counted from 1.
     BadLine { line: usize, at: usize },
-    /// The line gives a port or a record's name that an earlier line gives.
+    /// The line has a port or a record's name that an earlier line has.
     Twice { line: usize },
-    /// The record line is one more than there may be.
+    /// The line is one record more than there may be.
     TooMany { line: usize, limit: u32 },
     /// The catalogue lacks the site.
     NoSite,
@@ -28,7 +28,7 @@ pub enum GateEnd {
     WriteFault,
     /// The port wasn't bound, or a call of the link failed.
     LinkFault,
-    /// More bytes were taken than there may be.
+    /// The input is longer than 16,777,216 bytes.
     Limit,
     NoMemory,
 }

@@ -1,4 +1,4 @@
-//! Reading the head of a session.
+//! Reading the head of a session: a catalogue and the line `session`.
 
 ghost use Rattle.std.specs.Prelude.{◌≡◌, ◌⊎◌, false, OnOk};
 ghost use Rattle.vp_text.specs.Documents.{HasNoNewline, IsLine};
@@ -10,12 +10,13 @@ use crate::end::GateEnd;
 use std::alloc::Global;
 use vp_base::{LineFault, NoMemory, SiteId};
 use vp_catalog::CatalogFault;
-use vp_heads::{Head, take_head};
+use vp_heads::{Head, parse_head};
 use vp_lines::{Found, MOST_TAKEN, Unread};
 use vp_outside::Source;
 use vp_text::Cursor;
 
-/// Reads a catalogue and the line `session`, and answers the port of the site. Where more was taken than may be, nothing else is said.
+/// Reads a catalogue and the line `session`, and returns the port of the site. If more bytes were taken than an input may have, the
+/// fault is `Limit`, whatever else is wrong.
 pub fn open<S: Source>(
     alloc: Global,
     source: &mut S,
@@ -31,7 +32,7 @@ pub fn open<S: Source>(
     }
 }
 
-/// How reading ends, where too much may have been taken by then.
+/// Returns the fault `Limit` instead of the other one, if more bytes were taken than an input may have.
 fn limited(end: GateEnd, spent: bool) -> GateEnd
     ensures { result ≡ limited spent end }
 {
@@ -44,7 +45,7 @@ fn limited(end: GateEnd, spent: bool) -> GateEnd
     }
 }
 
-/// The port of the site in the catalogue, whose lines end with the line `session`.
+/// Reads a catalogue and the line `session`, and finds the port of the site in it.
 fn find_port<S: Source>(
     alloc: Global,
     source: &mut S,
@@ -69,7 +70,7 @@ fn find_port<S: Source>(
     }
 }
 
-/// Puts the newline behind a line whose newline has come.
+/// Adds the newline to a line whose newline has come.
 fn end_line(line: &mut Vec<u8>, found: Found) -> Result<(), NoMemory>
     ensures { OnOk result (line.new.items ≡ text_of found line.old.items) }
 {
@@ -83,7 +84,7 @@ fn end_line(line: &mut Vec<u8>, found: Found) -> Result<(), NoMemory>
     }
 }
 
-/// Adds what the line of this number says, which is the whole text.
+/// Reads the text as the line of this number, and adds what it says to the head.
 fn add_line(alloc: Global, head: &mut Head, text: &[u8], number: usize) -> Result<(), CatalogFault>
     requires closed { head.old.opened ≡ false }
     requires so_far { IsCatalogueSoFar head.old.catalog }
@@ -91,7 +92,7 @@ fn add_line(alloc: Global, head: &mut Head, text: &[u8], number: usize) -> Resul
     ensures { TakesLine head.old text.now number head.new result }
 {
     let mut cursor = Cursor::new(text);
-    match take_head(alloc, &mut cursor, &head.catalog, b"session\n") {
+    match parse_head(alloc, &mut cursor, &head.catalog, b"session\n") {
         Ok(line) => head.add(line, number),
         Err(LineFault::NoMemory) => Err(CatalogFault::NoMemory),
         Err(LineFault::Unexpected(e)) => Err(CatalogFault::BadLine {

@@ -1,4 +1,4 @@
-//! Serving the lines of a source.
+//! Serving a session: the lines of a source.
 
 ghost use Rattle.std.specs.Prelude.{◌≡◌, None, IsTrue};
 ghost use Rattle.vp_gateway.specs.Sessions.{talk};
@@ -14,8 +14,8 @@ use vp_base::SiteId;
 use vp_lines::{Found, Unread};
 use vp_outside::{Link, Sink, Source};
 
-/// Reads a catalogue and the line `session`, binds the gateway's own port, and answers each further line before more is taken: a call by
-/// what the site answers, another line by its fault.
+/// Reads a catalogue and the line `session`, binds the gateway's own port, and answers each further line before more is taken: a call
+/// with the answer of the site, another line with its fault.
 pub fn serve<S: Source, K: Sink, L: Link>(
     alloc: Global,
     source: &mut S,

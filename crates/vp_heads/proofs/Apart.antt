@@ -1,4 +1,4 @@
--- Bytes begin with one head at most.
+-- Bytes begin with at most one head.
 use Rattle.std.proofs.Common.{◌≡◌, ℕ, ◌≤◌, List, [], ◌∷◌, ◌++◌, length, refl, sym, ap, subst, ◌∙◌, true, false, cond}
 use Rattle.std.proofs.lemmas.Bool.{false≢true}
 use Rattle.vp_text.specs.Documents.{IsBadLine, IsFaultyLine}
@@ -28,7 +28,7 @@ overfills_stop key d (kind.Entry (entry.Site site port)) f o = f
 overfills_stop key d (kind.Entry (entry.Record placed)) f o = false≢true (sym o.0 ∙ f)
 overfills_stop key d kind.Key f o = f
 
--- each line of a head is allowed before the key line alone
+-- each line of a head is allowed only before the key line
 closed : (key : List ℕ) (d : Head) (e : HeadLine) (t : List ℕ) → LineText key d e t → d.opened ≡ false
 closed key d (kind.Entry entry) t h = h.0
 closed key d kind.Key t h = h.0
@@ -44,7 +44,7 @@ plain key is most = record {
 
 -- ---- the lines of a head
 
--- the lines that say a catalogue, with the key line behind them
+-- the lines of a catalogue, and then the key line
 pub record LinesOf (key : List ℕ) (c : Catalogue) : Type 0 where
   pub lines : List HeadLine
   pub lines_are : Lines key lines (catalogue_text c ++ key)
@@ -82,7 +82,7 @@ module _ (key : List ℕ) (is : IsKey key) (text : List ℕ) where
   abbrev Last : Part → Type 0
   Last d = IsLast blank after (LineText key) Onward d
 
-  -- behind the key line there is no other
+  -- after the key line there is no other
   opened_last : (d : Part) → (said key d.lines).opened ≡ true → Last d
   opened_last d on more = false≢true (sym (closed key (said key d.lines) more.entry more.line more.line_is) ∙ on)
 

@@ -21,7 +21,7 @@ use Rattle.vp_heads.specs.declared.head.Head.{Head}
 use Rattle.vp_heads.specs.Heads.{LineText}
 use Rattle.vp_heads.specs.HeadReading.{entry_line_at, key_line_at, head_at}
 
--- A line, which no line of a catalogue begins, and which begins none.
+-- The text is a line that no line of a catalogue begins and that begins none.
 pub record IsKey (key : List ℕ) : Type 0 where
   pub line : IsLine key
   pub no_site : differ (codes "site ") key ≡ true
@@ -33,7 +33,7 @@ EntryLine c = Made (EntryText c) (λ e. kind.Entry e)
 abbrev KeyLine : List ℕ → HeadLine → List ℕ → Type 0
 KeyLine key = Made (IsLiteral key) (λ u. kind.Key)
 
--- ---- a line of a catalogue begins otherwise
+-- ---- a line of a catalogue begins differently
 
 site_opens : (c : Catalogue) → Opens (codes "site ") (SiteText c)
 site_opens c = λ site t h. (decimal site.0 ++ 32 ∷ (decimal site.1 ++ 10 ∷ []), h.is)
@@ -65,7 +65,7 @@ clear_key key is c = λ a b t r l m. by m.from t r m.spelled a l
     by (entry.Site site port) t r h a l = clear_keys {L = KeyLine key} {M = SiteText c} key (codes "site ") (differ_back (codes "site ") key is.no_site) (made_opens key) (site_opens c) a (site, port) t r l h
     by (entry.Record placed) t r h a l = clear_keys {L = KeyLine key} {M = RecordText c} key (codes "record ") (differ_back (codes "record ") key is.no_record) (made_opens key) (record_opens c) a placed t r l h
 
--- ---- they are read exactly
+-- ---- the lines are read exactly
 
 entry_parts_exact : (c : Catalogue) → Exact (EntryText c) (entry_at c) → Exact (EntryLine c) (entry_line_at c)
 unfolding entry_line_at

@@ -1,4 +1,4 @@
--- The lines of a head one after the other.
+-- The lines of a head, one after the other.
 use Rattle.std.proofs.Common.{◌≡◌, ℕ, ◌+◌, ◌≤◌, ◌<◌, List, [], ◌∷◌, ◌++◌, length, refl, sym, ap, subst, ◌∙◌, true, false}
 use Rattle.std.proofs.lemmas.Bool.{false≢true, leb-false}
 use Rattle.vp_text.specs.Documents.{IsLine, reached, LinesText}
@@ -38,7 +38,7 @@ module _ (key : List ℕ) where
   abbrev pub Lines : List HeadLine → List ℕ → Type 0
   Lines = LinesText blank after (LineText key) Onward
 
-  -- the catalogue that they say a part of
+  -- the part of a catalogue that they say
   pub part : (es : List HeadLine) (t : List ℕ) → Lines es t → IsCatalogueSoFar (said es).catalog
   part [] t h = catalogue.empty
   part (kind.Entry (entry.Site site port) ∷ es) t h = catalogue.site_added (said es).catalog (site, port) (part es h.0 h.2) h.3.1.first h.3.1.site_is h.4
@@ -46,7 +46,7 @@ module _ (key : List ℕ) where
       catalogue.record_added (said es).catalog placed (part es h.0 h.2) h.3.1.record_is (leb-false 256 (length (said es).catalog.records) h.4.0) h.4.1
   part (kind.Key ∷ es) t h = part es h.0 h.2
 
-  -- ---- the catalogue's lines among them
+  -- ---- the lines of the catalogue among them
 
   abbrev entries_of : List HeadLine → List Entry
   entries_of [] = []
@@ -58,7 +58,7 @@ module _ (key : List ℕ) where
   catalogue_said (kind.Entry entry ∷ es) = ap (λ (c : Catalogue). entries.after c entry) (catalogue_said es)
   catalogue_said (kind.Key ∷ es) = catalogue_said es
 
-  -- before the key line there are no others
+  -- before the key line there are only lines of the catalogue
   head_whole : (es : List HeadLine) (t : List ℕ) → Lines es t → (said es).opened ≡ false → catalogue.Lines (entries_of es) t
   head_whole [] t h off = h
   head_whole (kind.Entry entry ∷ es) t h off = (
@@ -71,7 +71,7 @@ module _ (key : List ℕ) where
   )
   head_whole (kind.Key ∷ es) t h off = absurd (false≢true (sym off))
 
-  -- A head is the text of a catalogue, and the key line.
+  -- A head is the text of a catalogue, and then the key line.
   pub head_spelled : (es : List HeadLine) (t : List ℕ) → Lines es t → (said es).opened ≡ true → IsCatalogue (said es).catalog × (t ≡ catalogue_text (said es).catalog ++ key)
   head_spelled [] t h on = absurd (false≢true on)
   head_spelled (kind.Entry entry ∷ es) t h on = absurd (false≢true (sym h.3.0 ∙ on))

@@ -16,6 +16,6 @@ key_line_at key bytes = do
   it ← literal_at key bytes
   Ok (kind.Key, it.1)
 
--- a line of the catalogue or, where there is a site, the key line
+-- a line of the catalogue or, where there is a site already, the key line
 unfoldable pub head_at : List ℕ → Catalogue → List ℕ → Result (HeadLine × List ℕ) ℕ
 head_at key catalogue bytes = cond (nat_lt 0 (length catalogue.sites)) (either (entry_line_at catalogue bytes) (key_line_at key bytes)) (entry_line_at catalogue bytes)

@@ -1,4 +1,5 @@
--- The lines of a head, each allowed after the lines before it: those of a catalogue, and then the key line, which is given with its newline.
+-- The lines of a head, each allowed by the lines before it: those of a catalogue, and then the key line, which is given with its
+-- newline.
 use Rattle.std.specs.Prelude.{◌≡◌, ⊤, ℕ, ◌<◌, List, length, true, false, Result, Ok, Err}
 use Rattle.vp_catalog.specs.declared.fault.CatalogFault.{CatalogFault}
 use Rattle.vp_catalog.specs.declared.fault.CatalogFault.TheVariants as faults
@@ -10,17 +11,17 @@ use Rattle.vp_heads.specs.declared.head.Head.{Head}
 
 -- ---- the lines
 
--- The key line stands behind one or more sites; the lines of the catalogue stand before it.
+-- The key line comes after at least one site, and after all lines of the catalogue.
 abbrev pub LineText : List ℕ → Head → HeadLine → List ℕ → Type 0
 LineText key d (kind.Entry entry) text = (d.opened ≡ false) × entries.EntryText d.catalog entry text
 LineText key d kind.Key text = (d.opened ≡ false) × (0 < length d.catalog.sites) × (text ≡ key)
 
--- The line may be added where the lines before it say so much.
+-- The lines before it allow the line to be added.
 abbrev pub Allows : Head → HeadLine → Type 0
 Allows d (kind.Entry entry) = adding.IsAllowed d.catalog entry
 Allows d kind.Key = ⊤
 
--- ---- from line to line
+-- ---- from one line to the next
 
 abbrev pub blank : Head
 blank = record { catalog = entries.nothing; opened = false }
@@ -39,7 +40,7 @@ abbrev pub Repeats : Head → HeadLine → Type 0
 Repeats d (kind.Entry entry) = entries.Repeats d.catalog entry
 Repeats d kind.Key = ⊥
 
--- It is a record line behind 256 of them.
+-- It is a record line after 256 records.
 abbrev pub Overfills : Head → HeadLine → Type 0
 Overfills d (kind.Entry entry) = entries.Overfills d.catalog entry
 Overfills d kind.Key = ⊥

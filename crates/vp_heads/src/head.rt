@@ -1,4 +1,4 @@
-//! What the lines of a head say so far.
+//! What the first lines of a head say.
 
 ghost use Rattle.std.specs.Prelude.{◌≡◌};
 ghost use Rattle.vp_heads.specs.Heads.{blank, Allows, Adds};
@@ -7,7 +7,7 @@ use crate::line::HeadLine;
 use std::alloc::Global;
 use vp_catalog::{Catalog, CatalogFault};
 
-/// The catalogue of a head that is being read, and whether the key line has come.
+/// The catalogue of a head as far as it was read, and whether the key line has come.
 #[derive(Drop)]
 pub struct Head {
     pub catalog: Catalog,
@@ -15,7 +15,7 @@ pub struct Head {
 }
 
 impl Head {
-    /// What no lines say, which takes no memory.
+    /// Makes the head of no lines. Takes no memory.
     pub fn new(alloc: Global) -> Head
         ensures { result ≡ blank }
     {
@@ -25,7 +25,7 @@ impl Head {
         }
     }
 
-    /// Adds what the line of this number says. After an `Err` nothing is added.
+    /// Adds what the line of this number says. After an `Err` the head is as it was.
     pub fn add(&mut self, line: HeadLine, number: usize) -> Result<(), CatalogFault>
         requires { Allows self.old line }
         ensures { Adds self.old line number self.new result }

@@ -1,4 +1,4 @@
-//! Heads: the lines of a catalogue and then one line, the key line, behind which something else stands.
+//! Heads: the lines of a catalogue and then one line, the key line, after which something else follows.
 #![tactic(auto)]
 
 mod head;
@@ -7,4 +7,4 @@ mod reading;
 
 pub use head::Head;
 pub use line::HeadLine;
-pub use reading::take_head;
+pub use reading::parse_head;

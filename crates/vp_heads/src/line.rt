@@ -1,7 +1,8 @@
-//! A line of a head.
+//! The lines of a head.
 
 use vp_catalog::Entry;
 
+/// What a line of a head says.
 #[derive(Drop)]
 pub enum HeadLine {
     /// A line of the catalogue.

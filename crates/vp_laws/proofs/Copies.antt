@@ -1,4 +1,4 @@
--- Copies, their refresh and the records that are used, in one induction. It uses all above.
+-- Copies, their refresh, and the records that are used, in one induction. It uses all of the above.
 pub mod OneDoubt
 pub mod Force
 pub mod ForceAt

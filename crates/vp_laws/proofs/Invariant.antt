@@ -1,4 +1,5 @@
--- The invariant: a record in the file of its name for each part, a line of words for each clause, and what follows from a part in one world.
+-- The invariant: for each part a record in the file of its name, with a line for each clause, and what follows from a part in one
+-- world.
 -- It uses Lists, Journal, Moves, Table and Worlds.
 pub mod Views
 pub mod Led

@@ -1,4 +1,4 @@
--- Facts of a journal: its order by views, what its entries make of values, and what plays on them. It uses Lists.
+-- Facts on journals: the order by views, what the entries do to values, and what can be played on them. It uses Lists.
 pub mod Play
 pub mod Order
 pub mod Places

@@ -1,4 +1,5 @@
--- Each part about sites and messages is kept by every event; and what is known of one step in a world where all of them hold. It uses all above.
+-- Each part on sites and messages is kept by every event; and what is known of one step in a world where all parts hold. It uses
+-- all of the above.
 pub mod Below
 pub mod Endings
 pub mod Held

@@ -1,4 +1,4 @@
--- Each folder uses those above it alone, as the head of the file of its name says.
+-- Each folder uses only those above it, as the head of the file of its name says.
 pub mod Lists
 pub mod Journal
 pub mod Moves
@@ -12,3 +12,4 @@ pub mod Order
 pub mod Replies
 pub mod Words
 pub mod Told
+pub mod Routes

@@ -1,4 +1,4 @@
--- The step table in small moves: what a property has to survive, and that each row is made of such moves. It uses Lists.
+-- The step table in small moves: what a property has to survive, and that each row consists of such moves. It uses Lists.
 pub mod Table
 pub mod LocalViews
 pub mod Parts

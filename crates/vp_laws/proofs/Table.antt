@@ -1,4 +1,4 @@
--- What one step of a site keeps and tells, a table of the small moves in each file. It uses Lists, Journal and Moves.
+-- What one step of a site keeps and reports, in each file a table of the small moves. It uses Lists, Journal and Moves.
 pub mod ToldLines
 pub mod ToldCalls
 pub mod LocalLocks

@@ -1,4 +1,5 @@
--- The operations that clients are told of, that what they are refused is justified, and that every schedule is one copy. It uses all above.
+-- Clients are answered the operations that are committed, what they are refused is justified, and every schedule is one copy. It
+-- uses all of the above.
 pub mod At
 pub mod Moves
 pub mod Runs

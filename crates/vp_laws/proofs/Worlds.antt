@@ -1,4 +1,5 @@
--- What a world is to the proofs, what an event changes of it, and the inductions over the events of a schedule. It uses Lists, Moves and Table.
+-- What the proofs see of a world, what an event changes in it, and the inductions over the events of a schedule. It uses Lists,
+-- Moves and Table.
 pub mod Scenes
 pub mod Events
 pub mod Sites

@@ -8,7 +8,8 @@ use Rattle.vp_model.specs.Words.{same_txn}
 abbrev pub is_of : TxnId → ℕ → TxnId → ℕ → Bool
 is_of txn number t n = same_txn t txn && (n == number)
 
--- an answer to the call of this number on the transaction; one that names no number or the expected one is known by the transaction
+-- an answer to the call with this number on the transaction; one that has no number, or the expected one, is recognized by the
+-- transaction
 abbrev pub answers_numbered : TxnId → ℕ → Answer → Bool
 answers_numbered txn number (answer.Value t n value) = is_of txn number t n
 answers_numbered txn number (answer.Written t n) = is_of txn number t n

@@ -1,4 +1,4 @@
--- What the copies of some sites tell of the one copy.
+-- What the copies of some sites say of the one copy.
 use Rattle.std.specs.Prelude.{◌≡◌, ℕ, true, false, List, Some}
 use Rattle.std.specs.List.{Contains}
 use Rattle.vp_model.specs.Types.{Stored, Doubt}
@@ -18,8 +18,8 @@ AreCertain w sites rec = (s : ℕ) (u : Doubt) → Contains sites s → Contains
 abbrev pub IsNewest : WorldState → List ℕ → ℕ → Stored → Type 0
 IsNewest w sites rec copy = (s : ℕ) (c : Stored) → Contains sites s → value_at rec (copies_of w s) ≡ Some c → view_before copy.date c.date ≡ false
 
--- Where more than half of a record's weight is at sites that are not in doubt on it, the newest of their copies has the value that the
--- committed transactions, taken by view and then by moment of commit, leave.
+-- Where more than half of a record's weight is at sites that are not in doubt about it, the newest of their copies has the value
+-- that the committed transactions, ordered by view and then by moment of commit, leave.
 abbrev pub MajoritiesTell : Catalogue → WorldState → Type 0
 MajoritiesTell catalogue w =
     (sites : List ℕ) (rec s : ℕ) (copy : Stored) → accessible catalogue rec sites ≡ true → AreCertain w sites rec → Contains sites s → value_at rec (copies_of w s) ≡ Some copy → IsNewest w sites rec copy →

@@ -1,4 +1,4 @@
--- What a site does not leave undone: a transaction whose last vote comes commits, and a copy that may be read is read.
+-- What a site never leaves undone: a transaction whose last vote comes is committed, and a copy that may be read is read.
 use Rattle.std.specs.Prelude.{◌≡◌, ℕ, ◌+◌, ◌<◌, true, List, [], ◌∷◌, length, Some, None}
 use Rattle.std.specs.List.{Contains}
 use Rattle.vp_model.specs.Types.{Pending, Live, Stored}
@@ -14,19 +14,19 @@ use Rattle.vp_model.specs.World.{WorldState, site_of}
 use Rattle.vp_model.specs.Headline.{is_readable}
 use Rattle.vp_laws.specs.Votes.{is_commit}
 
--- the pending call waits for this site alone
+-- the pending call waits only for this site
 abbrev pub WaitsForOne : Pending → ℕ → Type 0
 WaitsForOne p from = Contains p.missing from × ((q : ℕ) → Contains p.missing q → q ≡ from)
 
--- the vote of the last missing site gives the entry, and the commit is answered
+-- the vote of the last missing site commits the transaction, and the commit is answered
 abbrev pub LastVotesCommit : Catalogue → WorldState → Type 0
 LastVotesCommit catalogue w =
     (site from : ℕ) (x : SiteState) (t : Live) (p : Pending) → site_of w site ≡ Some x → Contains x.live t → t.pending ≡ Some p → is_commit p.call ≡ true → WaitsForOne p from →
     ((step catalogue x (input.Message from (message.Vote t.txn))).effects.commits ≡ (record { txn = t.txn; view = t.view; ops = t.ops }) ∷ [])
     × ((step catalogue x (input.Message from (message.Vote t.txn))).effects.replies ≡ (record { to = p.port; answer = answer.Committed t.txn p.number }) ∷ [])
 
--- an operation of this number on this name is the transaction's next call, none is pending, the catalogue has the record at this place,
--- and fewer than 64 operations are done
+-- the transaction's next call is an operation with this number on the record of this name and place, no call is pending, and fewer
+-- than 64 operations are done
 pub record IsNextOperation (catalogue : Catalogue) (t : Live) (number : ℕ) (name : List ℕ) (rec : ℕ) : Type 0 where
   pub idle : t.pending ≡ None
   pub next : number ≡ length t.answers + 1

@@ -12,7 +12,7 @@ use Rattle.vp_model.specs.Step.{step}
 use Rattle.vp_model.specs.World.{WorldState, site_of}
 use Rattle.vp_model.specs.Headline.{has_entry}
 
--- the input may come to the site next: a message only where it was sent to the site
+-- the input may come to the site next: a message only if it was sent to the site
 abbrev pub MayCome : WorldState → ℕ → Input → Type 0
 MayCome w site (input.Message from m) = Contains w.sent (record { from = from; to = site; message = m })
 MayCome w site given = Unit {0}
@@ -25,8 +25,8 @@ Forces catalogue x given txn commit = Contains (step catalogue x given).effects.
 abbrev pub dated_at : ViewId → ℕ × List ℕ → ℕ × Stored
 dated_at view write = (write.0, record { value = write.1; date = view })
 
--- where a copy after the step comes from: it was there; it is a write of a doubt whose commit the step forces; it is a write of an
--- entry that the step makes; or it is an answer to the refresh of the record here, which was kept or comes now
+-- where a copy after the step comes from: it was there; it is a write of a transaction in doubt whose commit the step forces; it is
+-- a write of an entry that the step makes; or it is an answer to the refresh of the record here, kept before or coming now
 pub data CopyComes (catalogue : Catalogue) (x : SiteState) (given : Input) (copy : ℕ × Stored) : Type 0 where
   kept : Contains x.copies copy → CopyComes catalogue x given copy
   doubted : (d : Doubt) (write : ℕ × List ℕ) → Contains x.doubts d → Forces catalogue x given d.txn true → Contains d.writes write → copy ≡ dated_at d.view write → CopyComes catalogue x given copy
@@ -35,16 +35,16 @@ pub data CopyComes (catalogue : Catalogue) (x : SiteState) (given : Input) (copy
 
 -- by: the journal before the step; last: the journal in the end
 pub record EndsByJournal (catalogue : Catalogue) (by last : List Commit) (x : SiteState) (given : Input) : Type 0 where
-  -- a doubt is there after the step, or ends by an outcome
+  -- a transaction in doubt is still so after the step, or ends by an outcome
   pub ends : (d : Doubt) → Contains x.doubts d → Contains (step catalogue x given).site.doubts d ⊎ ((commit : Bool) × Forces catalogue x given d.txn commit)
-  -- by a commit, which makes its writes copies, only where the transaction has an entry
+  -- by a commit, which makes its writes copies, only where the journal has the transaction
   pub commits : (txn : TxnId) → Forces catalogue x given txn true → has_entry by txn ≡ true
-  -- by an abort, which drops it, only where the transaction never has one
+  -- by an abort, only where the journal never has the transaction
   pub aborts : (txn : TxnId) → Forces catalogue x given txn false → has_entry last txn ≡ false
-  -- no doubt becomes a copy in any other way
+  -- no write of a transaction in doubt becomes a copy in any other way
   pub copies : (copy : ℕ × Stored) → Contains (step catalogue x given).site.copies copy → CopyComes catalogue x given copy
 
--- whatever comes next to a site, it ends its doubts as the journal says
+-- whatever comes to a site next, it ends its doubts as the journal says
 abbrev pub DecisionsAgree : Catalogue → List Commit → WorldState → Type 0
 DecisionsAgree catalogue last w =
     (site : ℕ) (x : SiteState) (given : Input) → site_of w site ≡ Some x → MayCome w site given → EndsByJournal catalogue w.journal last x given

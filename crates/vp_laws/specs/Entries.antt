@@ -1,4 +1,4 @@
--- What the journal tells of transactions, and what the votes on a live one have left.
+-- What the journal says of transactions, and what the votes on a live one have left.
 use Rattle.std.specs.Prelude.{◌≡◌, ℕ, false, Some, true}
 use Rattle.std.specs.List.{Contains}
 use Rattle.vp_model.specs.Types.{TxnId, View, Commit, Live, Op, Doubt}
@@ -19,7 +19,7 @@ doubts_in (Some place) = place.durable.doubts
 abbrev pub doubts_of : WorldState → ℕ → List Doubt
 doubts_of w site = doubts_in (place_of site w.places)
 
--- while a transaction is live, each site that voted on it and holds a record that it wrote is in doubt about it, in its view
+-- as long as a transaction is live, each site that voted on it and holds a record that it wrote is in doubt about it, in its view
 -- and with its last values there
 abbrev pub VotesLeaveDoubts : Catalogue → WorldState → Type 0
 VotesLeaveDoubts catalogue w =
@@ -30,7 +30,7 @@ abbrev pub record_in : Op → ℕ
 record_in (op.Read rec value) = rec
 record_in (op.Write rec value) = rec
 
--- each entry is of an agreed view, of which its coordinator is a member, and in which each record that it uses is accessible
+-- each entry is of an agreed view of which its coordinator is a member, and in which each record that it uses is accessible
 abbrev pub EntriesAreAccessible : Catalogue → WorldState → Type 0
 EntriesAreAccessible catalogue w =
     (e : Commit) → Contains w.journal e → (v : View) × Contains w.agreed v × (v.id ≡ e.view) × Contains v.members e.txn.site × ((operation : Op) → Contains e.ops operation → accessible catalogue (record_in operation) v.members ≡ true)

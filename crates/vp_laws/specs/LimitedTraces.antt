@@ -8,7 +8,7 @@ use Rattle.vp_model.specs.Generated.{made, made_within, limit_made}
 
 -- under any limits
 pub record LimitsCutTraces : Type 0 where
-  -- what is left are lines from the front on
+  -- what is left are the first lines
   pub front : (limits : Limits) (s : Schedule) → (rest : List (ℕ × Line)) × (printed_lines s ≡ lines_within limits s ++ rest)
   -- all of them where no limit is reached
   pub whole : (limits : Limits) (s : Schedule) → limit_reached limits s ≡ None → lines_within limits s ≡ printed_lines s

@@ -9,11 +9,12 @@ use Rattle.vp_model.specs.World.{Schedule, Moment, site_of, moments_of, journal_
 use Rattle.vp_model.specs.OneCopy.{serial}
 use Rattle.vp_model.specs.Headline.{IsTold}
 
--- no site leaves the opening view for another: whatever view a site holds before a step of the schedule, it is the opening one
+-- no site leaves the opening view for another: whatever view a site holds before a step of the schedule is the opening one
 abbrev pub StaysInOpening : Schedule → Type 0
 StaysInOpening s = (m : Moment) (site : ℕ) (x : SiteState) (v : View) → Contains (moments_of s) m → site_of m.before site ≡ Some x → x.held ≡ Some v → v.id ≡ opening
 
--- the transactions play in the order in which they were committed, with the operations that their clients were told of, and each once
+-- the transactions can be played in the order in which they were committed, each once, and with the operations that their clients
+-- were answered
 pub record PlaysAsCommitted (s : Schedule) : Type 0 where
   pub serial : IsSome (serial (start_values s.catalogue) (journal_of s))
   pub told : IsTold s

@@ -8,14 +8,14 @@ use Rattle.vp_model.specs.Site.{SiteState}
 use Rattle.vp_model.specs.Step.{step}
 use Rattle.vp_model.specs.Told.{is_early_refusal}
 
--- the call is not done: a call that begins or regroups, or one on a transaction whose number is not used
+-- the call is not done: a call that begins or regroups, or a call on a transaction that does not use up its number
 abbrev pub is_not_done : Answer → Bool
 is_not_done (answer.NoView promise) = true
 is_not_done (answer.Spent number) = true
 is_not_done answer.TooManyLive = true
 is_not_done words = is_early_refusal words
 
--- a step that replies so leaves the whole site as it was: it replies nothing else, and sends, forces and commits nothing
+-- a step with such a reply leaves the whole site as it was: it gives no other reply, and sends, forces and commits nothing
 abbrev pub RefusalsChangeNothing : Type 0
 RefusalsChangeNothing =
     (catalogue : Catalogue) (site : SiteState) (given : Input) (r : Reply) → Contains (step catalogue site given).effects.replies r → is_not_done r.answer ≡ true →

@@ -1,4 +1,4 @@
--- What a client is told of its operations fits its calls.
+-- What a client is answered about its operations fits its calls.
 use Rattle.std.specs.Prelude.{◌≡◌, ℕ, Bool, true, false, List, Option, Some, None}
 use Rattle.std.specs.List.{Contains}
 use Rattle.vp_model.specs.Types.{TxnId, Call, Answer}
@@ -6,13 +6,13 @@ use Rattle.vp_model.specs.Types.call
 use Rattle.vp_model.specs.World.{Schedule, Moment, moments_of, lines_of}
 use Rattle.vp_model.specs.Told.{answers_in, reported, taken_call, named_in}
 
--- a value is of a read, and `written` of a write
+-- a value belongs to a read, and `written` to a write
 abbrev pub is_of_kind : Option (List ℕ) → Call → Bool
 is_of_kind (Some value) (call.Read txn number name) = true
 is_of_kind None (call.Write txn number name value) = true
 is_of_kind report words = false
 
--- each value and each `written` that is replied is under a number whose first call, of those that were not refused early, is a read or a
+-- each value and each `written` is replied to a number whose first call, apart from those that were refused early, is a read or a
 -- write accordingly, of a record of the catalogue
 abbrev pub RepliesFitCalls : Schedule → Type 0
 RepliesFitCalls s =

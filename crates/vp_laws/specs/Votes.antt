@@ -1,4 +1,4 @@
--- What a vote tells of the transaction that it is for.
+-- What a vote says of its transaction.
 use Rattle.std.specs.Prelude.{◌≡◌, ℕ, Bool, true, false, Some}
 use Rattle.std.specs.List.{Contains}
 use Rattle.vp_model.specs.Types.{TxnId, Call, Pending, Live}
@@ -14,7 +14,7 @@ is_commit words = false
 abbrev pub WaitsForCommit : Live → Type 0
 WaitsForCommit t = (p : Pending) × (t.pending ≡ Some p) × (is_commit p.call ≡ true)
 
--- while a transaction is live and a vote on it was sent, its commit is pending
+-- as long as a transaction is live and a vote on it was sent, its commit is pending
 abbrev pub VotesAreAwaited : WorldState → Type 0
 VotesAreAwaited w =
     (from to : ℕ) (txn : TxnId) (x : SiteState) (t : Live) → Contains w.sent (record { from = from; to = to; message = message.Vote txn }) → site_of w txn.site ≡ Some x → Contains x.live t → t.txn ≡ txn → WaitsForCommit t

@@ -48,13 +48,13 @@ passes_line piece at end count e =
     ∙ ap (take (end - (at + (count + 1)))) (drop-drop (suc count) at piece ∙ ap (λ n. drop (at + n) piece) next) in
     (f.1, sym (take-append-drop count unread) ∙ ap (λ (l : List ℕ). take count unread ++ l) (f.2 ∙ ap (λ (l : List ℕ). 10 ∷ l) behind))
 
--- what doesn't fit is left out once or twice
+-- what has no room is left out once or twice
 take_front : (n : ℕ) (xs ys : List ℕ) → take n (take n xs ++ ys) ≡ take n (xs ++ ys)
 take_front zero xs ys = refl
 take_front (suc n) [] ys = refl
 take_front (suc n) (x ∷ xs) ys = ap (λ (l : List ℕ). x ∷ l) (take_front n xs ys)
 
--- bytes behind a line, as far as it has no more than so many
+-- bytes after a line, up to a given length in all
 pub kept_more : (most : ℕ) (line bytes : List ℕ) → length line ≤ most → line ++ take (min (length bytes) (most - length line)) bytes ≡ take most (line ++ bytes)
 kept_more most line bytes le =
     let whole : take most line ≡ line = take_all most line le in
@@ -65,7 +65,7 @@ kept_more most line bytes le =
     same (suc n) [] = let none : min 0 (suc n) ≡ 0 = omega arith in rw none refl
     same (suc n) (x ∷ xs) = let less : min (suc (length xs)) (suc n) ≡ suc (min (length xs) n) = omega arith in rw less (ap (λ (l : List ℕ). x ∷ l) (same n xs))
 
--- of bytes that are taken one after the other, those that are not too many
+-- of bytes that are taken one after the other, those within the limit
 pub fitting_more : (credit : ℕ) (xs ys : List ℕ) → fitting credit (xs ++ ys) ≡ fitting credit xs ++ fitting (credit - length xs) ys
 fitting_more credit xs ys =
     let less : credit - 1 - length xs ≡ credit - length xs - 1 = omega arith in
@@ -92,7 +92,7 @@ took_still : (xs : List ℕ) (a b c : SourceState) → Took xs a b → Took [] b
 took_still xs a b c h k = subst (λ (l : List ℕ). Took l a c) (append-nil xs) (took_then xs [] a b c h k)
 
 module _ (most : ℕ) (old : Ahead) (source : SourceState) where
-  -- These were taken, and this is the line so far.
+  -- These bytes were taken, and this is the line so far.
   pub record SoFar (now : Ahead) (line : List ℕ) (source' : SourceState) : Type 0 where
     pub more : List ℕ
     pub took : Took more source source'

@@ -1,4 +1,4 @@
--- What is taken of a source ahead of the lines that are found in it.
+-- Bytes that are taken from a source before the line that they belong to is found.
 use Rattle.std.specs.Prelude.{◌≡◌, ⊤, ℕ, ◌-◌, ◌≤◌, ◌<◌, Bool, true, false, List, [], ◌∷◌, ◌++◌, length, take, Result, Ok, Err}
 use Rattle.vp_text.specs.Documents.{HasNoNewline}
 use Rattle.vp_outside.specs.Causes.{Rose}
@@ -8,7 +8,7 @@ use Rattle.vp_outside.specs.declared.source.InputFault.TheVariants as faults
 use Rattle.vp_lines.specs.declared.unread.Found.{Found}
 use Rattle.vp_lines.specs.declared.unread.Found.TheVariants as found
 
--- Bytes that were taken and not passed yet, and how many more may be taken until there are too many.
+-- Bytes that were taken and not passed yet, and how many more may be taken.
 pub record Ahead : Type 0 where
   pub unread : List ℕ
   pub credit : ℕ
@@ -17,11 +17,11 @@ pub record Ahead : Type 0 where
 abbrev pub untaken : Ahead
 untaken = record { unread = []; credit = 16777217 }
 
--- of the bytes that are taken now, those that are not too many
+-- of the bytes that are taken now, those within the limit
 abbrev pub fitting : ℕ → List ℕ → List ℕ
 fitting credit bytes = take (credit - 1) bytes
 
--- what is found at the end of input, behind the last newline
+-- what is found at the end of input, after the last newline
 abbrev pub rest_found : List ℕ → Found
 rest_found [] = found.End
 rest_found (c ∷ cs) = found.Rest
@@ -29,7 +29,7 @@ rest_found (c ∷ cs) = found.Rest
 -- ---- the next line
 
 module _ (most : ℕ) (old new : Ahead) (line : List ℕ) (source source' : SourceState) where
-  -- These were taken, and the next line stands in what was unread and these.
+  -- These bytes were taken, and what was unread and these begin with the next line.
   pub record HasLine : Type 0 where
     pub more : List ℕ
     pub took : Took more source source'
@@ -40,13 +40,13 @@ module _ (most : ℕ) (old new : Ahead) (line : List ℕ) (source source' : Sour
     pub left : new.credit ≡ old.credit - length more
     pub same_faults : source'.faults ≡ source.faults
 
-  -- These were taken, and no line stands there.
+  -- These bytes were taken, and no whole line is there.
   pub record HasNoLine : Type 0 where
     pub more : List ℕ
     pub took : Took more source source'
     pub plain : HasNoNewline (old.unread ++ fitting old.credit more)
 
-  -- That, and the input has ended: the rest of it stands behind the last newline.
+  -- The same, and the input has ended: what is left comes after the last newline.
   pub record HasRest (what : Found) : Type 0 where
     pub none : HasNoLine
     pub few : length none.more < old.credit

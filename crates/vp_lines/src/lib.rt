@@ -1,4 +1,4 @@
-//! The lines of a source, one by one: no more is taken than a line needs, and no more is kept of it than was asked for.
+//! The lines of a source, one by one. No more is taken than a line needs, and no more of a line is kept than was asked for.
 #![tactic(auto)]
 
 mod unread;

@@ -1,4 +1,4 @@
-//! Bytes that were taken of a source, and not passed yet.
+//! Bytes that were taken from a source and not passed yet.
 
 ghost use Rattle.std.specs.Prelude.{◌≡◌, ◌==◌, ◌≤◌, ◌<◌, ◌++◌, length, take, vec_len, position, OnOk};
 ghost use Rattle.vp_lines.specs.Ahead.{untaken, rest_found, Passes, Fills, Finds};
@@ -7,10 +7,10 @@ use std::alloc::AllocError;
 use std::marker::Model;
 use vp_outside::{InputFault, Source};
 
-/// The most bytes that are taken of an input.
+/// How many bytes may be taken from an input: 16 MiB.
 pub const MOST_TAKEN: usize = 16_777_216;
 
-/// The bytes of a piece.
+/// How many bytes are taken from the source at a time.
 const PIECE: usize = 8192;
 
 /// What was found in a source.
@@ -18,13 +18,13 @@ const PIECE: usize = 8192;
 pub enum Found {
     /// A line, whose newline has come.
     Line,
-    /// Bytes behind the last newline, and the end of input.
+    /// Bytes after the last newline, and the end of input.
     Rest,
     /// The end of input.
     End,
 }
 
-/// What was taken of a source and not passed yet. Contracts see these bytes, and how many more may be taken until there are too many.
+/// Bytes that were taken from a source and not passed yet. Contracts see them, and how many more may be taken.
 #[derive(Drop)]
 pub struct Unread {
     piece: [u8; PIECE],
@@ -45,7 +45,7 @@ impl Model for Unread {
 }
 
 impl Unread {
-    /// Nothing was taken.
+    /// Makes the state before anything is taken.
     pub fn new() -> Unread
         ensures { result ≡ untaken }
     {
@@ -57,16 +57,16 @@ impl Unread {
         }
     }
 
-    /// Whether more was taken than may be.
+    /// Whether more was taken than is allowed.
     pub fn is_spent(&self) -> bool
         ensures { result ≡ (self.now.credit == 0) }
     {
         self.credit == 0
     }
 
-    /// Takes what it needs of the source until a line is whole or the input has ended, and puts the line in place of what stood in
-    /// `line`, without its newline; of a line that is longer, the first `most` bytes. Of more bytes than may be taken, the lines that end
-    /// within the first of them are found, and then it is `TooLong`.
+    /// Reads the next line: takes bytes from the source until a newline has come or the input has ended, and replaces the content
+    /// of `line` by the line without its newline, or by the first `most` bytes of a longer one. Once more was taken than is
+    /// allowed, the lines that end within the limit are still found, and then the error is `TooLong`.
     pub fn next<S: Source>(
         &mut self,
         source: &mut S,
@@ -89,7 +89,8 @@ impl Unread {
         }
     }
 
-    /// Passes over the bytes up to and with a newline, and appends them to the line; over all of them where there is no newline.
+    /// Passes over the bytes up to the newline, it included, and appends them to the line; passes over all bytes where there is no
+    /// newline. Returns whether there was one.
     fn pass(&mut self, line: &mut Vec<u8>, most: usize) -> Result<bool, AllocError>
         requires { vec_len line.old ≤ most }
         ensures { Passes most self.old self.new line.old.items line.new.items result }
@@ -109,7 +110,7 @@ impl Unread {
         }
     }
 
-    /// Takes the next piece where nothing is unread, and answers whether there was one: at the end of input there is none.
+    /// Takes the next piece where nothing is unread, and returns whether there was one: at the end of input there is none.
     fn fill<S: Source>(&mut self, source: &mut S) -> Result<bool, InputFault>
         requires { length self.old.unread ≡ 0 }
         ensures { Fills self.old self.new (S.state source.old) (S.state source.new) result }
@@ -125,7 +126,7 @@ impl Unread {
     }
 }
 
-/// What is found at the end of input, behind the last newline.
+/// What is found at the end of input, by what came after the last newline.
 fn rest_of(line: &[u8]) -> Found
     ensures { result ≡ rest_found line.now }
 {
@@ -136,14 +137,14 @@ fn rest_of(line: &[u8]) -> Found
     }
 }
 
-/// Where the first newline stands.
+/// The place of the first newline.
 fn newline_in(bytes: &[u8]) -> Option<usize>
     ensures { result ≡ position (λ b. b == 10) bytes.now }
 {
     bytes.iter().position(|b| *b == 10)
 }
 
-/// Appends bytes to a line, as far as it has no more than `most`.
+/// Appends bytes to a line, up to a length of `most`.
 fn append(line: &mut Vec<u8>, bytes: &[u8], most: usize) -> Result<(), AllocError>
     requires { vec_len line.old ≤ most }
     ensures { OnOk result (line.new.items ≡ take most (line.old.items ++ bytes.now)) }

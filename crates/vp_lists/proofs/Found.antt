@@ -1,4 +1,4 @@
--- A test of some item, and the first item that passes it, by its place.
+-- The first item that passes a test, by its place.
 use Rattle.std.proofs.Common.{◌≡◌, ℕ, ◌+◌, ◌<◌, ◌≤◌, suc, zero, cond, not, ap, Bool, true, false, List, [], ◌∷◌, length, get_or, set, is_some, Some, None, refl, arith}
 use Rattle.std.specs.List.{list_any, find, remove, position, position_or_len}
 use Rattle.std.proofs.lemmas.Bool.Decides.{nat_tests}
@@ -10,7 +10,7 @@ any_is_found test [] = refl
 any_is_found test (x ∷ xs) = let rest = any_is_found test xs in grind (arith, nat_tests, rest)
 
 module _ {A : Type 0} (test : A → Bool) where
-  -- what the first item that passes is, by its place
+  -- what is known of the first item that passes, by its place
   pub record IsFirst (xs : List A) (i : ℕ) (d : A) : Type 0 where
     pub found : find test xs ≡ Some (get_or xs i d)
     pub others : without_first test xs ≡ remove xs i

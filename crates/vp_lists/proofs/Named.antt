@@ -1,4 +1,4 @@
--- The item that is found by a transaction has its name.
+-- An item that is found by a transaction belongs to it.
 use Rattle.std.proofs.Common.{◌≡◌, ℕ, List, get_or, Some}
 use Rattle.std.specs.List.{position}
 use Rattle.std.proofs.lemmas.List.Quantifiers.{position-Some}

@@ -1,4 +1,4 @@
-//! Lists whose items are known by a transaction.
+//! Lists whose items are found by a transaction.
 
 ghost use Rattle.std.specs.Prelude.{◌≡◌, ◌<◌, IfSome, find, is_some, if◌then◌else◌, length, option_copied};
 ghost use Rattle.std.specs.List.{position};
@@ -7,12 +7,13 @@ ghost use Rattle.vp_model.specs.Words.{same_txn, without_first};
 use crate::order::is_same_txn;
 use vp_base::{Decision, Doubt, Finished, Live, Part, TxnId};
 
-/// An item that is known by its transaction.
+/// An item that belongs to one transaction.
 pub trait OfTxn {
     ghost use Rattle.vp_base.specs.declared.ids.TxnId.{TxnId};
 
     ghost txn: { Self → TxnId };
 
+    /// Whether the item is of the transaction.
     fn is_of(&self, name: &TxnId) -> bool
         ensures { result ≡ same_txn (txn self.now) name.now };
 }
@@ -24,14 +25,14 @@ fn place_of<T: OfTxn>(items: &[T], name: &TxnId) -> Option<usize>
     items.iter().position(|t| t.is_of(name))
 }
 
-/// The first item of the transaction.
+/// Finds the first item of the transaction.
 pub fn find_txn<'a, T: OfTxn>(items: &'a [T], name: &TxnId) -> Option<&'a T>
     ensures { option_copied result ≡ find (λ t. same_txn (T.txn t) name.now) items.now }
 {
     items.iter().find(|t| t.is_of(name))
 }
 
-/// Takes the first item of the transaction out.
+/// Removes the first item of the transaction and returns it.
 #[tactic(auto, using(crate::proofs::Named::taking))]
 pub fn take_txn<T: OfTxn + Drop>(items: &mut Vec<T>, name: &TxnId) -> Option<T>
     ensures taken { result ≡ find (λ t. same_txn (T.txn t) name.now) items.old.items }

@@ -1,14 +1,14 @@
-//! Lists that are kept in order.
+//! Lists that are kept in ascending order.
 
 ghost use Rattle.std.specs.Prelude.{◌≡◌, ◌≤◌, ◌<◌, OnOk, OnErr, IsTrue, if◌then◌else◌, length, set};
 ghost use Rattle.std.specs.List.{insert};
 ghost use Rattle.vp_model.specs.Words.{put};
 
-use crate::order::{is_same_txn, is_same_view, txn_comes_before, view_comes_before};
+use crate::order::{is_same_txn, txn_comes_before, view_comes_before};
 use std::mem;
 use vp_base::{Decision, Doubt, NoMemory, Part, RecId, Refreshing, Seq, SiteId, TxnId, ViewId};
 
-/// An item of an ordered list: two items may have the same key, or one comes before the other.
+/// An item of an ordered list: two items have the same key, or one comes before the other.
 pub trait Keyed {
     ghost use Rattle.std.specs.Prelude.{Bool};
 
@@ -16,14 +16,16 @@ pub trait Keyed {
 
     ghost before: { Self → Self → Bool };
 
+    /// Whether both have the same key.
     fn is_same(&self, other: &Self) -> bool
         ensures { result ≡ same self.now other.now };
 
+    /// Whether this item's key comes before the other's.
     fn comes_before(&self, other: &Self) -> bool
         ensures { result ≡ before self.now other.now };
 }
 
-/// Where the item goes, and whether an item of the same key is there.
+/// Finds where the item belongs, and whether an item with its key is there.
 #[tactic(auto, using(crate::proofs::Places::placed))]
 fn place_of<T: Keyed>(items: &[T], item: &T) -> (usize, bool)
     ensures within { result.0 ≤ length items.now }
@@ -42,7 +44,7 @@ fn place_of<T: Keyed>(items: &[T], item: &T) -> (usize, bool)
     (items.len(), false)
 }
 
-/// The item takes its place, where an item of the same key goes. Without memory the items stay as they are.
+/// Puts the item in its place, where it replaces one with the same key. Where memory is lacking, the items stay as they are.
 pub fn put<T: Keyed + Drop>(items: &mut Vec<T>, item: T) -> Result<(), NoMemory>
     ensures ok { OnOk result (items.new.items ≡ put T.same T.before item items.old.items) }
     ensures err { OnErr result (items.new.items ≡ items.old.items) }
@@ -56,7 +58,7 @@ pub fn put<T: Keyed + Drop>(items: &mut Vec<T>, item: T) -> Result<(), NoMemory>
     Ok(())
 }
 
-/// The same in a list of the shared types. Without memory the list may be empty after.
+/// Does the same in a list of the shared types. Where memory is lacking, the list may be empty afterwards.
 pub fn put_in<T: Keyed + Drop>(list: &mut Seq<T>, item: T) -> Result<(), NoMemory>
     ensures { OnOk result (list.new ≡ put T.same T.before item list.old) }
 {
@@ -107,7 +109,7 @@ impl Keyed for ViewId {
     ghost before = { view_before };
 
     fn is_same(&self, other: &ViewId) -> bool {
-        is_same_view(self, other)
+        *self == *other
     }
 
     fn comes_before(&self, other: &ViewId) -> bool {

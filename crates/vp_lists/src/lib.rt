@@ -1,8 +1,7 @@
-//! Lists that are kept in order, lists of pairs of a record and its value, and lists whose items are known by a
-//! transaction.
+//! Lists that are kept in order, lists of pairs of a record and a value, and lists whose items are found by a transaction.
 //!
-//! What is done to such a list is done to its first item of the same name, as the definitions do it: no contract
-//! here needs a list that is in order, or whose names are distinct.
+//! What is done to such a list is done to its first item with the key, as the definitions do it: no contract here needs a list to
+//! be in order, or its keys to be distinct.
 #![tactic(auto)]
 
 mod by_rec;
@@ -16,6 +15,5 @@ pub use by_txn::{OfTxn, find_txn, take_txn};
 pub use copies::copy_all;
 pub use keyed::{Keyed, put, put_in};
 pub use order::{
-    is_same_owner, is_same_txn, is_same_view, owner_comes_before, txn_comes_before,
-    view_comes_before,
+    is_same_owner, is_same_txn, owner_comes_before, txn_comes_before, view_comes_before,
 };

@@ -1,4 +1,4 @@
--- A kill while a process serves happened to the process.
+-- If a process is killed while it serves, that happened to the process.
 use Rattle.std.proofs.Common.{◌≡◌, ◌∙◌, ap, sym, subst, ℕ, Bool, true, false, cond, List, [], ◌∷◌, ◌++◌, length, take, refl, arith, append-nil, ⊎_elim}
 use Rattle.std.specs.Prelude.{Some, None}
 use Rattle.std.proofs.Math.Seq.{take-length}
@@ -24,11 +24,11 @@ use Rattle.vp_network.specs.Cluster.{process_of}
 use Rattle.vp_network.specs.Ends.{Happened}
 use Rattle.vp_network.proofs.Lives.{goes}
 use Rattle.vp_network.proofs.Ends.{runs_end, runs_break}
-use Rattle.vp_lives.specs.Served.{Life, told, Leaves, AllDone}
+use Rattle.vp_lives.specs.Served.{Life, catalogue_of, Leaves, AllDone}
 use Rattle.vp_lives.specs.Killed.{run_on, IsAfter, IsKilled, KillsHappen}
 use Rattle.vp_lives.proofs.Served.{a_life_left, take-within, untouched}
 
--- ---- the number of a node's site stays
+-- ---- the number of a node's site stays the same
 
 turn_id : (here : Catalogue) (x : SiteState) (what : Arrival) → (turn_on here x what).site.id ≡ x.id
 unfolding turn_on
@@ -57,7 +57,7 @@ run_id here id batches ds = all_id here ds (start_of here id batches)
 
 module _ (life : Life) (at : process_of life.id life.cluster.processes ≡ Some life.process) (down : life.process.up ≡ None) where
   abbrev here : Catalogue
-  here = told life
+  here = catalogue_of life
 
   abbrev had : List (List LogRecord)
   had = life.process.batches
@@ -68,13 +68,13 @@ module _ (life : Life) (at : process_of life.id life.cluster.processes ≡ Some 
   leaves : (arrived handed : List Datagram) (image : Halves) (left : List (List LogRecord)) → HaveBatches left image → Happens arrived left handed → Leaves life arrived handed AllDone image
   leaves arrived handed image left has_left it = record { left = left; has = has_left; rest = []; rest_is = refl; happened = subst (Happens arrived left) (sym (append-nil handed)) it }
 
-  -- the number of the site that the log is folded for
+  -- the number of the site for which the log is folded
   of_life : (ds : List Datagram) (node : NodeValue) (x : SiteState) → node.site ≡ x → x ≡ (run_on life ds).node.site → (left : List (List LogRecord)) → durable_in here node.site.id left ≡ durable_of node.site → durable_in here life.id left ≡ durable_of (run_on life ds).node.site
   of_life ds node x is same left folds =
       let site : node.site ≡ (run_on life ds).node.site = is ∙ same in
       ap (λ n. durable_in here n left) (sym (run_id here life.id had ds) ∙ ap (λ (x : SiteState). x.id) (sym site)) ∙ folds ∙ ap durable_of site
 
-  -- all of these datagrams, with a log that folds to what the site has to keep after them
+  -- all of these datagrams, with a log that folds to the durable part of the site after them
   ended : (front rest : List Datagram) (left : List (List LogRecord)) → HasLifeLeft here life.id had → durable_in here life.id left ≡ durable_of (run_on life front).node.site → Happens (front ++ rest) left (run_on life front).datagrams
   ended front rest left lives folds =
       let came : take (length front) (front ++ rest) ≡ front = take-within (length front) front rest (omega arith) ∙ take-length front in

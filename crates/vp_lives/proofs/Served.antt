@@ -28,7 +28,7 @@ use Rattle.vp_serving.specs.declared.end.End.TheVariants as ends
 use Rattle.vp_serving.specs.Handed.{datagrams_in, handed_in}
 use Rattle.vp_serving.specs.Laws.{RunsAreHandedOver}
 use Rattle.vp_serving.specs.Serving.{Outside, Course, IsPrefix, IsKeptAs, LeavesFrom, KeepsAtAnyMoment, IsSafe, HasNotStarted, IsUnbound, IsWhole, HasTorn, Serves, handed_by}
-use Rattle.vp_lives.specs.Served.{Life, told, Leaves, IsMomentary, HasLived, HasNotBegun, AllDone, PartDone, IsOnDisk, LivesIn, ServingHappens}
+use Rattle.vp_lives.specs.Served.{Life, catalogue_of, Leaves, IsMomentary, HasLived, HasNotBegun, AllDone, PartDone, IsOnDisk, LivesIn, ServingHappens}
 
 -- ---- what a run has handed over grows
 
@@ -59,7 +59,7 @@ run_grows here id batches xs ys =
     let g = grows here ys (for_each xs (one_turn here) (start_of here id batches)) in
     (g.0, ap (λ (r : NodeRun). r.datagrams) (over_more here xs ys (start_of here id batches)) ∙ g.1)
 
--- up to a later turn
+-- until a later turn
 later_grows : (here : Catalogue) (id : ℕ) (batches : List (List LogRecord)) (arrived : List Datagram) (m n : ℕ) → m ≤ n → (more : List Datagram) × ((node_run here id batches (take n arrived)).datagrams ≡ (node_run here id batches (take m arrived)).datagrams ++ more)
 later_grows here id batches arrived m n le =
     let sum : m + (n - m) ≡ n = omega (arith, le) in
@@ -100,7 +100,7 @@ prefix_of hs all h =
 
 module _ (halves_are_one : HalvesAreOneLog) (handed_over : RunsAreHandedOver) (life : Life) (o : Outside) (on : IsOnDisk life o) where
   abbrev here : Catalogue
-  here = told life
+  here = catalogue_of life
 
   abbrev had : List (List LogRecord)
   had = life.process.batches
@@ -278,7 +278,7 @@ module _ (halves_are_one : HalvesAreOneLog) (handed_over : RunsAreHandedOver) (l
       none_handed : (batches : List (List LogRecord)) → (node_run here life.id batches []).datagrams ≡ []
       none_handed batches = refl
 
-  -- part of it is handed over where all is
+  -- a part of it is handed over if all is
   fewer : HasLived life o AllDone → HasLived life o PartDone
   fewer h = record {
     arrived = h.arrived;
@@ -289,7 +289,7 @@ module _ (halves_are_one : HalvesAreOneLog) (handed_over : RunsAreHandedOver) (l
     moments = h.moments;
   }
 
-  -- ---- where the node didn't start
+  -- ---- if the node didn't start
 
   not_begun : (step : Halves → Halves → Type 0) → ((image : Halves) → step on.log image → Leaves life [] [] AllDone image) → (turns : ℕ) → HasNotStarted here life.id turns o step → HasNotBegun life o
   not_begun step leaves turns n = record {

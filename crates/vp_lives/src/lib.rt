@@ -1,4 +1,5 @@
-//! What happens to a process that serves, and what a client that asks is told: from the contracts of `serve` and `ask` to clusters and schedules.
+//! What happens to a process that serves, and the answer that a client gets: from the contracts of `serve` and `ask` to clusters and
+//! schedules.
 #![tactic(auto)]
 
 mod laws;

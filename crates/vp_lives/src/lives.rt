@@ -1,4 +1,4 @@
-//! Serving, with what it is to a cluster as its contract.
+//! Serving, with a contract that says what happened to a process of a cluster.
 
 ghost use Rattle.std.specs.Prelude.{◌≡◌, true, None, IsTrue};
 ghost use Rattle.vp_model.specs.Words.{has};

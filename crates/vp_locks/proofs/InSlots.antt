@@ -9,7 +9,7 @@ use Rattle.std.proofs.lemmas.List.Edits.{map_over_more}
 use Rattle.vp_model.specs.Types.{Owner, Lock}
 use Rattle.vp_locks.specs.Places.{present, lock_at, passes, places, revised, if_kept}
 
--- the locks at places behind the first one
+-- the locks at places after the first one
 later_locks : (s : Option Lock) (slots : List (Option Lock)) (ks : List ℕ) → filter_map (lock_at (s ∷ slots)) (map suc ks) ≡ filter_map (lock_at slots) ks
 later_locks s slots [] = refl
 later_locks s slots (k ∷ ks) = ap (cons_option (lock_at slots k)) (later_locks s slots ks)
@@ -46,7 +46,7 @@ present_next xs i x within at =
     let next : i + 1 ≡ suc i = omega arith in
     ap (λ n. present (take n xs)) next ∙ ap present (take-suc xs i x within) ∙ present_more (take i xs) (get_or xs i x) ∙ ap (λ s. present (take i xs) ++ cons_option s []) (sym at)
 
--- a filter of places behind the first one
+-- a filter of the places after the first one
 filter_later : (p : ℕ → Bool) (ks : List ℕ) → filter p (map suc ks) ≡ map suc (filter (λ k. p (suc k)) ks)
 filter_later p [] = refl
 filter_later p (k ∷ ks) = let rest = filter_later p ks in grind (arith, rest)
@@ -74,7 +74,7 @@ places_rise test (Some l ∷ slots) =
     elim (test l) as (λ b. IsStrictlyIncreasing (if b then 0 ∷ map suc (places test slots) else map suc (places test slots)))
     [ true ↦ rise_first (places test slots) later | false ↦ later ]
 
--- of the places, those whose lock passes a test too
+-- of the places, those whose lock also passes the other test
 pub places_both : (t u : Lock → Bool) (slots : List (Option Lock)) → filter (λ k. passes u (lock_at slots k)) (places t slots) ≡ places (λ lock. t lock && u lock) slots
 places_both t u [] = refl
 places_both t u (None ∷ slots) = filter_later (λ k. passes u (lock_at (None ∷ slots) k)) (places t slots) ∙ ap (map suc) (places_both t u slots)
@@ -92,7 +92,7 @@ later_all : (ks : List ℕ) → filter (λ k. not (k == 0)) (map suc ks) ≡ map
 later_all [] = refl
 later_all (k ∷ ks) = let rest = later_all ks in grind (arith, nat_tests, rest)
 
--- the lock at a place goes
+-- the lock at a place is released
 pub places_without : (test : Lock → Bool) (slots : List (Option Lock)) (p : ℕ) → places test (set slots p None) ≡ filter (λ k. not (k == p)) (places test slots)
 places_without test [] p = refl
 places_without test (s ∷ slots) zero = let all = later_all (places test slots) in grind (arith, nat_tests, all)
@@ -101,7 +101,7 @@ places_without test (s ∷ slots) (suc p) =
     let later = later_others p (places test slots) in
     grind (arith, nat_tests, rest, later)
 
--- the list of another key stays
+-- the list of another key stays as it is
 pub places_apart : (test : Lock → Bool) (slots : List (Option Lock)) (p : ℕ) → passes test (lock_at slots p) ≡ false → places test (set slots p None) ≡ places test slots
 places_apart test [] p h = refl
 places_apart test (s ∷ slots) zero h = grind (arith, h)
@@ -126,7 +126,7 @@ module _ (t : Lock → Bool) (l : Lock) (ks : List ℕ) (new : List (Option Lock
       let later = later_taken None new ks ∙ ap (map suc) rest in
       elim (t l) as (λ b. taken (None ∷ new) (if b then 0 ∷ map suc ks else map suc ks) ≡ map suc (places t new)) [ true ↦ later | false ↦ later ]
 
--- each lock of the places changes, or goes
+-- each lock of the places changes, or is released
 abbrev pub revised_where : (Lock → Bool) → (Lock → Option Lock) → Option Lock → Option Lock
 revised_where test f s = option_map_or (λ lock. if test lock then f lock else Some lock) s None
 
@@ -155,7 +155,7 @@ module _ (f : Lock → Option Lock) where
   revised_same (Some l ∷ slots) zero h = ap (λ s. s ∷ slots) h
   revised_same (s ∷ slots) (suc p) h = later_one s slots p ∙ ap (λ l. s ∷ l) (revised_same slots p h)
 
-  -- in each slot in turn
+  -- slot by slot
   pub revised_at : (slots : List (Option Lock)) (i : ℕ) → i < length slots → revised f slots i ≡ set slots i (option_map_or f (get_or slots i None) None)
   revised_at [] i h = absurd (omega (arith, h))
   revised_at (None ∷ slots) zero h = refl
@@ -169,7 +169,7 @@ module _ (test : Lock → Bool) where
     present_changed (None ∷ slots) = present_changed slots
     present_changed (Some l ∷ slots) = let rest = present_changed slots in grind (arith, rest)
 
-    -- what a test sees of the changed locks, another sees before
+    -- a test of the changed locks is another test of the locks before
     pub places_changed : (t u : Lock → Bool) → ((lock : Lock) → t (if test lock then g lock else lock) ≡ u lock) → (slots : List (Option Lock)) → places t (map (revised_where test (λ lock. Some (g lock))) slots) ≡ places u slots
     places_changed t u same [] = refl
     places_changed t u same (None ∷ slots) = ap (map suc) (places_changed t u same slots)
@@ -181,7 +181,7 @@ module _ (test : Lock → Bool) where
     present_kept (None ∷ slots) = present_kept slots
     present_kept (Some l ∷ slots) = let rest = present_kept slots in grind (arith, rest)
 
-    -- what is left of a list are the places that have a lock
+    -- what is left of a list are the places that still have a lock
     pub places_kept : (t : Lock → Bool) (slots : List (Option Lock)) → filter (λ k. is_some (lock_at (map (revised_where test (if_kept keeps)) slots) k)) (places t slots) ≡ places t (map (revised_where test (if_kept keeps)) slots)
     places_kept t [] = refl
     places_kept t (None ∷ slots) = later_taken None (map (revised_where test (if_kept keeps)) slots) (places t slots) ∙ ap (map suc) (places_kept t slots)
@@ -194,13 +194,13 @@ module _ (test : Lock → Bool) where
           | false ↦ stays_at t l (places t slots) new rest
         ]
 
-    -- a list of which no lock passes the test stays
+    -- a list in which no lock passes the test stays as it is
     pub places_untouched : (t : Lock → Bool) → ((lock : Lock) → t lock ≡ true → test lock ≡ false) → (slots : List (Option Lock)) → places t (map (revised_where test (if_kept keeps)) slots) ≡ places t slots
     places_untouched t apart [] = refl
     places_untouched t apart (None ∷ slots) = ap (map suc) (places_untouched t apart slots)
     places_untouched t apart (Some l ∷ slots) = let rest = places_untouched t apart slots in grind (arith, rest, apart l)
 
--- what goes at one place
+-- what is released at one place
 module _ (keeps : Lock → Bool) (slots : List (Option Lock)) (p : ℕ) where
   pub swept_none : option_map_or (λ (lock : Lock). if keeps lock then None else Some lock.owner) (lock_at slots p) None ≡ None → revised (if_kept keeps) slots p ≡ slots
   swept_none h = revised_same (if_kept keeps) slots p (by (lock_at slots p) h)
@@ -221,7 +221,7 @@ module _ (keeps : Lock → Bool) (slots : List (Option Lock)) (p : ℕ) where
           let goes : if_kept keeps l ≡ None = grind (arith, h) in
           (l, e, is, ap (λ s. option_map_or (λ lock. set slots p (if_kept keeps lock)) s slots) e ∙ ap (set slots p) goes)
 
--- what goes at all places
+-- what is released at all places
 abbrev pub if_kept_there : (Lock → Bool) → Option Lock → Option Lock
 if_kept_there keeps s = option_map_or (if_kept keeps) s None
 

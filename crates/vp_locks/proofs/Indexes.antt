@@ -1,4 +1,4 @@
--- The lists of places stay those of the locks in the slots, whatever becomes of the slots.
+-- The lists of places stay right for the locks in the slots, whatever happens in the slots.
 use Rattle.std.proofs.Common.{◌≡◌, ℕ, nat_eq, ◌&&◌, ◌||◌, not, ◌∙◌, Bool, true, false, ◌==◌, List, [], ◌∷◌, ◌++◌, map, filter, fold, set, Option, Some, None, length, if◌then◌else◌, is_some, refl, ap, sym, subst, arith}
 use Rattle.std.specs.List.Sorted.{IsStrictlyIncreasing}
 use Rattle.std.specs.List.{filter_map, cons_option, list_any}
@@ -17,7 +17,7 @@ use Rattle.vp_locks.specs.Index.{places_of, Changes, IsIndex, IsRecIndex, IsOwne
 use Rattle.vp_locks.proofs.InSlots.{found, places_more, places_rise, places_both, places_without, places_apart, places_changed, places_kept, places_untouched, present_changed, present_kept, revised_each, revised_where}
 
 module _ {K A S : Type 0} (eq : K → K → Bool) (fits : Lock → K → Bool) (old : IndexMap K (Vec ℕ A) S) (slots : List (Option Lock)) (index : IsIndex eq fits old slots) where
-  -- the locks at the places of a key, and that the places rise
+  -- the locks at the places of a key; and the places ascend
   pub locks_of : (key : K) → filter_map (lock_at slots) (places_of eq old key) ≡ filter (λ lock. fits lock key) (present slots)
   locks_of key = ap (filter_map (lock_at slots)) (index key) ∙ found (λ lock. fits lock key) slots
 
@@ -30,7 +30,7 @@ module _ {K A S : Type 0} (eq : K → K → Bool) (fits : Lock → K → Bool) (
       noted q ∙ ap (λ m. if fits lock q then places_of eq old q ++ m ∷ [] else places_of eq old q) long
       ∙ ap (λ ps. if fits lock q then ps ++ length slots ∷ [] else ps) (index q) ∙ sym (places_more (λ lock. fits lock q) slots (Some lock))
 
-  -- the lock at a place goes
+  -- the lock at a place is released
   pub index_without : (new : IndexMap K (Vec ℕ A) S) (place : ℕ) (lock : Lock) → lock_at slots place ≡ Some lock
       → Changes eq (fits lock) (filter (λ k. not (k == place))) old new → IsIndex eq fits new (set slots place None)
   index_without new place lock at forgot = λ q.
@@ -40,11 +40,11 @@ module _ {K A S : Type 0} (eq : K → K → Bool) (fits : Lock → K → Bool) (
       by q true e = sym (places_without (λ lock. fits lock q) slots place)
       by q false e = sym (places_apart (λ lock. fits lock q) slots place (ap (passes (λ lock. fits lock q)) at ∙ e))
 
-  -- locks change, and fit the same keys
+  -- locks change, but belong to the same keys
   pub index_changed : (test : Lock → Bool) (g : Lock → Lock) → ((lock : Lock) (q : K) → fits (if test lock then g lock else lock) q ≡ fits lock q) → IsIndex eq fits old (map (revised_where test (λ lock. Some (g lock))) slots)
   index_changed test g same = λ q. index q ∙ sym (places_changed test g (λ lock. fits lock q) (λ lock. fits lock q) (λ lock. same lock q) slots)
 
-  -- of the locks of a key some go
+  -- some of the locks of a key are released
   pub index_kept : (new : IndexMap K (Vec ℕ A) S) (key : K) (keeps : Lock → Bool) → ((lock : Lock) (q : K) → eq key q ≡ false → fits lock q ≡ true → fits lock key ≡ false)
       → Changes eq (eq key) (filter (λ k. is_some (lock_at (map (revised_where (λ lock. fits lock key) (if_kept keeps)) slots) k))) old new
       → IsIndex eq fits new (map (revised_where (λ lock. fits lock key) (if_kept keeps)) slots)
@@ -73,7 +73,7 @@ key_apart (Some a) None q e h = refl
 key_apart (Some a) (Some k) None e h = grind (arith, nat_tests, e, h)
 key_apart (Some a) (Some k) (Some q) e h = grind (arith, nat_tests, e, h)
 
--- what is asked of the locks at places
+-- two tests of the locks at some places
 filter_both : {X : Type 0} (p q r : X → Bool) → ((x : X) → (p x && q x) ≡ r x) → (xs : List X) → filter q (filter p xs) ≡ filter r xs
 filter_both p q r same [] = refl
 filter_both p q r same (x ∷ xs) = let rest = filter_both p q r same xs in let here = same x in grind (arith, nat_tests, rest, here)
@@ -101,7 +101,7 @@ module _ (owner : Owner) where
       ]
 
   module _ (p : RecPlaces) (slots : List (Option Lock)) (index : IsRecIndex p slots) (rec : ℕ) where
-    -- an exclusive lock is forbidden by all locks of the record, and a shared one by the exclusive ones
+    -- all locks of the record conflict with an exclusive lock, and the exclusive ones conflict with a shared lock
     pub forbids_exclusive : filter (λ lock. not (same_owner lock.owner owner)) (filter_map (lock_at slots) (places_of nat_eq p.all.lists rec)) ≡ conflicting rec true owner (present slots)
     forbids_exclusive =
         ap (filter (λ (lock : Lock). not (same_owner lock.owner owner))) (locks_of nat_eq on_rec p.all.lists slots index.0 rec)
@@ -112,7 +112,7 @@ module _ (owner : Owner) where
         ap (filter (λ (lock : Lock). not (same_owner lock.owner owner))) (locks_of nat_eq exclusive_on p.exclusive.lists slots index.1 rec)
         ∙ filter_both (λ lock. exclusive_on lock rec) (λ lock. not (same_owner lock.owner owner)) (λ lock. (lock.rec == rec) && (false || lock.exclusive) && not (same_owner lock.owner owner)) (λ lock. grind (arith, nat_tests)) (present slots)
 
-  -- a lock that the owner has on the record is among the record's and among the owner's
+  -- a lock that the owner has on the record is in the record's list and in the owner's
   pub held_of : {K A S : Type 0} (eq : K → K → Bool) (fits : Lock → K → Bool) (lists : IndexMap K (Vec ℕ A) S) (slots : List (Option Lock)) → IsIndex eq fits lists slots
       → (rec : ℕ) (exclusive : Bool) (key : K) → ((lock : Lock) → ((lock.rec == rec) && (not exclusive || lock.exclusive) && same_owner lock.owner owner) ≡ true → fits lock key ≡ true)
       → holds rec exclusive owner (filter_map (lock_at slots) (places_of eq lists key)) ≡ holds rec exclusive owner (present slots)
@@ -128,15 +128,15 @@ module _ (owner : Owner) where
     fits_owner = let own : same_owner lock.owner owner ≡ true = grind (arith, nat_tests, is) in key_same lock.owner owner ∙ own
 
 module _ {A S : Type 0} (lists : IndexMap OwnerKey (Vec ℕ A) S) (slots : List (Option Lock)) (index : IsOwnerIndex lists slots) (owner : Owner) where
-  -- a change at each of the owner's places is one of the owner's locks
+  -- a change at each of the owner's places is a change of each of the owner's locks
   pub owner_revised : (f : Lock → Option Lock) → fold (revised f) slots (places_of key_eq lists (owner_key owner)) ≡ map (revised_where (λ lock. owned_by lock (owner_key owner)) f) slots
   owner_revised f = ap (fold (revised f) slots) (index (owner_key owner)) ∙ revised_each f (λ lock. owned_by lock (owner_key owner)) slots
 
-  -- the owner's locks that are not kept go
+  -- the owner's locks that aren't kept are released
   pub owner_swept : (keeps : Lock → Bool) → present (map (revised_where (λ lock. owned_by lock (owner_key owner)) (if_kept keeps)) slots) ≡ filter (λ lock. not (same_owner lock.owner owner) || keeps lock) (present slots)
   owner_swept keeps = present_kept (λ lock. owned_by lock (owner_key owner)) keeps slots ∙ (λ i. filter (λ (lock : Lock). not (key_same lock.owner owner i) || keeps lock) (present slots))
 
--- the owner's locks on a record are raised
+-- the owner's locks on a record are made exclusive
 module _ (rec : ℕ) (owner : Owner) where
   raised_on : (lock : Lock) → (if on_rec lock rec then raised rec true owner lock else lock) ≡ raised rec true owner lock
   raised_on lock = grind (arith, nat_tests)
@@ -150,7 +150,7 @@ module _ (rec : ℕ) (owner : Owner) where
       by : (lock : Lock) → (if on_rec lock rec then raised rec true owner lock else lock).owner ≡ lock.owner
       by lock = grind (arith, nat_tests)
 
-  -- a lock of another record is as exclusive as before, and one of this record if it was or is the owner's
+  -- a lock on another record is as exclusive as before, and one on this record is exclusive if it was or is the owner's
   exclusive_elsewhere : (q : ℕ) → nat_eq rec q ≡ false → (lock : Lock) → exclusive_on (if on_rec lock rec then raised rec true owner lock else lock) q ≡ exclusive_on lock q
   exclusive_elsewhere q apart lock = grind (arith, nat_tests, apart)
 
@@ -164,7 +164,7 @@ module _ (rec : ℕ) (owner : Owner) where
     pub rec_revised : (f : Lock → Option Lock) → fold (revised f) slots (places_of nat_eq old.all.lists rec) ≡ map (revised_where (λ lock. on_rec lock rec) f) slots
     rec_revised f = ap (fold (revised f) slots) (index.0 rec) ∙ revised_each f (λ lock. on_rec lock rec) slots
 
-    -- the record's exclusive locks are those that were, and the owner's
+    -- the record's exclusive locks are those from before and the owner's
     pub index_raised : {A S : Type 0} (new : IndexMap ℕ (Vec ℕ A) S) → ((q : ℕ) → places_of nat_eq new q ≡ (if nat_eq rec q then filter (λ k. passes (λ lock. lock.exclusive || same_owner lock.owner owner) (lock_at slots k)) (places_of nat_eq old.all.lists rec) else places_of nat_eq old.exclusive.lists q))
         → IsIndex nat_eq exclusive_on new (map (revised_where (λ lock. on_rec lock rec) (λ lock. Some (raised rec true owner lock))) slots)
     index_raised new is q = is q ∙ by (nat_eq rec q) refl
@@ -176,7 +176,7 @@ module _ (rec : ℕ) (owner : Owner) where
         by true e = ap (filter (λ k. passes own (lock_at slots k))) (index.0 rec) ∙ places_both (λ lock. on_rec lock rec) own slots ∙ sym (places_changed (λ lock. on_rec lock rec) (raised rec true owner) (λ lock. exclusive_on lock q) (λ lock. on_rec lock rec && own lock) (exclusive_here q e) slots)
         by false e = index.1 q ∙ sym (places_changed (λ lock. on_rec lock rec) (raised rec true owner) (λ lock. exclusive_on lock q) (λ lock. exclusive_on lock q) (exclusive_elsewhere q e) slots)
 
--- what is asked for already
+-- raising a lock to a shared one changes nothing
 pub raised_none : (rec : ℕ) (owner : Owner) (locks : List Lock) → map (raised rec false owner) locks ≡ locks
 raised_none rec owner [] = refl
 raised_none rec owner (lock ∷ locks) = let rest = raised_none rec owner locks in grind (arith, nat_tests, rest)

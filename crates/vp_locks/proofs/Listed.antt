@@ -1,4 +1,4 @@
--- The list of each owner names the records of its locks.
+-- The list of each owner has the records of its locks.
 use Rattle.std.proofs.Common.{◌≡◌, ℕ, zero, suc, ◌&&◌, ◌||◌, not, ◌∙◌, Bool, true, false, true≢false, ◌==◌, List, [], ◌∷◌, ◌++◌, map, filter, get_or, if◌then◌else◌, refl, ap, ap₂, sym, arith}
 use Rattle.std.specs.List.{list_any}
 use Rattle.std.specs.declared.vec.Vec.{Vec}
@@ -12,7 +12,7 @@ use Rattle.vp_model.specs.Words.{same_owner}
 use Rattle.vp_locks.specs.Index.{places_of, Changes, OwnerKey, owner_key, key_eq, AreListed}
 use Rattle.vp_locks.proofs.Indexes.{key_same}
 
--- one owner has one key
+-- one owner has only one key
 one_key : (a b : Owner) → same_owner a b ≡ true → owner_key a ≡ owner_key b
 one_key (Txn t) (Txn u) h = grind (arith, nat_tests, h)
 one_key (Txn t) Refresh h = grind (arith, nat_tests, h)
@@ -34,11 +34,11 @@ module _ {A S : Type 0} (lists : IndexMap OwnerKey (Vec ℕ A) S) where
       one zero d within = new
       one (suc k) d within = absurd (omega (arith, within))
 
-  -- some locks go
+  -- some locks are released
   pub listed_left : (keeps : Lock → Bool) (locks : List Lock) → AreListed lists locks → AreListed lists (filter keeps locks)
   listed_left keeps locks h = All-filter keeps (λ (lock : Lock). list_any (λ k. k == lock.rec) (places_of key_eq lists (owner_key lock.owner)) ≡ true) locks h
 
-  -- an upgrade
+  -- a shared lock becomes exclusive
   pub listed_raised : (rec : ℕ) (owner : Owner) (locks : List Lock) → AreListed lists locks → AreListed lists (map (raised rec true owner) locks)
   listed_raised rec owner locks h = All-map (λ (lock : Lock). list_any (λ k. k == lock.rec) (places_of key_eq lists (owner_key lock.owner)) ≡ true) (raised rec true owner) locks (λ k d within. same (get_or locks k d) (h k d within))
     where
@@ -50,7 +50,7 @@ module _ {A S : Type 0} (lists : IndexMap OwnerKey (Vec ℕ A) S) where
       same : (lock : Lock) → list_any (λ k. k == lock.rec) (places_of key_eq lists (owner_key lock.owner)) ≡ true → list_any (λ k. k == (raised rec true owner lock).rec) (places_of key_eq lists (owner_key (raised rec true owner lock).owner)) ≡ true
       same lock h = to lock ((lock.rec == rec) && same_owner lock.owner owner) h
 
-  -- an owner in whose list a record is not has no lock on it
+  -- an owner has no lock on a record that isn't in its list
   pub none_held : (rec : ℕ) (exclusive : Bool) (owner : Owner) → list_any (λ k. k == rec) (places_of key_eq lists (owner_key owner)) ≡ false → (locks : List Lock) → AreListed lists locks → false ≡ holds rec exclusive owner locks
   none_held rec exclusive owner absent [] h = refl
   none_held rec exclusive owner absent (lock ∷ locks) h = ap₂ (λ a b. a || b) (by ((lock.rec == rec) && (not exclusive || lock.exclusive) && same_owner lock.owner owner) refl) (none_held rec exclusive owner absent locks (λ k d within. h (suc k) d (omega (arith, within))))

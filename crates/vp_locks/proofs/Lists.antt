@@ -1,4 +1,4 @@
--- The list of a key, after it was written.
+-- The list of a key after it was changed.
 use Rattle.std.proofs.Common.{◌≡◌, ℕ, zero, suc, ◌-◌, ◌<◌, ◌≤◌, ◌∙◌, ◌==◌, not, Bool, true, false, List, [], ◌∷◌, ◌++◌, filter, take, remove, get_or, Result, Ok, Err, Some, None, length, if◌then◌else◌, refl, ap, ap₂, sym, length-append, ⊎_elim, arith}
 use Rattle.std.proofs.lemmas.Bool.{cases_eq, cases_lt}
 use Rattle.std.proofs.lemmas.Bool.Decides.{nat_tests}
@@ -41,7 +41,7 @@ others_found p (k ∷ ks) (suc i) up within at =
     let rest = others_found p ks i (λ a b d lt inside. up (suc a) (suc b) d (omega (arith, lt)) (omega (arith, inside))) (omega (arith, within)) at in
     sym (ap₂ (λ b xs. if not b then k ∷ xs else xs) here (sym rest))
 
--- what a search by halves finds is all that has to go
+-- a search by halving finds all that has to be removed
 pub forgotten : (p : ℕ) (ks : List ℕ) (r : Result ℕ ℕ) → IsBinarySearchResult (λ k. nat_cmp k p) ks r → IsStrictlyIncreasing ks → MatchResult r (λ i. remove ks i ≡ filter (λ k. not (k == p)) ks) (λ _. ks ≡ filter (λ k. not (k == p)) ks)
 forgotten p ks r found up = by r (searched ks p r found (λ i j le within. ⊎_elim (λ same. omega (arith, ap (λ k. get_or ks k 0) same)) (λ apart. omega (arith, pairs i j 0 (omega (arith, le, apart)) within)) (cases_eq i j)))
   where
@@ -52,7 +52,7 @@ forgotten p ks r found up = by r (searched ks p r found (λ i j le within. ⊎_e
     by (Ok i) h = others_found p ks i pairs h.0 h.1
     by (Err i) h = sym (all_others p ks (λ j within. ⊎_elim (λ low. let less = h.1 j low in grind (arith, nat_tests, less)) (λ high. let more = h.2 j high within in grind (arith, nat_tests, more)) (cases_lt j i)))
 
--- the last place is taken back
+-- the place that was appended last is removed
 pub taken_back : (ks : List ℕ) (n : ℕ) → take (length (ks ++ n ∷ []) - 1) (ks ++ n ∷ []) ≡ ks
 taken_back ks n =
     let long = length-append ks (n ∷ []) in
@@ -67,7 +67,7 @@ module _ {K A S : Type 0} (eq : K → K → Bool) (picks : K → Bool) (old mid 
       ∙ elim (picks key) as (λ b. (if b then take (length (if b then was ++ n ∷ [] else was) - 1) (if b then was ++ n ∷ [] else was) else (if b then was ++ n ∷ [] else was)) ≡ was) [ true ↦ taken_back was n | false ↦ refl ]
 
 module _ {K A S : Type 0} {eq : K → K → Bool} (laws : IsEquivalence eq) (old new : IndexMap K (Vec ℕ A) S) (key : K) where
-  -- equal keys have one list
+  -- equal keys have the same list
   same_list : (q : K) → eq key q ≡ true → places_of eq old key ≡ places_of eq old q
   same_list q h = λ i. option_map_or (λ (list : Vec ℕ A). list.items) (lookup (λ z. laws.congr key q z h i) old.entries) []
 
@@ -82,7 +82,7 @@ module _ {K A S : Type 0} {eq : K → K → Bool} (laws : IsEquivalence eq) (old
     pub list_changed : (was now : Vec ℕ A) → get eq old key ≡ Some was → Updates eq old new key (Some now) → now.items ≡ f was.items → Changes eq (eq key) f old new
     list_changed was now found up is = list_written now up (is ∙ ap f (sym (ap (λ o. option_map_or (λ (list : Vec ℕ A). list.items) o []) found)))
 
-    -- a list that has become empty is taken out
+    -- a list that has become empty is removed
     pub list_emptied : (last : IndexMap K (Vec ℕ A) S) → ((q : K) → places_of eq new q ≡ (if eq key q then f (places_of eq old q) else places_of eq old q)) → f (places_of eq old key) ≡ [] → Updates eq new last key None → (q : K) → places_of eq last q ≡ (if eq key q then f (places_of eq old q) else places_of eq old q)
     list_emptied last written empty up q = ap (λ o. option_map_or (λ (list : Vec ℕ A). list.items) o []) (up.0 q) ∙ by (eq key q) refl ∙ written q
       where

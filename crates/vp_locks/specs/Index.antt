@@ -1,4 +1,4 @@
--- Lists of the places of locks, by the records or by the owners of the locks.
+-- Lists of the places of locks, by the records or by the owners.
 use Rattle.std.specs.Prelude.{◌≡◌, ℕ, ◌==◌, nat_eq, ◌&&◌, if◌then◌else◌, Bool, true, List, [], Option, Some, None}
 use Rattle.std.specs.List.{All, list_any}
 use Rattle.std.specs.Option.{option_map_or, option_eq}
@@ -15,11 +15,11 @@ module _ {K A S : Type 0} (eq : K → K → Bool) where
   abbrev pub places_of : IndexMap K (Vec ℕ A) S → K → List ℕ
   places_of lists key = option_map_or (λ list. list.items) (get eq lists key) []
 
-  -- the list of each key has the places of the locks that fit this key
+  -- the list of each key has the places of the locks that belong to this key
   abbrev pub IsIndex : (Lock → K → Bool) → IndexMap K (Vec ℕ A) S → List (Option Lock) → Type 0
   IsIndex fits lists slots = (key : K) → places_of lists key ≡ places (λ lock. fits lock key) slots
 
-  -- the lists of the keys that a test picks have changed, and no others
+  -- only the lists of the keys that a test chooses have changed
   abbrev pub Changes : (K → Bool) → (List ℕ → List ℕ) → IndexMap K (Vec ℕ A) S → IndexMap K (Vec ℕ A) S → Type 0
   Changes picks f old new = (key : K) → places_of new key ≡ (if picks key then f (places_of old key) else places_of old key)
 
@@ -34,7 +34,7 @@ owner_key Refresh = None
 abbrev pub key_eq : OwnerKey → OwnerKey → Bool
 key_eq = option_eq (λ (a b : ℕ × ℕ × ℕ). (a.0 == b.0) && (a.1 == b.1) && (a.2 == b.2))
 
--- the keys that a lock fits: its record, its record if it is exclusive, and its owner
+-- the keys that a lock belongs to: its record, its record if it is exclusive, and its owner
 abbrev pub on_rec : Lock → ℕ → Bool
 on_rec lock rec = lock.rec == rec
 
@@ -51,7 +51,7 @@ IsRecIndex p slots = IsIndex nat_eq on_rec p.all.lists slots × IsIndex nat_eq e
 abbrev pub IsOwnerIndex : {A S : Type 0} → IndexMap OwnerKey (Vec ℕ A) S → List (Option Lock) → Type 0
 IsOwnerIndex = IsIndex key_eq owned_by
 
--- the lists that a lock stands in have changed, and no others
+-- only the lists that the lock belongs to have changed
 abbrev pub ChangesAt : Lock → (List ℕ → List ℕ) → RecPlaces → RecPlaces → Type 0
 ChangesAt lock f old new = Changes nat_eq (on_rec lock) f old.all.lists new.all.lists × Changes nat_eq (exclusive_on lock) f old.exclusive.lists new.exclusive.lists
 

@@ -1,10 +1,10 @@
--- Where the locks of a table stand. A slot has a lock, or had one.
+-- The places of the locks of a table. A slot holds a lock, or held one.
 use Rattle.std.specs.Prelude.{ℕ, suc, Bool, false, if◌then◌else◌, List, [], ◌∷◌, map, Option, Some, None}
 use Rattle.std.specs.List.{filter_map, slice_get, slice_set}
 use Rattle.std.specs.Option.{option_map_or}
 use Rattle.vp_base.specs.declared.site.Lock.{Lock}
 
--- the locks that stand in the slots, in order
+-- the locks in the slots, in order
 abbrev pub present : List (Option Lock) → List Lock
 present slots = filter_map (λ s. s) slots
 
@@ -21,10 +21,10 @@ places test [] = []
 places test (s ∷ slots) =
     if passes test s then 0 ∷ map suc (places test slots) else map suc (places test slots)
 
--- the slots, where the lock at a place has changed, or has gone
+-- the slots after the lock at a place has changed, or was released
 abbrev pub revised : (Lock → Option Lock) → List (Option Lock) → ℕ → List (Option Lock)
 revised f slots place = option_map_or (λ lock. slice_set slots place (f lock)) (lock_at slots place) slots
 
--- the lock goes where it is not kept
+-- the lock, unless it isn't kept
 abbrev pub if_kept : (Lock → Bool) → Lock → Option Lock
 if_kept keeps lock = if keeps lock then Some lock else None

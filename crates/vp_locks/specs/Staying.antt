@@ -1,4 +1,4 @@
--- Which locks of an owner stay where others go.
+-- Which locks of an owner are kept where its others are released.
 use Rattle.std.specs.Prelude.{Bool, false, not, ◌==◌}
 use Rattle.vp_base.specs.declared.site.Lock.{Lock}
 use Rattle.vp_locks.specs.declared.keeps.Staying.{Staying}

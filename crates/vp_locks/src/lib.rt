@@ -1,4 +1,6 @@
-//! The lock table of a site. A contract sees the list of its locks, in the order in which they were taken.
+//! The lock table of a site. A contract sees it as the list of its locks, in the order in which they were taken. Locks are shared
+//! or exclusive, and the transaction keeps them to its end: strict two-phase locking (Bernstein, Hadzilacos and Goodman 1987,
+//! chapter 3).
 #![tactic(auto)]
 
 ghost use Rattle.std.specs.Prelude.{◌≡◌, ◌==◌, ◌++◌, ◌∷◌, [], is_ok, not, ◌&&◌, ◌||◌, Some, None, option_copied, if◌then◌else◌, filter, map, fold, true, false};
@@ -24,10 +26,12 @@ use std::marker::Model;
 use vp_base::{CopyOf, Lock, NoMemory, Owner, RecId, TxnId};
 use vp_lists::{is_same_owner, owner_comes_before};
 
-/// Why a lock is not taken: another owner has one that forbids it, or there is no memory.
+/// Why a lock isn't taken: another owner has a lock that conflicts with it, or memory is lacking.
 #[derive(Clone, Copy, Drop)]
 pub enum LockFault {
+    /// This owner has a lock that conflicts; of several such owners, the least one.
     Held { owner: Owner },
+    /// Memory is lacking. The table is as it was.
     NoMemory,
 }
 
@@ -41,7 +45,7 @@ impl From<NoMemory> for LockFault {
     }
 }
 
-/// The lesser of the best owner so far and another.
+/// The lower of the least owner so far and another.
 fn lesser_of(best: Option<Owner>, owner: &Owner) -> Owner
     ensures { result ≡ lesser best owner.now }
 {
@@ -57,7 +61,7 @@ fn lesser_of(best: Option<Owner>, owner: &Owner) -> Owner
     }
 }
 
-/// The least owner so far, or that of the lock, unless it is this owner's own.
+/// The lower of the least owner so far and the lock's owner; the latter is passed over where it is `owner`.
 fn least_with(best: Option<Owner>, lock: Option<&Lock>, owner: &Owner) -> Option<Owner>
     ensures { result ≡ option_map_or (λ lock. if not (same_owner lock.owner owner.now) then Some (lesser best lock.owner) else best) (option_copied lock.entry) best }
 {
@@ -67,7 +71,7 @@ fn least_with(best: Option<Owner>, lock: Option<&Lock>, owner: &Owner) -> Option
     }
 }
 
-/// The least owner of the locks at the places, other than this one.
+/// The least owner of the locks at the places, other than `owner`.
 fn least_other(slots: &[Option<Lock>], places: &[usize], owner: &Owner) -> Option<Owner>
     ensures { result ≡ least_owner (filter (λ lock. not (same_owner lock.owner owner.now)) (filter_map (lock_at slots.now) places.now)) }
 {
@@ -78,7 +82,7 @@ fn least_other(slots: &[Option<Lock>], places: &[usize], owner: &Owner) -> Optio
     best
 }
 
-/// Whether the lock is the owner's on the record, and exclusive where that is asked.
+/// Whether the lock is the owner's on the record, and exclusive where that is required.
 fn is_held(lock: Option<&Lock>, rec: RecId, exclusive: bool, owner: &Owner) -> bool
     ensures { result ≡ passes (λ lock. (lock.rec == rec) && (not exclusive || lock.exclusive) && same_owner lock.owner owner.now) (option_copied lock.entry) }
 {
@@ -90,7 +94,7 @@ fn is_held(lock: Option<&Lock>, rec: RecId, exclusive: bool, owner: &Owner) -> b
     }
 }
 
-/// Whether one of the locks at the places is the owner's on the record, and exclusive where that is asked.
+/// Whether one of the locks at the places is the owner's on the record, and exclusive where that is required.
 fn is_among(
     slots: &[Option<Lock>],
     places: &[usize],
@@ -108,14 +112,15 @@ fn is_among(
     false
 }
 
-/// How many slots a table may use beyond four times the locks that its last copy had.
+/// How many slots a table may use beyond four times the locks that it had when it was last copied.
 const ROOM: usize = 64;
 
-/// The locks at a site, in slots in the order in which they were taken, with the places of each record's locks, of its exclusive ones,
-/// and of each owner's: what is asked of a record or of an owner reads no others. An owner's records are listed too, so that no lock is
-/// read where it has none on a record; a record stays listed until the owner releases all. A lock that goes leaves an empty slot behind. When the slots reach the
-/// limit, a copy without the empty ones takes the table's place; as many locks were taken by then as it has, so that each
-/// lock costs no more than a constant for this.
+/// The locks at a site, in slots in the order in which they were taken. For each record there are the places of its locks and of
+/// its exclusive locks, and for each owner the places of its locks, so that a question about a record or an owner reads no other
+/// locks. Each owner's records are listed too, so that no lock is read where the owner has none on a record; a record stays listed
+/// until the owner releases all its locks. A lock that is released leaves an empty slot. When the slots reach the limit, the table
+/// is replaced by a copy without empty slots; by then as many locks were taken as the copy has, so this costs no more than a
+/// constant for each lock.
 pub struct Locks {
     slots: Vec<Option<Lock>>,
     by_rec: RecPlaces,
@@ -163,7 +168,7 @@ impl CopyOf for Locks {
 }
 
 impl Locks {
-    /// A table without locks, which takes no memory.
+    /// Makes a table without locks. Takes no memory.
     pub fn new(alloc: Global) -> Locks
         ensures { result ≡ [] }
     {
@@ -176,7 +181,7 @@ impl Locks {
         }
     }
 
-    /// The least other owner whose lock forbids this owner the lock.
+    /// The least other owner whose lock conflicts with such a lock of this owner.
     fn blocker(&self, rec: RecId, exclusive: bool, owner: &Owner) -> Option<Owner>
         ensures { result ≡ least_owner (conflicting rec exclusive owner.now self.now) }
     {
@@ -187,7 +192,7 @@ impl Locks {
         }
     }
 
-    /// The owner's lock on the record stands in the lists of both, so that the shorter one is read.
+    /// Whether the owner has the lock. Its place is in the owner's list and in the record's, so the shorter one is read.
     fn has(&self, rec: RecId, exclusive: bool, owner: &Owner) -> bool
         ensures { result ≡ holds rec exclusive owner.now self.now }
     {
@@ -216,7 +221,7 @@ impl Locks {
         }
     }
 
-    /// The owner's lock on the record becomes exclusive.
+    /// Makes the owner's lock on the record exclusive.
     fn raise(&mut self, rec: RecId, owner: &Owner) -> Result<(), NoMemory>
         ensures { self.new ≡ (if is_ok result then map (raised rec true owner.now) self.old else self.old) }
     {
@@ -227,7 +232,7 @@ impl Locks {
         Ok(())
     }
 
-    /// One more lock, behind the others, whoever has one on the record.
+    /// Appends a lock, whoever else has one on the record.
     pub fn add(&mut self, rec: RecId, exclusive: bool, owner: &Owner) -> Result<(), NoMemory>
         ensures { self.new ≡ (if is_ok result then self.old ++ (record { rec = rec; exclusive = exclusive; owner = owner.now }) ∷ [] else self.old) }
     {
@@ -237,7 +242,7 @@ impl Locks {
         self.append(rec, exclusive, owner)
     }
 
-    /// One more lock, in a slot of its own.
+    /// Appends a lock, in a slot of its own.
     fn append(&mut self, rec: RecId, exclusive: bool, owner: &Owner) -> Result<(), NoMemory>
         ensures { self.new ≡ (if is_ok result then self.old ++ (record { rec = rec; exclusive = exclusive; owner = owner.now }) ∷ [] else self.old) }
     {
@@ -273,7 +278,7 @@ impl Locks {
         }
     }
 
-    /// Of the owner's locks those go that do not stay.
+    /// Releases the locks of the owner, except those that are to be kept.
     fn sweep(&mut self, owner: &Owner, staying: Staying)
         ensures { self.new ≡ filter (λ lock. not (same_owner lock.owner owner.now) || stays staying lock) self.old }
     {
@@ -286,21 +291,21 @@ impl Locks {
         self.by_owner.keep_taken(&owner_key(owner), &self.slots);
     }
 
-    /// The least owner whose lock forbids the transaction the lock.
+    /// The least other owner with a lock on the record that conflicts with such a lock of the transaction.
     pub fn conflict(&self, rec: RecId, exclusive: bool, txn: TxnId) -> Option<Owner>
         ensures { result ≡ conflict rec exclusive txn self.now }
     {
         self.blocker(rec, exclusive, &Owner::Txn(txn))
     }
 
-    /// Whether the transaction has a lock on the record, an exclusive one where that is asked.
+    /// Whether the transaction has a lock on the record, and an exclusive one where that is required.
     pub fn holds(&self, rec: RecId, exclusive: bool, txn: TxnId) -> bool
         ensures { result ≡ holds rec exclusive (owner.Txn txn) self.now }
     {
         self.has(rec, exclusive, &Owner::Txn(txn))
     }
 
-    /// Takes the shared lock; an exclusive one that the transaction has stays exclusive.
+    /// Takes a shared lock for the transaction, or keeps the exclusive one that it has. A conflict leaves the table as it was.
     pub fn take_shared(&mut self, rec: RecId, txn: TxnId) -> Result<(), LockFault>
         ensures held { holder_in result ≡ conflict rec false txn self.old }
         ensures locks { self.new ≡ (if is_ok result then with_lock rec false (owner.Txn txn) self.old else self.old) }
@@ -308,7 +313,8 @@ impl Locks {
         self.take(rec, false, txn)
     }
 
-    /// Takes the exclusive lock; a shared one that the transaction has becomes exclusive.
+    /// Takes an exclusive lock for the transaction; a shared one that it has becomes exclusive. A conflict leaves the table as it
+    /// was.
     pub fn take_exclusive(&mut self, rec: RecId, txn: TxnId) -> Result<(), LockFault>
         ensures held { holder_in result ≡ conflict rec true txn self.old }
         ensures locks { self.new ≡ (if is_ok result then with_lock rec true (owner.Txn txn) self.old else self.old) }
@@ -316,28 +322,28 @@ impl Locks {
         self.take(rec, true, txn)
     }
 
-    /// The transaction has the exclusive lock, whoever else has a lock on the record.
+    /// Gives the transaction an exclusive lock, whoever else has a lock on the record.
     pub fn hold(&mut self, rec: RecId, txn: TxnId) -> Result<(), NoMemory>
         ensures { self.new ≡ (if is_ok result then with_lock rec true (owner.Txn txn) self.old else self.old) }
     {
         self.put(rec, true, &Owner::Txn(txn))
     }
 
-    /// The refresh of the record's copy has its lock, beside any other owner.
+    /// Gives the refresh of the record's copy its lock, whoever else has a lock on the record.
     pub fn guard(&mut self, rec: RecId) -> Result<(), NoMemory>
         ensures { self.new ≡ (if is_ok result then with_guard rec self.old else self.old) }
     {
         self.put(rec, true, &Owner::Refresh)
     }
 
-    /// The refresh of the record's copy no longer has its lock.
+    /// Releases the lock that the refresh of the record's copy has.
     pub fn unguard(&mut self, rec: RecId)
         ensures { self.new ≡ without_guard rec self.old }
     {
         self.sweep(&Owner::Refresh, Staying::Elsewhere { rec });
     }
 
-    /// All locks of the transaction go.
+    /// Releases all locks of the transaction.
     pub fn release(&mut self, txn: TxnId)
         ensures { self.new ≡ without_owner (owner.Txn txn) self.old }
     {
@@ -346,14 +352,14 @@ impl Locks {
         self.recs.remove(&owner_key(&owner));
     }
 
-    /// The shared locks of the transaction go, and its exclusive ones stay.
+    /// Releases the shared locks of the transaction, and keeps its exclusive ones.
     pub fn release_shared(&mut self, txn: TxnId)
         ensures { self.new ≡ without_shared (owner.Txn txn) self.old }
     {
         self.sweep(&Owner::Txn(txn), Staying::Exclusive);
     }
 
-    /// The locks that are not kept go.
+    /// Releases all locks except those that `kept` keeps.
     pub fn retain<K: Keeps>(&mut self, kept: &K)
         ensures { self.new ≡ filter (K.keeps kept.now) self.old }
     {

@@ -1,4 +1,4 @@
-//! Lists of the places of locks, by the records or by the owners of the locks.
+//! Lists of the places of locks, by the records or by the owners.
 
 ghost use Rattle.std.specs.Prelude.{◌≡◌, ℕ, ◌-◌, ◌++◌, ◌∷◌, ◌==◌, [], OnErr, OnOk, filter, if◌then◌else◌, is_some, length, nat_eq, not, take, true};
 ghost use Rattle.std.specs.List.{list_any};
@@ -12,7 +12,7 @@ use std::alloc::Global;
 use std::hash::Hash;
 use vp_base::{Lock, NoMemory, Owner, RecId};
 
-/// A key for an owner, of plain numbers: those of its transaction.
+/// A key for an owner: the numbers of its transaction, or `None` for a refresh.
 pub(crate) type OwnerKey = Option<(u8, u32, u32)>;
 
 pub(crate) fn owner_key(owner: &Owner) -> OwnerKey
@@ -24,7 +24,7 @@ pub(crate) fn owner_key(owner: &Owner) -> OwnerKey
     }
 }
 
-/// A list of places for each key, in the order in which the locks were taken.
+/// For each key a list of places, in the order in which the locks were taken.
 #[derive(Drop)]
 pub(crate) struct Places<K: Eq + Hash> {
     pub(crate) lists: IndexMap<K, Vec<usize>>,
@@ -56,7 +56,7 @@ impl<K: Eq + Hash + Drop> Places<K> {
         self.of(key).contains(&place)
     }
 
-    /// One more place of the key, behind its others.
+    /// Appends a place to the key's list.
     pub(crate) fn note(&mut self, key: K, place: usize) -> Result<(), NoMemory>
         ensures noted { OnOk result (Changes K.eq (K.eq key) (λ ps. ps ++ place ∷ []) self.old.lists self.new.lists) }
         ensures err { OnErr result ((q : K) → places_of K.eq self.new.lists q ≡ places_of K.eq self.old.lists q) }
@@ -65,7 +65,7 @@ impl<K: Eq + Hash + Drop> Places<K> {
         Ok(())
     }
 
-    /// The place is the key's, as one more if it was not yet.
+    /// Appends a place to the key's list, unless it is there already.
     pub(crate) fn note_once(&mut self, key: K, place: usize) -> Result<(), NoMemory>
         ensures noted { OnOk result (list_any (λ k. k == place) (places_of K.eq self.new.lists key) ≡ true) }
         ensures kept { (q : K) (n : ℕ) → list_any (λ k. k == n) (places_of K.eq self.old.lists q) ≡ true → list_any (λ k. k == n) (places_of K.eq self.new.lists q) ≡ true }
@@ -76,14 +76,14 @@ impl<K: Eq + Hash + Drop> Places<K> {
         self.note(key, place)
     }
 
-    /// No place is the key's any more.
+    /// Removes all places of the key.
     pub(crate) fn remove(&mut self, key: &K)
         ensures { Changes K.eq (K.eq key.now) (λ _. []) self.old.lists self.new.lists }
     {
         self.lists.swap_remove(key);
     }
 
-    /// These places are now the key's, and no others.
+    /// Replaces the list of the key by these places.
     pub(crate) fn set(&mut self, key: K, places: Vec<usize>) -> Result<(), NoMemory>
         ensures set { OnOk result (Changes K.eq (K.eq key) (λ _. places.items) self.old.lists self.new.lists) }
         ensures err { OnErr result ((q : K) → places_of K.eq self.new.lists q ≡ places_of K.eq self.old.lists q) }
@@ -92,7 +92,7 @@ impl<K: Eq + Hash + Drop> Places<K> {
         Ok(())
     }
 
-    /// The last place is no longer the key's.
+    /// Removes the last place of the key's list.
     pub(crate) fn forget_last(&mut self, key: &K)
         ensures { Changes K.eq (K.eq key.now) (λ ps. take (length ps - 1) ps) self.old.lists self.new.lists }
     {
@@ -101,7 +101,7 @@ impl<K: Eq + Hash + Drop> Places<K> {
         }
     }
 
-    /// The place is no longer the key's. It is sought by halves, since the places rise.
+    /// Removes the place from the key's list, which is searched by halving, since the places ascend.
     pub(crate) fn forget(&mut self, key: &K, place: usize)
         requires { IsStrictlyIncreasing (places_of K.eq self.old.lists key.now) }
         ensures { Changes K.eq (K.eq key.now) (filter (λ k. not (k == place))) self.old.lists self.new.lists }
@@ -114,7 +114,7 @@ impl<K: Eq + Hash + Drop> Places<K> {
         }
     }
 
-    /// Of the key's places those stay that have a lock. A key without places takes no memory.
+    /// Removes those places of the key at which there is no lock any more. A key without places takes no memory.
     pub(crate) fn keep_taken(&mut self, key: &K, slots: &[Option<Lock>])
         ensures { Changes K.eq (K.eq key.now) (filter (λ k. is_some (lock_at slots.now k))) self.old.lists self.new.lists }
     {
@@ -128,7 +128,7 @@ impl<K: Eq + Hash + Drop> Places<K> {
     }
 }
 
-/// The places of each record's locks, of all of them and of the exclusive ones: a shared lock is forbidden by those alone.
+/// The places of each record's locks, of all of them and of the exclusive ones, since only those conflict with a shared lock.
 #[derive(Drop)]
 pub(crate) struct RecPlaces {
     pub(crate) all: Places<u8>,
@@ -146,7 +146,7 @@ impl RecPlaces {
         }
     }
 
-    /// The place of one more lock, behind the others.
+    /// Appends the place of a lock to the lists that the lock belongs to.
     pub(crate) fn note(&mut self, lock: &Lock, place: usize) -> Result<(), NoMemory>
         ensures noted { OnOk result (ChangesAt lock.now (λ ps. ps ++ place ∷ []) self.old self.new) }
         ensures err { OnErr result (IsSame self.old self.new) }
@@ -162,7 +162,7 @@ impl RecPlaces {
         Ok(())
     }
 
-    /// The last place is no longer the lock's.
+    /// Removes the last place from the lists that the lock belongs to.
     pub(crate) fn forget_last(&mut self, lock: &Lock)
         ensures { ChangesAt lock.now (λ ps. take (length ps - 1) ps) self.old self.new }
     {
@@ -172,7 +172,7 @@ impl RecPlaces {
         }
     }
 
-    /// The place is no longer the lock's.
+    /// Removes the place from the lists that the lock belongs to.
     pub(crate) fn forget(&mut self, lock: &Lock, place: usize)
         requires all { IsStrictlyIncreasing (places_of nat_eq self.old.all.lists lock.now.rec) }
         requires exclusive { IsStrictlyIncreasing (places_of nat_eq self.old.exclusive.lists lock.now.rec) }

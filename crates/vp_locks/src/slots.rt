@@ -1,4 +1,4 @@
-//! Slots for locks: each has a lock, or had one.
+//! Slots for locks: each holds a lock, or held one.
 
 ghost use Rattle.std.specs.Prelude.{◌≡◌, ◌<◌, ◌&&◌, ◌||◌, IfOk, IfSome, None, Some, filter, fold, if◌then◌else◌, is_some, length, map, true, false};
 ghost use Rattle.std.specs.Option.{option_copied, option_map_or};
@@ -21,7 +21,7 @@ pub(crate) fn lock_at(slots: &[Option<Lock>], place: usize) -> Option<&Lock>
     slots.get(place)?.as_ref()
 }
 
-/// Whether a lock stands at the place.
+/// Whether there is a lock at the place.
 pub(crate) fn is_taken(slots: &[Option<Lock>], place: usize) -> bool
     ensures { result ≡ is_some (lock_at slots.now place) }
 {
@@ -38,7 +38,7 @@ fn is_exclusive_or_own(lock: Option<&Lock>, owner: &Owner) -> bool
     }
 }
 
-/// Those of the places whose lock is exclusive, or the owner's.
+/// Those places at which the lock is exclusive, or the owner's.
 pub(crate) fn exclusive_or_own(
     alloc: Global,
     slots: &[Option<Lock>],
@@ -56,7 +56,7 @@ pub(crate) fn exclusive_or_own(
     Ok(kept)
 }
 
-/// The owner's lock on the record as an exclusive one; any other lock as it is.
+/// The lock, made exclusive where it is the owner's on the record.
 fn raised(lock: &Lock, rec: RecId, owner: &Owner) -> Lock
     ensures { result ≡ raised rec true owner.now lock.now }
 {
@@ -76,7 +76,7 @@ fn raise_at(slots: &mut [Option<Lock>], place: usize, rec: RecId, owner: &Owner)
     }
 }
 
-/// Of the locks at the places, those of the owner on the record become exclusive.
+/// Makes those locks at the places exclusive that are the owner's on the record.
 pub(crate) fn raise(slots: &mut [Option<Lock>], places: &[usize], rec: RecId, owner: &Owner)
     ensures { slots.new ≡ fold (revised (λ lock. Some (raised rec true owner.now lock))) slots.old places.now }
 {
@@ -85,7 +85,7 @@ pub(crate) fn raise(slots: &mut [Option<Lock>], places: &[usize], rec: RecId, ow
     }
 }
 
-/// The lock at the place goes if it is not kept. Its owner is given.
+/// Releases the lock at the place unless it is kept, and returns its owner.
 fn sweep_at<K: Keeps>(
     slots: &mut [Option<Lock>],
     by_rec: &mut RecPlaces,
@@ -107,7 +107,7 @@ fn sweep_at<K: Keeps>(
     Some(owner)
 }
 
-/// Of the locks at the places those go that are not kept.
+/// Releases the locks at the places, except those that are kept.
 pub(crate) fn sweep<K: Keeps>(
     slots: &mut [Option<Lock>],
     by_rec: &mut RecPlaces,
@@ -123,7 +123,7 @@ pub(crate) fn sweep<K: Keeps>(
     }
 }
 
-/// The locks that are not kept go.
+/// Releases all locks except those that are kept.
 pub(crate) fn sweep_all<K: Keeps>(
     slots: &mut [Option<Lock>],
     by_rec: &mut RecPlaces,

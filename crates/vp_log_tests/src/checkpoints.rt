@@ -11,18 +11,18 @@ use vp_outside::Disk;
 use vp_records::Durable;
 use vp_stable::{AppendFault, Log, LogFault};
 
-/// One batch, Start of life 1, behind an open gate, and a closed gate.
+/// One batch, Start of life 1, after an open gate, and a closed gate.
 const START: &[u8] = b"\x01\0\0\0\0\0\0\0\x05\x01\0\0\0\x01\0";
 
 /// One batch, a Checkpoint of generation 1 and life 1 without copies, and a closed gate.
 const CHECKPOINT: &[u8] = b"\x01\0\0\0\0\0\0\0\x28\x08\0\0\0\0\0\0\0\x01\0\0\0\x01\
     \0\0\0\0\0\0\0\0\0\0\0\0\0\0\0\0\0\0\0\0\0\0\0\0\0\0\0\0";
 
-/// It with one copy, that of record 0 with the value 10.
+/// The same with one copy, that of record 0 with the value 10.
 const WITH_A_COPY: &[u8] = b"\x01\0\0\0\0\0\0\0\x35\x08\0\0\0\0\0\0\0\x01\0\0\0\x01\
     \0\0\0\0\0\0\0\0\0\0\x01\0\x02\x31\x30\0\0\0\0\0\0\0\0\0\0\0\0\0\0\0\0\0\0\0\0\0\0\0\0\0\0";
 
-/// Where its generation, its life and the gate behind it stand.
+/// Where its generation, its life and the gate after it are.
 const GENERATION: usize = 17;
 
 const LIFE: usize = 21;
@@ -35,12 +35,12 @@ fn checkpoint(rt: &impl Abort, alloc: Global, generation: u8, life: u8) -> Vec<u
     changed(rt, alloc, &other, LIFE, life)
 }
 
-/// The checkpoint with another byte at this place.
+/// The checkpoint with another byte at this index.
 fn changed_to(rt: &impl Abort, alloc: Global, at: usize, byte: u8) -> Vec<u8> {
     changed(rt, alloc, CHECKPOINT, at, byte)
 }
 
-/// The bytes with another one at this place.
+/// The bytes with another one at this index.
 fn changed(rt: &impl Abort, alloc: Global, bytes: &[u8], at: usize, byte: u8) -> Vec<u8> {
     let mut half = bytes.to_vec(alloc).expect(rt, "memory");
     if let Some(old) = half.get_mut(at) {
@@ -55,7 +55,7 @@ fn holding(rt: &impl Abort, alloc: Global, first: &[u8], second: &[u8]) -> SureD
     SureDisk::holding(alloc, first, second).expect(rt, "memory")
 }
 
-/// The generation and the life of the only record; none where there are more or it has none.
+/// The generation and the life of the only record; none where there are more, or it has none.
 fn only_record(batches: &Batches) -> Option<(u64, u32)> {
     let [batch] = batches.as_slice() else {
         return None;
@@ -73,7 +73,7 @@ fn only_record(batches: &Batches) -> Option<(u64, u32)> {
     }
 }
 
-/// What recovery gives of these halves: the generation and the life of the only record. It leaves the halves as they are.
+/// What recovery finds in these halves: the generation and the life of the only record. It leaves the halves as they are.
 fn recovered(rt: &impl Abort, alloc: Global, first: &[u8], second: &[u8]) -> Option<(u64, u32)> {
     let mut disk = holding(rt, alloc, first, second);
     let (_, batches) = Log::recover(alloc, &mut disk).expect(rt, "a log");
@@ -84,7 +84,7 @@ fn recovered(rt: &impl Abort, alloc: Global, first: &[u8], second: &[u8]) -> Opt
     }
 }
 
-/// Whether `peek` reads so many batches of these halves, with this only record where there is one, and leaves the halves as they are.
+/// Whether `peek` reads so many batches of these halves, with this only record if there is one, and leaves the halves as they are.
 fn peeks(
     rt: &impl Abort,
     alloc: Global,
@@ -140,7 +140,7 @@ fn is_passed_over(rt: &impl Abort, alloc: Global, second: &[u8]) -> bool {
     recovered(rt, alloc, START, second) == Some((0, 1))
 }
 
-// A stop leaves half 1 without bytes, with a closed gate, or with a batch behind it; or its batch is cut short or no list of records.
+// A stop leaves half 1 without bytes, with a closed gate, or with a batch after it; or its batch is cut short or no list of records.
 #[test]
 fn a_checkpoint_that_is_not_whole_does_not_count(rt: HostRuntime) {
     let alloc = rt.alloc();
@@ -151,7 +151,7 @@ fn a_checkpoint_that_is_not_whole_does_not_count(rt: HostRuntime) {
     assert!(rt; is_passed_over(&rt, alloc, &changed_to(&rt, alloc, 9, 0x63)));
 }
 
-/// The place at which recovery refuses half 1.
+/// The index at which recovery refuses half 1.
 fn refused(rt: &impl Abort, alloc: Global, first: &[u8], second: &[u8]) -> Option<u64> {
     let mut disk = holding(rt, alloc, first, second);
     match Log::recover(alloc, &mut disk) {
@@ -182,7 +182,7 @@ fn started(alloc: Global) -> Durable
     )
 }
 
-/// It with one copy, that of record 0 with the value 10.
+/// The same with one copy, that of record 0 with the value 10.
 fn with_a_copy(rt: &impl Abort, alloc: Global) -> Durable
     ensures { CanBeSaved result }
 {
@@ -202,7 +202,7 @@ fn with_a_copy(rt: &impl Abort, alloc: Global) -> Durable
     )
 }
 
-/// Recovers a log, and answers what a checkpoint of this durable part does.
+/// Recovers a log, and returns the result of a checkpoint of this durable part.
 fn checkpointed<D: Disk>(
     rt: &impl Abort,
     alloc: Global,
@@ -226,7 +226,7 @@ fn a_checkpoint_starts_the_other_half(rt: HostRuntime) {
     assert!(rt; only_record(&batches) == Some((1, 1)));
 }
 
-/// A disk on which the log with one Start lies, and of which these calls fail.
+/// A disk with the log that has one Start, of which these calls fail.
 fn laid(rt: &impl Abort, alloc: Global, calls: Vec<u64>) -> MemDisk {
     let half = START.to_vec(alloc).expect(rt, "memory");
     let mut disk = MemDisk::new(alloc, calls);
@@ -235,8 +235,8 @@ fn laid(rt: &impl Abort, alloc: Global, calls: Vec<u64>) -> MemDisk {
     disk
 }
 
-/// The generation that is left where a checkpoint with a copy stops behind so many of its calls, or is done; none where half 1 doesn't have
-/// these bytes. To attach and recover the log are 5 calls.
+/// The generation that is left if a checkpoint with a copy stops after so many of its calls, or is done; none where half 1 doesn't have
+/// these bytes. To attach and recover the log takes 5 calls.
 fn left_by_stop(
     rt: &impl Abort,
     alloc: Global,
@@ -265,7 +265,7 @@ fn a_checkpoint_has_the_copies_and_counts_once_its_gate_is_open(rt: HostRuntime)
     assert!(rt; left_by_stop(&rt, alloc, (8, false), WITH_A_COPY) == Some(1));
 }
 
-/// The generation that is left after a checkpoint on a disk whose call with this number fails; none where the answer is no fault of the
+/// The generation that is left after a checkpoint on a disk whose call with this number fails; none where the result is no fault of the
 /// disk.
 fn left_after(rt: &impl Abort, alloc: Global, call: u64) -> Option<u64> {
     let calls = vec![in alloc; call].expect(rt, "memory");
@@ -292,7 +292,7 @@ fn a_checkpoint_that_fails_leaves_the_log_or_is_there(rt: HostRuntime) {
     assert!(rt; left_after(&rt, rt.alloc(), 100).is_none());
 }
 
-/// Whether a checkpoint is due of a log whose batches are so many records of 5 bytes.
+/// Whether a checkpoint is due of a log whose batches have so many records of 5 bytes.
 fn is_due(rt: &impl Abort, alloc: Global, counts: &[u16]) -> bool {
     let mut half = Vec::new(alloc);
     for count in counts {

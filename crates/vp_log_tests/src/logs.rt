@@ -9,7 +9,7 @@ use vp_disks::{MemDisk, SureDisk};
 use vp_outside::Disk;
 use vp_stable::{AppendFault, Log, LogFault};
 
-/// One batch, Start of life 1, behind an open gate, and a closed gate.
+/// One batch, Start of life 1, after an open gate, and a closed gate.
 const ONE: &[u8] = b"\x01\0\0\0\0\0\0\0\x05\x01\0\0\0\x01\0";
 
 // Rows of cases: the count of a row's bytes, a number, and then the bytes of a half. One list of bytes is proved faster than a
@@ -24,7 +24,7 @@ const LOGS: &[u8] = b"\
     \x10\x01\x01\0\0\0\0\0\0\0\x05\x01\0\0\0\x01\x02\xff\
     \x1d\x02\x01\0\0\0\0\0\0\0\x05\x01\0\0\0\x01\x01\0\0\0\0\0\0\0\x05\x01\0\0\0\x02\0";
 
-/// What is no log, with the gate at fault.
+/// Damaged logs, with the gate at fault.
 const BAD_LOGS: &[u8] = b"\
     \x0e\0\x01\0\0\0\0\0\0\0\x05\x01\0\0\0\x01\
     \x0f\x0e\x01\0\0\0\0\0\0\0\x05\x01\0\0\0\x01\x01\
@@ -56,7 +56,7 @@ fn is_start(batch: &Batch, life: usize) -> bool {
     }
 }
 
-/// Whether the batches are so many, each of them one Start, of the lives 1, 2 and so on.
+/// Whether there are so many batches, each of them one Start, of the lives 1, 2 and so on.
 fn are_starts(batches: &Batches, count: u8) -> bool {
     let batches = batches.as_slice();
     batches.len() == usize::from(count)
@@ -71,7 +71,7 @@ fn holding(rt: &impl Abort, alloc: Global, bytes: &[u8]) -> SureDisk {
     SureDisk::holding(alloc, half, Vec::new(alloc)).expect(rt, "memory")
 }
 
-/// Whether recovery gives so many batches, and leaves the bytes as they are or makes a log of one closed gate.
+/// Whether recovery finds so many batches, and leaves the bytes as they are or makes a log of one closed gate.
 fn is_log(rt: &impl Abort, alloc: Global, bytes: &[u8], count: u8) -> bool {
     let mut disk = holding(rt, alloc, bytes);
     let (_, batches) = Log::recover(alloc, &mut disk).expect(rt, "a log");
@@ -100,7 +100,7 @@ fn takes_another(rt: &impl Abort, alloc: Global, bytes: &[u8], count: u8) -> boo
     are_starts(&before, count) && after.as_slice().len() == usize::from(count) + 1
 }
 
-/// What the rows of a table tell.
+/// What the rows of a table are about.
 #[derive(Clone, Copy, Drop)]
 enum Table {
     Logs,
@@ -116,7 +116,7 @@ fn is_met(rt: &impl Abort, alloc: Global, table: Table, bytes: &[u8], number: u8
     }
 }
 
-/// How many rows are met, up to the first that is not.
+/// How many rows hold, up to the first that doesn't.
 fn rows_met(rt: &impl Abort, alloc: Global, table: Table, rows: &[u8]) -> usize {
     let mut rest = rows;
     for row in 0..rows.len() {
@@ -147,11 +147,11 @@ fn a_stop_in_an_append_leaves_the_batch_or_nothing_of_it(rt: HostRuntime) {
     assert_eq!(rt; rows_met(&rt, rt.alloc(), Table::Left, LEFT), 5);
 }
 
-/// The bytes of `ONE` behind a gate that isn't open.
+/// The bytes of `ONE` after a gate that isn't open.
 const CLOSED: &[u8] = b"\0\0\0\0\0\0\0\0\x05\x01\0\0\0\x01\0";
 
-/// Whether an append to an empty log that stops behind so many of its calls leaves this half, in which so many batches stand. Attaching it
-/// and its recovery are 6 calls.
+/// Whether an append to an empty log that stops after so many of its calls leaves this half, in which there are so many batches.
+/// Attaching it and its recovery take 6 calls.
 fn leaves(
     rt: &impl Abort,
     alloc: Global,
@@ -235,8 +235,8 @@ fn failing(rt: &impl Abort, alloc: Global, call: u64) -> MemDisk {
     MemDisk::new(alloc, calls)
 }
 
-/// How many of recovery and an append are done on a disk whose call with this number fails, or 9 where the answer is no fault
-/// of the disk or the batch is there twice.
+/// How many of recovery and an append are done on a disk whose call with this number fails, or 9 where the result is no fault of the
+/// disk or the batch is there twice.
 fn done(rt: &impl Abort, alloc: Global, call: u64) -> u8 {
     let mut disk = failing(rt, alloc, call);
     disk.attach(&Word::new(alloc)).expect(rt, "no fault");

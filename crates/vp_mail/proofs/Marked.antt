@@ -1,4 +1,4 @@
--- A queue in which messages are marked as delivered: what it shows as they are marked and leave.
+-- A queue in which messages are marked as delivered: what waits as they are marked and leave.
 use Rattle.std.proofs.Common.{◌≡◌, ◌≤◌, ◌<◌, ◌+◌, ◌==◌, ℕ, zero, suc, Bool, true, false, if◌then◌else◌, List, [], ◌∷◌, ◌++◌, map, length, get_or, refl, sym, ap, ◌∙◌, subst, Option, Some, None, IfSome, option_to_list, Result, Ok, Err, Less, Equal, Greater, ⊎_elim, arith}
 use Rattle.std.specs.List.{slice_set, slice_index_or}
 use Rattle.std.specs.List.Sorted.{IsBinarySearchResult}
@@ -46,7 +46,7 @@ first_stays r xs ys is h m rest e = h m (rest ++ option_to_list r) (is ∙ ap (�
 
 -- ---- one that joins
 
--- those that are not delivered are below n, the last of them too
+-- those that are not delivered are below n, and so is the last of them
 last_below : (n k : ℕ) (xs : List Numbered) → Rises k (numbers xs) → AreBelow n (undelivered xs) → ((m : Numbered) (before : List Numbered) → xs ≡ before ++ m ∷ [] → m.delivered ≡ false) → AreBelow n (numbers xs)
 last_below n k [] r h last = tt
 last_below n k (x ∷ []) r h last = alone (subst (λ b. AreBelow n (if b then [] else x.number ∷ [])) (last x [] refl) h)
@@ -155,7 +155,7 @@ marked_shown n (suc i) (x ∷ xs) m r h at =
     ap (λ ws. if x.delivered then ws else x.number ∷ ws) (marked_shown (x.number + 1) i xs m r.1 (omega (arith, h)) at)
     ∙ sym (without_one x.delivered x.number m.number (undelivered xs) (is_other x.number m.number (λ e. omega (arith, above, e))))
 
--- ---- what a search says
+-- ---- what a search finds
 
 equal : (k x : ℕ) → x ≡ k → nat_cmp x k ≡ Equal
 equal k x e = sym (nat_cmp_is x k Equal e)

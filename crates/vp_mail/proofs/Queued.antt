@@ -1,4 +1,4 @@
--- The queues are those of their pairs, after one more message is sent or delivered.
+-- The queues of the pairs stay right, after one more message is sent or delivered.
 use Rattle.std.proofs.Common.{◌≡◌, ◌≤◌, ◌<◌, ◌+◌, ◌-◌, ◌==◌, ℕ, Bool, true, false, if◌then◌else◌, List, [], ◌∷◌, ◌++◌, map, length, slice_get, Option, Some, None, is_none, refl, sym, ap, ◌∙◌, subst, arith}
 use Rattle.std.proofs.Math.ListN.{set}
 use Rattle.std.proofs.Math.Seq.{map-set_same}
@@ -16,7 +16,7 @@ sited_push : (sent : List Sent) (s : Sent) → AreSited sent → AreSites s.from
 sited_push [] s h at = (at, tt)
 sited_push (x ∷ xs) s h at = (h.0, sited_push xs s h.1 at)
 
--- the first of a queue that changes is written
+-- the first number of a queue that changes is written
 pub first_set : (queues : List (List ℕ)) (firsts : List (Option ℕ)) (place : ℕ) (q : List ℕ) (o : Option ℕ) → firsts ≡ map first queues → o ≡ first q → slice_set firsts place o ≡ map first (slice_set queues place q)
 first_set queues firsts place q o are is = rw (are, is) (sym (map-set first queues place q))
 
@@ -70,7 +70,7 @@ module _ (queues : List (List ℕ)) (sent : List Sent) (delivered : List ℕ) (i
     pub post_queued : (now : List Sent) (x : List ℕ) → now ≡ sent ++ s ∷ [] → x ≡ q ++ (length sent + 1) ∷ [] → IsQueued (slice_set queues place x) now delivered
     post_queued now x n e = rw (n, e) sent_queued
 
-  -- a number that joins leaves the first one, where there is one
+  -- a number that is appended leaves the first one as it is, where there is one
   pub first_stays : (firsts : List (Option ℕ)) (o : Option ℕ) (n : ℕ) (x : List ℕ) → firsts ≡ map first queues → o ≡ slice_index_or firsts place o → is_none o ≡ false → x ≡ q ++ n ∷ [] → firsts ≡ map first (slice_set queues place x)
   first_stays firsts o n x are at some more =
       let first_is : o ≡ first q = at ∙ rw are (get_or-map first queues place q o (rw inv.count within)) ∙ ap first (sym read) in

@@ -58,7 +58,7 @@ module _ (pair : ℕ) where
       let apart : (k == n) ≡ false = grind (arith, nat_tests, is) in
       rw (has_other D k n apart, delivered_other D k (n + 1) i xs s at (omega arith) other) refl
 
-  -- none is lower than where they begin
+  -- a weaker bound
   weaker : (n : ℕ) (o : Option ℕ) → IfSome o (λ j. n + 1 ≤ j) → IfSome o (λ j. n ≤ j)
   weaker n None h = tt
   weaker n (Some j) h = omega arith

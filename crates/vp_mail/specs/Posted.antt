@@ -19,6 +19,6 @@ message_in k sent = if k == 0 then None else slice_get sent (k - 1)
 abbrev pub are_too_many : List Sent → Bool
 are_too_many sent = nat_lt 2000000 (length sent)
 
--- the number of the first of these messages, which are sent behind those; none where there would be too many
+-- the number of the first of these messages, which are sent after those; none where there would be too many
 abbrev pub first_number : List Sent → List Sent → Option ℕ
 first_number messages sent = if are_too_many (sent ++ messages) then None else Some (length sent + 1)

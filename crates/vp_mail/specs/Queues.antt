@@ -4,7 +4,7 @@ use Rattle.vp_model.specs.Types.{Sent}
 use Rattle.vp_model.specs.Words.{has}
 use Rattle.vp_mail.specs.declared.queue.Numbered.{Numbered}
 
--- the place of a pair's queue: there are 16 sites at most
+-- the place of a pair's queue; there are at most 16 sites
 abbrev pub pair_of : ℕ → ℕ → ℕ
 pair_of from to = (from - 1) * 16 + (to - 1)
 
@@ -19,12 +19,12 @@ waiting pair delivered k (sent ∷ rest) =
 abbrev pub without : ℕ → List ℕ → List ℕ
 without k numbers = filter (λ j. not (j == k)) numbers
 
--- the numbers ascend, from n on
+-- the numbers ascend, and are n or more
 abbrev pub Rises : ℕ → List ℕ → Type 0
 Rises n [] = Unit {0}
 Rises n (k ∷ numbers) = (n ≤ k) × Rises (k + 1) numbers
 
--- each of the numbers is lower than n
+-- each of the numbers is below n
 abbrev pub AreBelow : ℕ → List ℕ → Type 0
 AreBelow n [] = Unit {0}
 AreBelow n (k ∷ numbers) = (k < n) × AreBelow n numbers

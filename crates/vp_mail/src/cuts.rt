@@ -1,4 +1,4 @@
-//! The pairs of sites that are cut.
+//! The pairs of sites that are cut off from each other.
 
 ghost use Rattle.std.specs.Prelude.{◌≡◌, ◌&&◌, ◌||◌, ◌==◌, [], OnOk, OnErr, filter, not};
 ghost use Rattle.std.specs.List.{list_any};
@@ -8,7 +8,7 @@ use std::alloc::Global;
 use std::marker::Model;
 use vp_base::{NoMemory, SiteId};
 
-/// The pairs that are cut, each once.
+/// The pairs that are cut, each one once.
 #[derive(Drop)]
 pub struct Cuts {
     pairs: Vec<(SiteId, SiteId)>,
@@ -22,7 +22,7 @@ impl Model for Cuts {
     ghost view = { λ c. c.pairs.items };
 }
 
-/// Whether the two are this pair, whichever is named first.
+/// Whether the two are this pair, in either order.
 fn is_pair(a: SiteId, b: SiteId, pair: &(SiteId, SiteId)) -> bool
     ensures { result ≡ same_pair a b pair.now }
 {
@@ -36,7 +36,7 @@ fn drop_pair(pairs: &mut Vec<(SiteId, SiteId)>, a: SiteId, b: SiteId)
 }
 
 impl Cuts {
-    /// No pair is cut.
+    /// Makes it with no pair cut. Takes no memory.
     pub fn none(alloc: Global) -> Cuts
         ensures { result ≡ [] }
     {
@@ -45,14 +45,14 @@ impl Cuts {
         }
     }
 
-    /// Whether the pair is cut, whichever of the two is named first.
+    /// Whether the pair is cut; the order of the two makes no difference.
     pub fn has(&self, a: SiteId, b: SiteId) -> bool
         ensures { result ≡ list_any (same_pair a b) self.now }
     {
         self.pairs.iter().any(|pair| is_pair(a, b, pair))
     }
 
-    /// The pair is cut from here on. Without memory the cuts stay as they are.
+    /// Cuts the pair. Where memory is lacking, the cuts stay as they are.
     pub fn cut(&mut self, a: SiteId, b: SiteId) -> Result<(), NoMemory>
         ensures cut { OnOk result (self.new ≡ with_cut a b self.old) }
         ensures err { OnErr result (self.new ≡ self.old) }
@@ -63,7 +63,7 @@ impl Cuts {
         Ok(())
     }
 
-    /// The pair is whole from here on, cut or not before.
+    /// Heals the pair, whether it was cut or not.
     pub fn heal(&mut self, a: SiteId, b: SiteId)
         ensures { self.new ≡ without_cut a b self.old }
     {

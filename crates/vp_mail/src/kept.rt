@@ -1,4 +1,4 @@
-//! A message as the mail keeps it.
+//! The form in which the mail keeps a message.
 
 ghost use Rattle.std.specs.Prelude.{◌≡◌, IfOk};
 ghost use Rattle.vp_mail.specs.Keeping.{sent_as};
@@ -7,7 +7,7 @@ use std::alloc::Global;
 use std::marker::Model;
 use vp_base::{Boxed, CopyOf, Message, NoMemory, RecId, Sent, SiteId, ViewId};
 
-/// What stands in place of a message. The fields of a request's view stand one by one, since a `ViewId` would take 16 bytes for its 9.
+/// What is kept for a message. The fields of a request's view are kept one by one, since a `ViewId` would take 16 bytes for its 9.
 #[derive(Drop)]
 enum Form {
     RefreshRequest {
@@ -22,8 +22,8 @@ enum Form {
     },
 }
 
-/// A message that was sent. A site asks each other holder of a copy that it has to refresh, again with each tick, so that most messages
-/// of a large world are refresh requests: these stand here themselves, in 24 bytes, and a message of another kind in a box.
+/// A message that was sent. A site asks each other holder of a copy that it has to refresh, again with each tick, so most messages
+/// of a large world are refresh requests: those are kept here in 24 bytes, and any other message in a box.
 #[derive(Drop)]
 pub struct Kept {
     form: Form,
@@ -38,7 +38,7 @@ impl Model for Kept {
     ghost view = { λ k. sent_as k.form };
 }
 
-/// What stands in place of this message.
+/// What is kept for this message.
 fn form_of(alloc: Global, sent: Sent) -> Result<Form, NoMemory>
     ensures { IfOk result (λ form. sent_as form ≡ sent) }
 {
@@ -59,6 +59,7 @@ fn form_of(alloc: Global, sent: Sent) -> Result<Form, NoMemory>
 }
 
 impl Kept {
+    /// Keeps the message. The only error is want of memory; the message is dropped then.
     pub fn new(alloc: Global, sent: Sent) -> Result<Kept, NoMemory>
         ensures { IfOk result (λ kept. kept ≡ sent) }
     {
@@ -67,7 +68,7 @@ impl Kept {
         })
     }
 
-    /// The message, as it was sent.
+    /// Makes the message again, as it was sent.
     pub fn sent(&self) -> Result<Sent, NoMemory>
         ensures { IfOk result (λ sent. sent ≡ self.now) }
     {

@@ -1,8 +1,8 @@
-//! The messages between the sites of a world: those that were sent, which of them wait for their first delivery, and the pairs
-//! of sites that are cut.
+//! The messages between the sites of a world: those that were sent, those that wait for their first delivery, and the pairs of
+//! sites that are cut.
 //!
-//! A contract sees the messages and the numbers of those that were delivered. Beside that the mail keeps what finds the next
-//! message of a pair at once, whatever was sent before it.
+//! A contract sees the messages and the numbers of those that were delivered. Besides, the mail keeps queues, by which the next
+//! message of a pair is found at once, however many were sent before it.
 #![tactic(auto)]
 
 mod cuts;

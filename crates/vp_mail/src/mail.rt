@@ -11,15 +11,15 @@ use std::alloc::Global;
 use std::marker::Model;
 use vp_base::{LAST_SITE, MOST_MESSAGES, Messages, NoMemory, Sent, SiteId};
 
-/// How many sites there are at most.
+/// How many sites there are at most: 16.
 pub const SITES: usize = LAST_SITE as usize;
 
-/// How many pairs of a sender and a receiver there are.
+/// How many pairs of a sender and a receiver there are: 256.
 pub const PAIRS: usize = SITES * SITES;
 
 /// All messages that were sent, numbered from 1, and the numbers of those that were delivered. For each pair of a sender and a
-/// receiver there is a queue of its messages that were never delivered. The first ones of all queues stand side by side, where a walk
-/// over the pairs reads them.
+/// receiver there is a queue of its messages that were never delivered. The first numbers of all queues are next to each other in
+/// memory, for a walk over the pairs.
 pub struct Mail {
     sent: Vec<Kept>,
     delivered: Vec<u32>,
@@ -82,7 +82,7 @@ fn firsts_of(alloc: Global, queues: &[Queue]) -> Result<Vec<Option<u32>>, NoMemo
     Ok(firsts)
 }
 
-/// The message gets the next number, which joins the queue. Without memory both stay as they are.
+/// Keeps the message, and appends its number to the queue. Where memory is lacking, both stay as they are.
 fn post(sent: &mut Vec<Kept>, queue: &mut Queue, message: Sent) -> Result<(), NoMemory>
     requires room { length sent.old.items < 2000000 }
     requires last { AreBelow (length sent.old.items + 1) queue.old }
@@ -100,7 +100,7 @@ fn post(sent: &mut Vec<Kept>, queue: &mut Queue, message: Sent) -> Result<(), No
 }
 
 impl Mail {
-    /// Nothing was sent yet.
+    /// Makes it with no messages.
     pub fn none(alloc: Global) -> Result<Mail, NoMemory>
         ensures { IfOk result (λ mail. mail ≡ record { sent = []; delivered = [] }) }
     {
@@ -121,8 +121,8 @@ impl Mail {
         self.sent.len()
     }
 
-    /// The lowest message of the pair that was never delivered. The pair of a sender and a receiver has the place
-    /// `16 * (sender - 1) + receiver - 1`.
+    /// The lowest number of a message of the pair that was never delivered. The pair of a sender and a receiver has the place `16 *
+    /// (sender - 1) + receiver - 1`.
     pub fn first_waiting(&self, pair: usize) -> Option<u32>
         requires { pair < 256 }
         ensures first { result ≡ first (waiting pair self.now.delivered 1 self.now.sent) }
@@ -131,7 +131,7 @@ impl Mail {
         self.firsts[pair]
     }
 
-    /// The message of this number.
+    /// The message of this number, as it was sent; `None` where there is none.
     pub fn message(&self, k: u32) -> Result<Option<Sent>, NoMemory>
         ensures { IfOk result (λ sent. sent ≡ message_in k self.now.sent) }
     {
@@ -141,7 +141,7 @@ impl Mail {
         }
     }
 
-    /// The message of this number is delivered, which is this one. It may be delivered again. Without memory the mail stays as it
+    /// Delivers the message `sent`, which has this number; it may be delivered again. Where memory is lacking, the mail stays as it
     /// is.
     pub fn deliver(&mut self, k: u32, sent: &Sent) -> Result<(), NoMemory>
         requires { message_in k self.old.sent ≡ Some sent.now }
@@ -156,7 +156,7 @@ impl Mail {
         Ok(())
     }
 
-    /// The number that the first of these messages is sent under; none where they are too many.
+    /// The number that the first of these messages would get; `None` where there would be more than 2,000,000 in all.
     pub fn first_number(&self, messages: &[Sent]) -> Option<u32>
         ensures { result ≡ first_number messages.now self.now.sent }
     {
@@ -167,7 +167,7 @@ impl Mail {
         Some(count as u32 + 1)
     }
 
-    /// Sends the messages. Without memory the first of them are sent, but not all.
+    /// Sends the messages. After want of memory the first ones are sent, but not all.
     pub fn send(&mut self, messages: Messages) -> Result<(), NoMemory>
         requires { length self.old.sent + length messages ≤ 2000000 }
         ensures sent { OnOk result (self.new ≡ posted messages self.old) }

@@ -9,14 +9,14 @@ use std::collections::VecDeque;
 use std::marker::Model;
 use vp_base::NoMemory;
 
-/// A message of the pair.
+/// A message of the pair, by its number.
 #[derive(Clone, Copy)]
 struct Numbered {
     number: u32,
     delivered: bool,
 }
 
-/// The messages by ascending number. One that is delivered is marked; it leaves the queue once all before it, or all behind it, are
+/// The messages by ascending number. One that is delivered is marked; it leaves the queue once all before it, or all after it, are
 /// delivered too.
 #[derive(Drop)]
 pub struct Queue {
@@ -35,7 +35,7 @@ impl Model for Queue {
 }
 
 impl Queue {
-    /// No message waits.
+    /// Makes an empty queue. Takes no memory.
     pub fn none(alloc: Global) -> Queue
         ensures { result ≡ [] }
     {
@@ -44,14 +44,14 @@ impl Queue {
         }
     }
 
-    /// The lowest number that waits.
+    /// The lowest number of a message that waits.
     pub fn first(&self) -> Option<u32>
         ensures { result ≡ first self.now }
     {
         self.messages.front().map(|m| m.number)
     }
 
-    /// The message is sent, the last one so far. Without memory the queue stays as it is.
+    /// Appends a message, whose number is the highest so far. Where memory is lacking, the queue stays as it is.
     pub fn push(&mut self, number: u32) -> Result<(), NoMemory>
         requires { AreBelow number self.old }
         ensures ok { OnOk result (self.new ≡ self.old ++ number ∷ []) }
@@ -64,7 +64,7 @@ impl Queue {
         Ok(())
     }
 
-    /// The message is delivered, for the first time or again: it waits no more.
+    /// Notes that the message is delivered, for the first time or again, so that it waits no more.
     pub fn take(&mut self, number: u32)
         ensures { self.new ≡ without number self.old }
     {
@@ -75,7 +75,7 @@ impl Queue {
     }
 }
 
-/// The place of the message, where it stands in the queue. Mostly the first one is asked for, since flows deliver in order.
+/// The place of the message in the queue. The first one is tried first, since flows deliver in order.
 fn place_of(messages: &VecDeque<Numbered>, number: u32) -> Option<usize>
     requires { Rises 0 (map (λ m. m.number) messages.now.items) }
     ensures within { IfSome result (λ place. place < length messages.now.items) }
@@ -88,7 +88,7 @@ fn place_of(messages: &VecDeque<Numbered>, number: u32) -> Option<usize>
     messages.binary_search_by_key(&number, |m| m.number).ok()
 }
 
-/// Those that were delivered leave, up to the first and from the last one that was not.
+/// Removes the delivered messages at the front and at the end.
 fn trim(messages: &mut VecDeque<Numbered>)
     requires { Rises 0 (map (λ m. m.number) messages.old.items) }
     ensures trimmed { IsTrimmed messages.new.items }

@@ -1,32 +1,14 @@
--- What may be claimed after some schedules: the answers that are given, and that a false one is not justified.
+-- What an answer may claim after some schedules: the answers that are given are justified, and false ones are not.
 use Rattle.std.proofs.Common.{◌≡◌, true, false, refl}
-use Rattle.std.specs.Prelude.{List, [], ◌∷◌, ◌++◌, codes, map, None}
-use Rattle.vp_model.specs.Types.{Answer, Event}
+use Rattle.std.specs.Prelude.{[], ◌∷◌, ◌++◌, codes}
 use Rattle.vp_model.specs.Types.answer
 use Rattle.vp_model.specs.Types.call
 use Rattle.vp_model.specs.Types.event
 use Rattle.vp_model.specs.Types.owner
-use Rattle.vp_model.specs.World.{Moment, Schedule, moments_of}
-use Rattle.vp_model.specs.Told.{answers_in}
 use Rattle.vp_model.specs.Headline.{RefusalsAreJustified}
-use Rattle.vp_model.specs.Worked.{view, txn}
+use Rattle.vp_model.specs.Worked.{txn}
 use Rattle.vp_model.specs.Worked.FalseClaims.{is_justified_after, closed_and_left, closed_by_lock, closed_by_leaving, granted_after_all, next_is_done, next_is_refused, closed_idle, IsToldApart, aborted, never_begun, out_of_turn, refused_by_two, timed_out_before, written_after_all, told_before_leaving, waiting_write, left_view, refused_again, refused_first, forgotten, called_elsewhere, unknown_without_weight, told_the_weights}
 use Rattle.vp_model.proofs.Computed.{computes}
-
--- what the schedule answers, and then this call
-answers_with : Schedule → Event → List (List Answer)
-answers_with s e = map (λ (m : Moment). answers_in m.line) (moments_of (record s { events = s.events ++ e ∷ [] }))
-
-closed-answers : answers_with closed_and_left (event.Call 1 (call.Read (txn 1 1 2) 2 (codes "x"))) ≡
-    (answer.Begun (txn 1 1 1) (view 0 0) ∷ [])
-    ∷ (answer.Begun (txn 1 1 2) (view 0 0) ∷ [])
-    ∷ []
-    ∷ (answer.LockHeld (txn 1 1 2) 1 (codes "x") 1 (owner.Txn (txn 1 1 1)) ∷ [])
-    ∷ (answer.ViewChanged (txn 1 1 1) 1 1 (view 0 0) None ∷ answer.Inviting (view 1 1) ∷ [])
-    ∷ (closed_by_lock ∷ [])
-    ∷ []
-unfolding answers_with computes
-closed-answers = refl
 
 pub closed-given : is_justified_after closed_and_left 1 (call.Read (txn 1 1 2) 2 (codes "x")) closed_by_lock ≡ true
 unfolding computes
@@ -36,23 +18,6 @@ pub closed-another : is_justified_after closed_and_left 1 (call.Read (txn 1 1 2)
 unfolding computes
 closed-another = refl
 
-granted-answers : answers_with granted_after_all (event.Call 2 (call.Read (txn 2 1 1) 2 (codes "x"))) ≡
-    (answer.Begun (txn 1 1 1) (view 0 0) ∷ [])
-    ∷ []
-    ∷ (answer.Begun (txn 2 1 1) (view 0 0) ∷ [])
-    ∷ []
-    ∷ []
-    ∷ []
-    ∷ (answer.LockHeld (txn 1 1 1) 1 (codes "x") 2 (owner.Txn (txn 2 1 1)) ∷ [])
-    ∷ []
-    ∷ []
-    ∷ []
-    ∷ (answer.Written (txn 2 1 1) 1 ∷ [])
-    ∷ (next_is_done ∷ [])
-    ∷ []
-unfolding answers_with computes
-granted-answers = refl
-
 pub granted-given : is_justified_after granted_after_all 2 (call.Read (txn 2 1 1) 2 (codes "x")) next_is_done ≡ true
 unfolding computes
 granted-given = refl
@@ -60,15 +25,6 @@ granted-given = refl
 pub granted-another : is_justified_after granted_after_all 2 (call.Read (txn 2 1 1) 2 (codes "x")) next_is_refused ≡ false
 unfolding computes
 granted-another = refl
-
-idle-answers : map (λ (m : Moment). answers_in m.line) (moments_of closed_idle) ≡
-    (answer.Begun (txn 1 1 1) (view 0 0) ∷ [])
-    ∷ (answer.Inviting (view 1 1) ∷ [])
-    ∷ (answer.ViewChanged (txn 1 1 1) 5 1 (view 0 0) None ∷ [])
-    ∷ (answer.ViewChanged (txn 1 1 1) 4 1 (view 0 0) None ∷ [])
-    ∷ []
-unfolding computes
-idle-answers = refl
 
 pub idle-justified : RefusalsAreJustified closed_idle
 unfolding computes
@@ -109,14 +65,6 @@ refused_again-apart = record { given = refl; justified = refl; another = refl }
 pub refused_first-apart : IsToldApart refused_first
 unfolding computes
 refused_first-apart = record { given = refl; justified = refl; another = refl }
-
-waiting-answers : answers_with waiting_write (event.Call 1 call.Regroup) ≡
-    (answer.Begun (txn 1 1 1) (view 0 0) ∷ [])
-    ∷ []
-    ∷ (left_view 1 ∷ answer.Inviting (view 1 1) ∷ [])
-    ∷ []
-unfolding answers_with computes
-waiting-answers = refl
 
 pub left-given : is_justified_after waiting_write 1 call.Regroup (left_view 1) ≡ true
 unfolding computes

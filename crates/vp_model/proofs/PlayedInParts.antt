@@ -1,4 +1,4 @@
--- Lists that are played one behind the other.
+-- Lists that are played one after the other.
 use Rattle.std.proofs.Common.{◌≡◌, List, [], ◌∷◌, ◌++◌, refl}
 use Rattle.std.specs.Prelude.{Option, Some, None, option_and_then}
 use Rattle.vp_model.specs.Types.{Op, Commit}

@@ -1,4 +1,4 @@
--- What the test on names of transactions tells.
+-- What follows from the test whether two transactions are the same.
 use Rattle.std.proofs.Common.{◌≡◌, ◌≢◌, true, false, arith}
 use Rattle.std.specs.Prelude.{not}
 use Rattle.std.proofs.lemmas.Bool.Decides.{nat_tests}

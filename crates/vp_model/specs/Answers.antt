@@ -14,14 +14,14 @@ use Rattle.vp_model.specs.Site.{CoordinatorState, Lent, lent_force, lent_send, l
 use Rattle.vp_model.specs.Transactions.{live_of, close, decide, wait_for}
 use Rattle.vp_model.specs.Calls.{answer_read, answer_write}
 
--- where the transaction is live and its pending call waits for the site
+-- where the transaction is live, and its pending call waits for the site
 unfoldable pub with_missing : TxnId → ℕ → (Live → Pending → Lent → Lent) → Lent → Lent
 with_missing txn from f l = l |> for_some (live_of txn l.live) (λ t. for_some t.pending (if_missing t))
   where
     if_missing : Live → Pending → Lent → Lent
     if_missing t p l = if has p.missing from then f t p l else l
 
--- the site no longer misses; where none does, the call is done
+-- the site is no longer missing; where none is, the call is done
 abbrev pub count_in : ℕ → Live → Pending → (Lent → Lent) → Lent → Lent
 count_in from t p done l =
     let missing = filter (λ q. not (q == from)) p.missing in
@@ -49,7 +49,7 @@ unfoldable pub on_write_answer : Catalogue → ℕ → TxnId → ℕ → Lent �
 on_write_answer catalogue from txn number l =
     with_missing txn from (λ t p. write_answered catalogue from number t p p.call) l
 
--- a lock that another has closes a read or a write, and another view closes any call
+-- a lock of another owner closes a transaction by its read or write, and another view by any call
 abbrev pub refused_by : ℕ → Obstacle → Call → ℕ → Live → Lent → Lent
 refused_by id (obstacle.Held holder) (call.Read txn number name) from t l = close id t (LockHeld name from holder) l
 refused_by id (obstacle.Held holder) (call.Write txn number name value) from t l = close id t (LockHeld name from holder) l
@@ -87,14 +87,14 @@ is_live txn live = list_any (λ t. same_txn t.txn txn) live
 abbrev pub is_decided : TxnId → List Decision → Bool
 is_decided txn decisions = list_any (λ (d : Decision). same_txn d.txn txn) decisions
 
--- a coordinator without a decision answers abort
+-- a coordinator without a decision answers abort, as presumed abort has it
 unfoldable pub on_inquire : ℕ → ℕ → TxnId → Lent → Lent
 on_inquire id from txn l =
     if (txn.site == id) && not (is_live txn l.live)
     then lent_send id (message.Outcome txn (is_decided txn l.decisions)) from l
     else l
 
--- the messages that the coordinator takes
+-- the messages that the coordinator handles
 unfoldable pub on_answer : Catalogue → ℕ → ℕ → Message → Lent → Lent
 on_answer catalogue id from (message.ReadAnswer txn number value) l = on_read_answer catalogue from txn number value l
 on_answer catalogue id from (message.WriteAnswer txn number) l = on_write_answer catalogue from txn number l

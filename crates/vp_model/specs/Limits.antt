@@ -1,4 +1,4 @@
--- The limits of a world, and what is left of a schedule that one of them ends.
+-- The limits of a world, and what is left of a schedule that a limit ends.
 use Rattle.std.specs.Prelude.{ℕ, ◌+◌, nat_lt, Bool, if◌then◌else◌, is_some, List, [], ◌∷◌, ◌++◌, length, drop, map, flat_map, find, Option, Some, None, option_and_then}
 use Rattle.std.specs.List.{list_any, before_first}
 use Rattle.vp_model.specs.Types.{Event, Line, Counted}
@@ -12,18 +12,18 @@ pub record Limits : Type 0 where
   pub steps : ℕ
   pub messages : ℕ
 
--- those of every run of the program
+-- the limits of every run of the program
 abbrev pub world_limits : Limits
 world_limits = record { steps = 100000; messages = 2000000 }
 
--- the limit that a world exceeds: the steps are tested first
+-- the limit that a world exceeds; its steps are tested before its messages
 abbrev pub exceeded : Limits → WorldState → Option Counted
 exceeded limits w =
     if nat_lt limits.steps w.steps
     then Some counted.Steps
     else (if nat_lt limits.messages (length w.sent) then Some counted.Messages else None)
 
--- the limit that the event would exceed. A flow is asked for its single deliveries
+-- the limit that the event would exceed. A flow is tested delivery by delivery
 abbrev pub refused : Limits → Catalogue → Event → WorldState → Option Counted
 refused limits catalogue event w = exceeded limits (next catalogue event w).world
 
@@ -42,8 +42,8 @@ limit_in limits moments = option_and_then (λ (m : Moment). exceeded limits m.af
 abbrev pub limit_reached : Limits → Schedule → Option Counted
 limit_reached limits s = limit_in limits (moments_of s)
 
--- the lines under each event line in turn, up to the step that exceeds a limit. The line of a flow stands before its deliveries, also
--- where the first of them is refused
+-- the lines under each event line, up to the step that exceeds a limit. The line of a flow comes before its deliveries, even where
+-- the first of them is refused
 unfoldable pub lines_within_from : Limits → Catalogue → ℕ → List Event → Run → List (ℕ × Line)
 lines_within_from limits catalogue number [] run = []
 lines_within_from limits catalogue number (event ∷ events) run =

@@ -1,4 +1,4 @@
--- Words for worked schedules and their lines.
+-- Definitions for worked schedules and their lines.
 pub mod FirstRun
 pub mod TwoOfThree
 pub mod ExactlyHalf
@@ -29,7 +29,7 @@ use Rattle.std.specs.Prelude.{ℕ, List}
 use Rattle.vp_model.specs.Types.{ViewId, TxnId, Op, Commit, Message, Sent, Answer, Reply, Event, Shown, Line}
 use Rattle.vp_model.specs.Catalogue.{RecordEntry}
 
--- the identifier that a text writes as number@site
+-- the identifier whose text is number@site
 abbrev pub view : ℕ → ℕ → ViewId
 view number site = record { number = number; site = site }
 

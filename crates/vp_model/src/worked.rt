@@ -1,4 +1,5 @@
-//! Worked schedules: the lines of each are exactly these.
+//! Worked schedules: the lines of each are exactly the ones given. Of an answer it is also said whether it is justified, and why a
+//! false one isn't.
 
 ghost use Rattle.std.specs.Prelude.{◌≡◌, true, false, [], ◌++◌, Some, None, codes, drop, take, map};
 ghost use Rattle.vp_model.specs.Types.answer;
@@ -44,91 +45,96 @@ ghost use Rattle.vp_model.specs.Generated.{made, made_within, limit_made};
 ghost use Rattle.vp_model.specs.Worked.{txn};
 ghost use Rattle.vp_model.specs.Headline.{IsSerial, CopiesAreTrue, EndsAreTrue, RefusalsAreJustified};
 
-/// A first run.
+/// Two transactions of one site, one after the other: the second reads what the first wrote.
 pub fn first_run()
     ensures lines { numbered_lines first_run.schedule ≡ first_run.lines }
     ensures history { order (journal_of first_run.schedule) ≡ first_run.history }
 {}
 
-/// Two of three sites.
+/// A record with copies of equal weight at three sites is used in a view of two of them, and not in a view of the third alone.
 pub fn two_of_three()
     ensures lines { numbered_lines two_of_three.schedule ≡ two_of_three.lines }
     ensures history { order (journal_of two_of_three.schedule) ≡ two_of_three.history }
 {}
 
-/// Exactly half of the weight.
+/// A record is not accessible with exactly half of the weight of its copies, and is with more.
 pub fn exactly_half()
     ensures lines { numbered_lines exactly_half.schedule ≡ exactly_half.lines }
     ensures history { order (journal_of exactly_half.schedule) ≡ exactly_half.history }
 {}
 
-/// A held lock.
+/// A read is refused for the lock of a write, and its transaction is aborted; after the commit another transaction reads the new
+/// value.
 pub fn held_lock()
     ensures lines { numbered_lines held_lock.schedule ≡ held_lock.lines }
     ensures history { order (journal_of held_lock.schedule) ≡ held_lock.history }
 {}
 
-/// Repeats and reversed order.
+/// Messages come twice and out of order, and a call comes twice; each is done once.
 pub fn repeats()
     ensures lines { numbered_lines repeats.schedule ≡ repeats.lines }
     ensures history { order (journal_of repeats.schedule) ≡ repeats.history }
 {}
 
-/// A lost vote.
+/// A vote is lost: the transaction times out and is aborted, and the site in doubt finds that out by an inquiry.
 pub fn lost_vote()
     ensures lines { numbered_lines lost_vote.schedule ≡ lost_vote.lines }
     ensures history { order (journal_of lost_vote.schedule) ≡ lost_vote.history }
 {}
 
-/// A view change before the vote.
+/// A part has left the view when it is asked for its vote, so the transaction is aborted.
 pub fn view_change_before_vote()
     ensures lines { numbered_lines view_change_before_vote.schedule ≡ view_change_before_vote.lines }
     ensures history { order (journal_of view_change_before_vote.schedule) ≡ view_change_before_vote.history }
 {}
 
-/// A late commit.
+/// A transaction commits in its old view after another has committed in a higher one. While it is in doubt, what it writes is not
+/// read in the higher view.
 pub fn late_commit()
     ensures lines { numbered_lines late_commit.schedule ≡ late_commit.lines }
     ensures history { order (journal_of late_commit.schedule) ≡ late_commit.history }
 {}
 
-/// An old view reads on.
+/// A site that has not left its old view reads the old value there, after a write was committed in a higher view; the history has
+/// the read first.
 pub fn old_view_reads_on()
     ensures lines { numbered_lines old_view_reads_on.schedule ≡ old_view_reads_on.lines }
     ensures history { order (journal_of old_view_reads_on.schedule) ≡ old_view_reads_on.history }
 {}
 
-/// A repeated view commit after a restart.
+/// The message that fixed a view comes again after a crash and a restart of its receiver, which does not join.
 pub fn repeated_view_commit()
     ensures lines { numbered_lines repeated_view_commit.schedule ≡ repeated_view_commit.lines }
     ensures history { order (journal_of repeated_view_commit.schedule) ≡ repeated_view_commit.history }
 {}
 
-/// A crash after the decision.
+/// A coordinator crashes after its decision to commit, and sends it again after its restart.
 pub fn crash_after_decision()
     ensures lines { numbered_lines crash_after_decision.schedule ≡ crash_after_decision.lines }
     ensures history { order (journal_of crash_after_decision.schedule) ≡ crash_after_decision.history }
 {}
 
-/// A crash before the decision.
+/// A coordinator crashes before its decision: an inquiry is answered abort, and a vote that comes later changes nothing.
 pub fn crash_before_decision()
     ensures lines { numbered_lines crash_before_decision.schedule ≡ crash_before_decision.lines }
     ensures history { order (journal_of crash_before_decision.schedule) ≡ crash_before_decision.history }
 {}
 
-/// A forgotten decision.
+/// An inquiry comes after the decision to commit was acknowledged and forgotten: it is answered abort, which changes nothing at a
+/// part that has committed.
 pub fn forgotten_decision()
     ensures lines { numbered_lines forgotten_decision.schedule ≡ forgotten_decision.lines }
     ensures history { order (journal_of forgotten_decision.schedule) ≡ forgotten_decision.history }
 {}
 
-/// Two inviters.
+/// Two sites invite at once; the view with the higher identifier comes about.
 pub fn two_inviters()
     ensures lines { numbered_lines two_inviters.schedule ≡ two_inviters.lines }
     ensures history { order (journal_of two_inviters.schedule) ≡ two_inviters.history }
 {}
 
-/// Other refusals.
+/// An unknown transaction, a skipped number, an unknown record and a call that is still pending are refused; then a call comes
+/// again, and the transaction is aborted.
 pub fn other_refusals()
     ensures lines { numbered_lines other_refusals.schedule ≡ other_refusals.lines }
     ensures history { order (journal_of other_refusals.schedule) ≡ other_refusals.history }
@@ -157,71 +163,71 @@ pub fn long_run()
     ensures refusals { RefusalsAreJustified long_run.schedule }
 {}
 
-/// A finished transaction answers a larger number with its end, and the refusal is justified by the step that made it.
+/// A finished transaction answers a call with a higher number by its end, and the refusal is justified by the step that made it.
 pub fn refused_after_its_end()
     ensures { RefusalsAreJustified ended.schedule }
 {}
 
-/// After a transaction was closed for a lock and its site then left the view, its end is justified, and it is not justified that
-/// leaving the view closed it.
+/// After a transaction was closed because of a lock and its site then left the view, its end is justified; that leaving the view
+/// closed it is not.
 pub fn closed_before_leaving()
     ensures given { claims.is_justified_after claims.closed_and_left 1 (call.Read (txn 1 1 2) 2 (codes "x")) claims.closed_by_lock ≡ true }
     ensures another { claims.is_justified_after claims.closed_and_left 1 (call.Read (txn 1 1 2) 2 (codes "x")) claims.closed_by_leaving ≡ false }
 {}
 
-/// After a write was refused in a message that is never delivered, and its repeat was granted, it is not justified that the
-/// next call is refused for the first.
+/// A write was refused in a message that is never delivered, and then was sent again and granted: that the next call is refused
+/// because of that refusal is not justified.
 pub fn granted_after_all()
     ensures given { claims.is_justified_after claims.granted_after_all 2 (call.Read (txn 2 1 1) 2 (codes "x")) claims.next_is_done ≡ true }
     ensures another { claims.is_justified_after claims.granted_after_all 2 (call.Read (txn 2 1 1) 2 (codes "x")) claims.next_is_refused ≡ false }
 {}
 
-/// An aborted transaction is not refused for a lock that stands in the way of its next call.
+/// An aborted transaction is not refused because of a lock that conflicts with its next call.
 pub fn aborted_without_a_lock()
     ensures { claims.IsToldApart claims.aborted }
 {}
 
-/// A transaction that was never begun is unknown, and not refused for a lock.
+/// A transaction that was never begun is unknown, and not refused because of a lock.
 pub fn unknown_without_a_lock()
     ensures { claims.IsToldApart claims.never_begun }
 {}
 
-/// A call out of turn is skipped, and not refused for a lock, and its transaction lives on.
+/// A call out of turn is skipped, and not refused because of a lock; its transaction stays live.
 pub fn skipped_without_a_lock()
     ensures { claims.IsToldApart claims.out_of_turn }
 {}
 
-/// A transaction that two sites refused is closed for the refusal that came, and not for the other.
+/// A transaction that two sites refused is closed by the refusal that came, and not by the other one.
 pub fn refused_by_two()
     ensures { claims.IsToldApart claims.refused_by_two }
 {}
 
-/// A call that timed out before its refusal came is not refused for a lock when it is called again.
+/// A call that timed out before its refusal came is not refused because of a lock when it comes again.
 pub fn timed_out_before()
     ensures { claims.IsToldApart claims.timed_out_before }
 {}
 
-/// A write that was done after its first request was refused is not refused when it is called again.
+/// A write that was done after its first request was refused is not refused when it comes again.
 pub fn written_after_all()
     ensures { claims.IsToldApart claims.written_after_all }
 {}
 
-/// A read that was answered before the site left its view is not refused for that when it is called again.
+/// A read that was answered before the site left its view is not refused because of that when it comes again.
 pub fn told_before_leaving()
     ensures { claims.IsToldApart claims.told_before_leaving }
 {}
 
-/// A transaction that was refused answers its end under the number of the call, and not under a larger one.
+/// A transaction that was refused answers its end with the number of the call, and not with a higher one.
 pub fn refused_under_its_number()
     ensures { claims.IsToldApart claims.refused_again }
 {}
 
-/// A call under number 0 is answered as the first, and not as a later one.
+/// A call with the number 0 is answered as the first, and not as a later one.
 pub fn refused_under_the_first_number()
     ensures { claims.IsToldApart claims.refused_first }
 {}
 
-/// A site that leaves its view answers the call that waits, and not one under a larger number.
+/// A site that leaves its view answers the call that waits, with the number of that call and not with a higher one.
 pub fn left_under_its_number()
     ensures given { claims.is_justified_after claims.waiting_write 1 call.Regroup (claims.left_view 1) ≡ true }
     ensures another { claims.is_justified_after claims.waiting_write 1 call.Regroup (claims.left_view 7) ≡ false }
@@ -232,22 +238,23 @@ pub fn forgotten_without_a_refusal()
     ensures { claims.IsToldApart claims.forgotten }
 {}
 
-/// A transaction is unknown at another site than its own, and not refused there.
+/// A transaction is unknown at any site other than its own, and not refused there.
 pub fn unknown_elsewhere()
     ensures { claims.IsToldApart claims.called_elsewhere }
 {}
 
-/// A transaction that was never begun is unknown, also where its record is not accessible.
+/// A transaction that was never begun is unknown, even where its record is not accessible.
 pub fn unknown_without_weight()
     ensures { claims.IsToldApart claims.unknown_without_weight }
 {}
 
-/// That a record is not accessible is answered under the number of the call.
+/// That a record is not accessible is answered with the number of the call.
 pub fn told_the_weights()
     ensures { claims.IsToldApart claims.told_the_weights }
 {}
 
-/// A transaction that is closed with no call pending may answer its end under a number and then under a lower one: both are justified.
+/// A transaction that is closed while no call is pending may answer its end with a number and then with a lower one: both are
+/// justified.
 pub fn closed_without_a_call()
     ensures { RefusalsAreJustified claims.closed_idle }
 {}
@@ -257,34 +264,36 @@ pub fn monitor()
     ensures { numbered_lines monitor.schedule ≡ monitor.lines }
 {}
 
-/// A coordinator sends nothing to a site that asks about a transaction that is still live.
+/// A coordinator sends nothing to a site that inquires about a transaction that is still live.
 pub fn early_inquiry()
     ensures { numbered_lines early_inquiry.schedule ≡ early_inquiry.lines }
 {}
 
-/// Without events the trace is empty, and the history has the starting values alone.
+/// Without events the trace is empty, and the history has only the starting values.
 pub fn no_events()
     ensures trace { trace_text no_events.schedule ≡ [] }
     ensures history { history_text no_events.schedule ≡ no_events.history }
 {}
 
-/// The last 1,024 finished transactions of a site are kept: after 1,025 the first one is unknown, and the second one answers its end.
+/// The last 1,024 finished transactions of a site are kept: after 1,025 of them the first one is unknown, and the second one
+/// answers its end.
 pub fn many_finished()
     ensures { drop 2050 (numbered_lines many_finished.schedule) ≡ many_finished.last_lines }
 {}
 
-/// A site whose places for transactions, or whose numbers of views, are spent answers so and stays as it was.
+/// A site that has no place left for a transaction, or no number for a view, answers so and stays as it was.
 pub fn spent()
     ensures transactions { step last.one_site last.last_transaction (input.Call 0 call.Begin) ≡ last.only_answers last.last_transaction (answer.Spent 4294967295) }
     ensures views { step last.one_site last.last_view (input.Call 0 call.Regroup) ≡ last.only_answers last.last_view (answer.Spent 18446744073709551615) }
 {}
 
-/// A site whose log has the last life stays down.
+/// A site whose log has the last number of a life stays down.
 pub fn last_life()
     ensures { next last.one_site (event.Restart 1) last.last_life ≡ record { world = record last.last_life { steps = 1 }; shown = shown.LivesSpent 4294967295 } }
 {}
 
-/// A flow whose first or second delivery a limit refuses: which limit that is, the steps being tested first, and the trace that is left.
+/// A flow whose first or second delivery a limit refuses: which limit it is, where steps are tested before messages, and the trace
+/// that is left.
 pub fn limited()
     ensures none { limit_reached (limited.at_most 5 2) limited.schedule ≡ None }
     ensures whole { lines_within (limited.at_most 5 2) limited.schedule ≡ printed_lines limited.schedule }
@@ -295,7 +304,7 @@ pub fn limited()
     ensures both { limit_reached (limited.at_most 2 1) limited.schedule ≡ Some counted.Steps }
 {}
 
-/// A generated schedule that a limit ends holds the events before the one that was refused.
+/// A generated schedule that a limit ends has the events before the one that was refused.
 pub fn limited_generation()
     ensures whole { made_within (limited.at_most 19 8) 7 14 ≡ made 7 14 }
     ensures no_limit { limit_made (limited.at_most 19 8) 7 14 ≡ None }

@@ -23,7 +23,7 @@ module _ (all : Catalogue) (id : ℕ) where
   abbrev pub up_in : Option Process → Option SiteState
   up_in o = option_and_then (λ (p : Process). p.up) o
 
-  -- what a happening makes of its process, and what it hands over
+  -- the process after a happening, and what that hands over
   abbrev pub made : Happening → Option Process → Option Process
   made (Happening.Starts k sites) o = option_map (started all sites) o
   made (Happening.Comes k d) o = option_map_or (λ x. option_map (turned x (turn_on (kn o) x (arrival (kn o) x.id d))) o) (up_in o) o
@@ -106,7 +106,7 @@ module _ (all : Catalogue) (id : ℕ) where
       hand None = sym (append-nil c.handed)
       hand (Some x) = refl
 
-  -- the cluster c with all happenings beside e with those of the process
+  -- the cluster c with all happenings, and e with those of the process alone
   record Beside (c e : ClusterState) : Type 0 where
     process : process_of id c.processes ≡ process_of id e.processes
     handed : (d : Datagram) → Has e.handed d → Has c.handed d

@@ -1,4 +1,4 @@
--- A process that was killed after some datagrams: what happened to it.
+-- What happened to a process that was killed after some datagrams.
 use Rattle.std.proofs.Common.{◌≡◌, ◌∙◌, ap, sym, subst, ℕ, Bool, true, false, List, [], ◌∷◌, ◌++◌, map, refl, take, drop, append-nil}
 use Rattle.std.specs.Prelude.{Option, Some, None, IfSome, option_map, option_and_then}
 use Rattle.std.specs.List.{AllByRecursion}
@@ -69,7 +69,7 @@ come_alone catalogue id (d ∷ arrived) c = (tt, come_alone catalogue id arrived
 lived_alone : (catalogue : Catalogue) (id : ℕ) (sites : List (ℕ × ℕ)) (arrived : List Datagram) (c : ClusterState) → keys sites ≡ sites_of catalogue → MayAllAlone catalogue (lived id sites arrived) c
 lived_alone catalogue id sites arrived c e = (e, come_alone catalogue id arrived (after catalogue (Happening.Starts id sites) c))
 
--- ---- a run up to where it stopped
+-- ---- a run until it stopped
 
 module _ (all : Catalogue) (sites : List (ℕ × ℕ)) where
   abbrev here : Catalogue
@@ -122,7 +122,7 @@ module _ (all : Catalogue) (sites : List (ℕ × ℕ)) where
 
 -- ---- killed between two turns
 
--- a process that is where the run of a node is dies
+-- a process that is where the run of a node is, is killed
 pub dies : (catalogue : Catalogue) (c d : ClusterState) (id : ℕ) (p : Process) (sites : List (ℕ × ℕ)) (run : NodeRun) (left : List (List LogRecord)) → Lives catalogue c id p sites run d → durable_in catalogue id left ≡ durable_of run.node.site
     → MayAlone catalogue (Happening.Dies id left) d × (process_of id (after catalogue (Happening.Dies id left) d).processes ≡ Some (record p { sites = sites; batches = left; up = None })) × ((after catalogue (Happening.Dies id left) d).handed ≡ d.handed)
 unfolding after

@@ -16,7 +16,7 @@ use Rattle.vp_laws.proofs.Worlds.Occurs.{Gives}
 use Rattle.vp_wire.specs.declared.frame.Frame.{Frame}
 use Rattle.vp_wire.specs.declared.frame.Body.TheVariants as body
 use Rattle.vp_wire.specs.Grammar.{IsFrame, frame_of, frame_bytes}
-use Rattle.vp_decoding.specs.Decoded.{read_frame}
+use Rattle.vp_wire.specs.Decoded.{read_frame}
 use Rattle.vp_outside.specs.declared.datagram.Datagram.{Datagram}
 use Rattle.vp_runs.specs.declared.arrival.Arrival.TheVariants as arrives
 use Rattle.vp_runs.specs.Arrivals.{is_for, arrival_of, arrival}
@@ -28,7 +28,7 @@ use Rattle.vp_network.proofs.Extending.{Does, at_up, delivers}
 use Rattle.vp_network.proofs.Coming.{IsGiven, numbered}
 use Rattle.vp_network.proofs.Linked.{IsKnown, Linked, Runs, site_there}
 
--- the message that these bytes are, where they are taken for one
+-- the message that these bytes are, if they are read as one
 pub record IsOf (w : WorldState) (id from : ℕ) (message : Message) : Type 0 where
   pub sent : Sent
   pub has : Has w.sent sent

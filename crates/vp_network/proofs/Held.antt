@@ -1,4 +1,4 @@
--- A schedule that a cluster has so far, and what each happening makes of it.
+-- The schedule that a cluster has so far, and what each happening makes of it.
 use Rattle.std.proofs.Common.{◌≡◌, ◌≢◌, ◌∙◌, ap, sym, subst, ℕ, zero, suc, ◌+◌, ◌-◌, ◌^◌, Bool, true, false, cond, List, [], ◌∷◌, ◌++◌, flat_map, take, refl, ⊎_elim, append-nil}
 use Rattle.std.specs.Prelude.{Option, Some, None, ◌==◌, is_some, option_map}
 use Rattle.std.specs.List.{AllByRecursion}
@@ -21,7 +21,7 @@ use Rattle.vp_laws.proofs.Worlds.Occurs.{counted}
 use Rattle.vp_runs.specs.Keeping.{durable_in}
 use Rattle.vp_runs.specs.Runs.{start_node}
 use Rattle.vp_runs.proofs.Checkpoints.{batch_folds}
-use Rattle.vp_stops.proofs.Delivered.{IsSingle}
+use Rattle.vp_runs.proofs.Delivered.{IsSingle}
 use Rattle.vp_ports.specs.Ports.{site_from}
 use Rattle.vp_ports.proofs.Catalogues.{starts_are_same}
 use Rattle.vp_model.specs.Words.{keys}
@@ -81,7 +81,7 @@ module _ (catalogue : Catalogue) where
     handed = λ d h. subst (λ ms. IsKnown (record m.world { sent = ms }) c.acts d.bytes) (sym q.sent) (l.handed d h);
   })
 
-  -- one process changes, and this is what is true of it
+  -- one process changes, and this holds of it
   pub one_placed : (id : ℕ) (f : Process → Process) → ((p : Process) → (f p).id ≡ p.id) → (ps : List Process) (v w : WorldState) → AllPlaced catalogue ps v → ((k : ℕ) → k ≢ id → place_of k w.places ≡ place_of k v.places)
       → (p : Process) → process_of id ps ≡ Some p → Placed catalogue id (f p) w → AllPlaced catalogue (change_process id f ps) w
   one_placed id f keeps ps v w all others p at own =
@@ -162,7 +162,7 @@ module _ (catalogue : Catalogue) where
         unfolding start apply
         fresh e = refl
 
-        -- a place that is up in this life is where the process is then
+        -- if a place is up in this life, the process is then where the place is
         matches : (place : Place) → place.durable ≡ apply (start_record d) d → place.up ≡ Some (start catalogue id d) → Matches catalogue id node place
         matches place folds up = Matches.ran
             (node_folds p.id p_id ∙ sym folds)
@@ -170,7 +170,7 @@ module _ (catalogue : Catalogue) where
             (λ x e. let it : start catalogue id d ≡ x = (let z = ap Some (sym (node_site p.id p_id)) ∙ e in cc) in ap durable_of (sym it) ∙ fresh d ∙ sym folds)
             (λ x e. given)
 
-        -- the first life is the world's
+        -- the first life is the one that the world starts with
         starts_new : (place : Place) → place_of id w.places ≡ Some place → p.batches ≡ [] → place ≡ start_place catalogue id → Held catalogue begun
         starts_new place there b is =
             let empty = empty_durable (start_copies catalogue id) in

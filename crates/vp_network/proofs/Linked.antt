@@ -1,4 +1,4 @@
--- What a cluster is to a run of the world, and its processes to the places.
+-- How a cluster is related to a run of the world, and its processes to the places.
 use Rattle.std.proofs.Common.{◌≡◌, ◌≢◌, ◌⊎◌, ◌∙◌, ap, sym, subst, ℕ, arith, Bool, true, false, cond, List, [], ◌∷◌, map, flat_map, refl, ⊎_elim}
 use Rattle.std.specs.Prelude.{Option, Some, None, ◌==◌, option_map, option_and_then}
 use Rattle.std.proofs.lemmas.Bool.Decides.{nat_tests}
@@ -18,7 +18,7 @@ use Rattle.vp_ports.specs.Ports.{site_from}
 use Rattle.vp_network.specs.Cluster.{Process, Act, ClusterState, process_of, change_process, running}
 use Rattle.vp_network.specs.Schedules.{no_port, without_ports, act_of}
 
--- ---- look-ups of processes
+-- ---- finding processes
 
 pub process-other : (s k : ℕ) (f : Process → Process) (ps : List Process) → ((p : Process) → (f p).id ≡ p.id) → k ≢ s → process_of k (change_process s f ps) ≡ process_of k ps
 process-other s k f [] same n = refl
@@ -44,7 +44,7 @@ changed_twice s f g same (p ∷ ps) = go (p.id == s) refl (changed_twice s f g s
     go true e rest = rw (it true e) refl
     go false e rest = rw e (ap (λ qs. p ∷ qs) rest)
 
--- two changes that do the same to the process do the same
+-- two changes that do the same to the process give the same list
 pub changed_alike : (s : ℕ) (f g : Process → Process) (ps : List Process) (p : Process) → process_of s ps ≡ Some p → f p ≡ g p → change_process s f ps ≡ change_process s g ps
 changed_alike s f g [] p at e = refl
 changed_alike s f g (q ∷ ps) p at e = go (q.id == s) at (changed_alike s f g ps p)

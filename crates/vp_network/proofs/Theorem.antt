@@ -10,7 +10,7 @@ use Rattle.vp_laws.specs.Catalogues.{AreApart}
 use Rattle.vp_laws.proofs.Lists.Catalogues.{catalogue_apart}
 use Rattle.vp_laws.proofs.Lists.Members.{Has, has_none, has_first, has_more, has_of}
 use Rattle.vp_laws.proofs.Told.OneCopy.{one_copy_told}
-use Rattle.vp_kept.proofs.Through.{starts_at}
+use Rattle.vp_runs.proofs.Through.{starts_at}
 use Rattle.vp_network.specs.Cluster.{Process, ClusterState, new_process, new_cluster, process_of, cluster}
 use Rattle.vp_network.specs.Schedules.{IsAt, IsScheduleOf}
 use Rattle.vp_network.specs.Laws.{ClustersAreSchedules, ClustersAreOneCopy}
@@ -20,7 +20,7 @@ use Rattle.vp_network.proofs.Held.{Held, world_is}
 use Rattle.vp_network.proofs.Told.{told}
 use Rattle.vp_network.proofs.Turned.{all_happen}
 
--- a process that is found is of a site, and has never run
+-- a process that is found belongs to a site, and has never run
 record IsNew (sites : List ℕ) (id : ℕ) (p : Process) : Type 0 where
   listed : Has sites id
   is : new_process id ≡ p

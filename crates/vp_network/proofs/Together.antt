@@ -53,7 +53,7 @@ module _ (catalogue : Catalogue) where
   over_more [] ys c = refl
   over_more (x ∷ xs) ys c = over_more xs ys (after catalogue x c)
 
-  -- what was handed over stays so
+  -- what was handed over stays handed over
   stays : (hs : List Happening) (c : ClusterState) (d : Datagram) → Has c.handed d → Has (for_each hs (after catalogue) c).handed d
   stays [] c d has = has
   stays (h ∷ hs) c d has =
@@ -73,7 +73,7 @@ module _ (catalogue : Catalogue) where
   no_earlier m n [] le h = tt
   no_earlier m n (t ∷ all) le h = (omega (arith, le, h.0), no_earlier m n all le h.1)
 
-  -- it is a beginning of what is listed before it
+  -- it is the beginning of what is listed before the moment
   record Begins (moment : ℕ) (front all : List Timed) : Type 0 where
     first : List Timed
     later : List Timed

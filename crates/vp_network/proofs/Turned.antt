@@ -72,7 +72,7 @@ module _ (catalogue : Catalogue) (k : IsCatalogue catalogue) (id : ℕ) (c : Clu
       (one_placed catalogue id (turned x (quiet_turn x false)) (λ p. refl) c.processes run.world run.world h.linked.processes (λ k n. refl) r.p r.at
       (subst (λ q. Placed catalogue id q run.world) (ap (λ u. record r.p { up = u }) r.up) (h.linked.processes id r.p r.at))))
 
-  -- one that ends
+  -- a process that ends
   ends : Held catalogue (with_turn id (turned x (quiet_turn x true)) [] [] c)
   ends =
       let ps = change_process id (turned x (quiet_turn x true)) c.processes in

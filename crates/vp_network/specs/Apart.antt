@@ -1,4 +1,4 @@
--- Processes touch each other only by what they hand over.
+-- Processes affect each other only by what they hand over.
 use Rattle.std.specs.Prelude.{◌≡◌, ℕ, ◌==◌, List, filter}
 use Rattle.std.specs.List.{Contains}
 use Rattle.vp_model.specs.Words.{for_each}
@@ -10,7 +10,7 @@ use Rattle.vp_network.specs.Cluster.{ClusterState, Happening, process_of, whose,
 abbrev pub own : ℕ → List Happening → List Happening
 own id happenings = filter (λ h. whose h == id) happenings
 
--- It is where its own happenings alone bring it, and what they hand over is handed over.
+-- The process is where its own happenings alone bring it, and what they hand over is handed over.
 pub record IsApart (catalogue : Catalogue) (c : ClusterState) (happenings : List Happening) (id : ℕ) : Type 0 where
   pub process : process_of id (for_each happenings (after catalogue) c).processes ≡ process_of id (for_each (own id happenings) (after catalogue) c).processes
   pub handed : (d : Datagram) → Contains (for_each (own id happenings) (after catalogue) c).handed d → Contains (for_each happenings (after catalogue) c).handed d

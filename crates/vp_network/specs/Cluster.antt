@@ -18,15 +18,15 @@ use Rattle.vp_runs.specs.Runs.{start_node, after_turn}
 
 -- ---- a cluster
 
--- a site's process: the sites with their ports as it was told them when it started last, the batches of its log, and the site of its node
--- while it runs
+-- A site's process: the sites with their ports, as its last start gave them, the batches of its log, and the site of its node while it
+-- runs.
 pub record Process : Type 0 where
   pub id : ℕ
   pub sites : List (ℕ × ℕ)
   pub batches : List (List LogRecord)
   pub up : Option SiteState
 
--- a step that a process took: what came, and what it gave
+-- a step that a process did: its input and its effects
 pub record Act : Type 0 where
   pub site : ℕ
   pub given : Input
@@ -34,7 +34,7 @@ pub record Act : Type 0 where
   pub messages : List Sent
   pub replies : List Reply
 
--- the processes, what they have handed to the network so far, and their steps, in the order in which they were taken
+-- the processes, what they have handed to the network so far, and their steps, in order
 pub record ClusterState : Type 0 where
   pub processes : List Process
   pub handed : List Datagram
@@ -53,7 +53,7 @@ process_of id processes = find (λ p. p.id == id) processes
 abbrev pub change_process : ℕ → (Process → Process) → List Process → List Process
 change_process id f processes = change_first (λ p. p.id == id) f processes
 
--- the site of the process that runs
+-- the site of the process, while it runs
 abbrev pub running : ℕ → ClusterState → Option SiteState
 running id c = option_and_then (λ p. p.up) (process_of id c.processes)
 
@@ -64,17 +64,18 @@ known catalogue id c = record catalogue { sites = option_map_or (λ (p : Process
 -- ---- what happens
 
 pub data Happening : Type 0 where
-  -- a process starts from its log, and is told these ports of the sites
+  -- a process starts from its log, with these ports of the sites
   Starts : ℕ → List (ℕ × ℕ) → Happening
   -- a datagram comes to a process, and its turn is whole
   Comes : ℕ → Datagram → Happening
-  -- A process is killed, between two turns or within one whose records are not in its log, so that nothing of that turn was handed over. The
-  -- log is left with these batches.
+  -- A process is killed, between two turns or within one whose records are not in its log, so that nothing of that turn was handed over.
+  -- Its log is left with these batches.
   Dies : ℕ → List (List LogRecord) → Happening
-  -- A process is killed within the turn of this datagram, whose records are in its log: so many datagrams of the turn were handed over.
+  -- A process is killed within the turn of this datagram, whose records are in its log, and so many datagrams of the turn were handed
+  -- over.
   Breaks : ℕ → Datagram → List (List LogRecord) → ℕ → Happening
 
--- a process that runs already stays, and so does one whose lives are spent
+-- a process that runs already stays as it is, and so does one whose lives are spent
 abbrev pub started : Catalogue → List (ℕ × ℕ) → Process → Process
 started catalogue sites p =
     let node = start_node (record catalogue { sites = sites }) p.id p.batches in
@@ -82,17 +83,17 @@ started catalogue sites p =
     then p
     else (if (durable_in catalogue p.id p.batches).life == 2 ^ 32 - 1 then p else record p { sites = sites; batches = node.batches; up = Some node.site })
 
--- the node after a turn; one that it ends runs no more
+-- the node after a turn; it no longer runs if the turn ends it
 abbrev pub turned : SiteState → Turn → Process → Process
 turned site turn p =
     let node = after_turn (record { site = site; batches = p.batches }) turn in
     record p { batches = node.batches; up = if turn.stop then None else Some node.site }
 
--- the process runs no more, and its log has these batches
+-- the process no longer runs, and its log has these batches
 abbrev pub ended : List (List LogRecord) → Process → Process
 ended left p = record p { batches = left; up = None }
 
--- the step of a turn that takes one
+-- the step of a turn that does one
 abbrev pub act : ℕ → Input → Effects → Act
 act site given e = record { site = site; given = given; commits = e.commits; messages = e.messages; replies = e.replies }
 
@@ -102,7 +103,7 @@ acts_on catalogue site Stray = []
 acts_on catalogue site Stops = []
 acts_on catalogue site (Gives given) = act site.id given (step catalogue site given).effects ∷ []
 
--- a turn leaves the process so, and hands these datagrams over
+-- a turn leaves the process like this, and hands these datagrams over
 abbrev pub with_turn : ℕ → (Process → Process) → List Datagram → List Act → ClusterState → ClusterState
 with_turn id left datagrams acts c =
     record { processes = change_process id left c.processes; handed = c.handed ++ datagrams; acts = c.acts ++ acts }
@@ -121,7 +122,7 @@ broken_turn catalogue id d left sent site c =
 abbrev pub dead : ℕ → List (List LogRecord) → SiteState → ClusterState → ClusterState
 dead id left site c = record c { processes = change_process id (ended left) c.processes }
 
--- to a process that doesn't run nothing comes
+-- nothing comes to a process that doesn't run
 unfoldable pub after : Catalogue → Happening → ClusterState → ClusterState
 after catalogue (Happening.Starts id sites) c = record c { processes = change_process id (started catalogue sites) c.processes }
 after catalogue (Happening.Comes id d) c = c |> for_some (running id c) (whole_turn (known catalogue id c) id d)
@@ -147,12 +148,12 @@ datagram_of (Happening.Comes id d) = Some d
 datagram_of (Happening.Dies id left) = None
 datagram_of (Happening.Breaks id d left sent) = Some d
 
--- a log that is left with these batches folds to what the site has to keep
+-- a log that is left with these batches folds to the durable part of the site
 abbrev pub IsLeft : Catalogue → ℕ → List (List LogRecord) → SiteState → Type 0
 IsLeft catalogue id left site = durable_in catalogue id left ≡ durable_of site
 
--- What its own process allows, whatever the network brings: it is told ports of just the sites of the catalogue; and its disk leaves a log that
--- folds to what the site had to keep, after the turn that it is killed in or before it.
+-- What a process itself allows, whatever the network brings: it is started with ports of just the sites of the catalogue, and its disk
+-- leaves a log that folds to the durable part of the site, after the turn in which it is killed or before it.
 abbrev pub MayAlone : Catalogue → Happening → ClusterState → Type 0
 MayAlone catalogue (Happening.Starts id sites) c = keys sites ≡ sites_of catalogue
 MayAlone catalogue (Happening.Comes id d) c = ⊤
@@ -160,20 +161,20 @@ MayAlone catalogue (Happening.Dies id left) c = IfSome (running id c) (λ site. 
 MayAlone catalogue (Happening.Breaks id d left sent) c =
     IfSome (running id c) (λ site. IsLeft catalogue id left (turn_on (known catalogue id c) site (arrival (known catalogue id c) site.id d)).site)
 
--- Peers are honest: what a process takes for a message of a site has the bytes of a datagram that was handed over, by whichever process, to
--- whichever port and however often it came before. All else may come, from any port.
+-- Peers are honest: what a process reads as a message of a site has the bytes of a datagram that was handed over, by any process, to any
+-- port, and however often it came before. All else may come, from any port.
 abbrev pub IsHonest : Catalogue → (Datagram → Type 0) → ℕ → Datagram → Type 0
 IsHonest catalogue IsHanded id d =
     (from : ℕ) (message : Message) → arrival catalogue id d ≡ Gives (input.Message from message) → (sent : Datagram) × IsHanded sent × (sent.bytes ≡ d.bytes)
 
--- what comes is honest, if something does
+-- the datagram that comes is honest, if one comes
 abbrev pub ComesHonestly : Catalogue → (Datagram → Type 0) → Happening → ClusterState → Type 0
 ComesHonestly catalogue IsHanded h c = IfSome (datagram_of h) (λ d. IsHonest (known catalogue (whose h) c) IsHanded (whose h) d)
 
 abbrev pub May : Catalogue → Happening → ClusterState → Type 0
 May catalogue h c = MayAlone catalogue h c × ComesHonestly catalogue (Contains c.handed) h c
 
--- each of them may happen where those before it have
+-- each of them may happen once those before it have
 abbrev pub MayAll : Catalogue → List Happening → ClusterState → Type 0
 MayAll catalogue [] c = ⊤
 MayAll catalogue (h ∷ happenings) c = May catalogue h c × MayAll catalogue happenings (after catalogue h c)

@@ -6,7 +6,7 @@ use Rattle.vp_outside.specs.declared.datagram.Datagram.{Datagram}
 use Rattle.vp_network.specs.Cluster.{ClusterState, Happening, new_cluster, whose, after, cluster, MayAlone, ComesHonestly, MayAll}
 use Rattle.vp_network.specs.Apart.{own}
 
--- What happened to a process, and at which moment, by one clock for all: a turn at the moment when its datagram was taken.
+-- What happened to a process, and at which moment, by one clock for all: for a turn, the moment when its datagram was taken.
 pub record Timed : Type 0 where
   pub moment : ℕ
   pub what : Happening
@@ -22,16 +22,16 @@ happened all = map (λ (t : Timed). t.what) all
 abbrev pub before : ℕ → List Timed → List Timed
 before moment all = filter (λ (t : Timed). nat_lt t.moment moment) all
 
--- the cluster in which nothing happened but to this one process
+-- the cluster in which things happened to this one process alone
 abbrev pub cluster_alone : Catalogue → ℕ → List Timed → ClusterState
 cluster_alone catalogue id all = cluster catalogue (own id (happened all))
 
--- each of them may happen to its process where those before it have, whatever the network brings
+-- each of them may happen to its process once those before it have, whatever the network brings
 abbrev pub MayAllAlone : Catalogue → List Happening → ClusterState → Type 0
 MayAllAlone catalogue [] c = ⊤
 MayAllAlone catalogue (h ∷ happenings) c = MayAlone catalogue h c × MayAllAlone catalogue happenings (after catalogue h c)
 
--- A turn of some process hands it over whose own datagram was taken before this moment.
+-- It was handed over in the turn of some process whose own datagram was taken before this moment.
 abbrev pub IsHandedBefore : Catalogue → List Timed → ℕ → Datagram → Type 0
 IsHandedBefore catalogue all moment d = (id : ℕ) × Contains (cluster_alone catalogue id (before moment all)).handed d
 
@@ -40,8 +40,8 @@ abbrev pub ComeAfter : Catalogue → List Timed → Type 0
 ComeAfter catalogue all =
     (front rest : List Timed) (t : Timed) → all ≡ front ++ t ∷ rest → ComesHonestly catalogue (IsHandedBefore catalogue all t.moment) t.what (cluster_alone catalogue (whose t.what) front)
 
--- Whoever puts what happened to all processes in the order of its moments has happenings that may happen: where those of each process may,
--- whatever the network brings, and each message came after it was handed over.
+-- What happened to all processes, put in the order of its moments, may happen, if what happened to each process may, whatever the network
+-- brings, and each message came after it was handed over.
 abbrev pub ProcessesMakeClusters : Type 0
 ProcessesMakeClusters = (catalogue : Catalogue) (all : List Timed) → AreInOrder all → ((id : ℕ) → MayAllAlone catalogue (own id (happened all)) (new_cluster catalogue)) → ComeAfter catalogue all
     → MayAll catalogue (happened all) (new_cluster catalogue)

@@ -40,8 +40,8 @@ prepared =
 abbrev pub decided : List (List LogRecord)
 decided = (log_record.Start 1 ∷ []) ∷ (log_record.Commit (txn 1) opening writes (2 ∷ []) ∷ []) ∷ []
 
--- Site 1 is killed as it decides: the decision is in its log, and the outcome was handed over, but not the answer. It starts again, on another
--- port; the outcome comes twice, and site 2 is killed after it.
+-- Site 1 is killed as it decides: the decision is in its log, and the outcome was handed over, but not the answer. It starts again, at
+-- another port; the outcome comes twice, and site 2 is killed after it.
 abbrev pub killed : List Happening
 killed =
     Happening.Breaks 1 (from_two (message.Vote (txn 1))) decided 1
@@ -65,7 +65,7 @@ txn_two = record { site = 2; life = 1; seq = 1 }
 abbrev pub at_two : Call → Datagram
 at_two words = datagram_to 7100 (call_frame 2 words)
 
--- Site 2 has never been asked for its lock and its vote, whatever site 1 hears; then a client reads x there.
+-- Site 2 has never been asked for its lock and its vote, whatever comes to site 1; then a client reads x there.
 abbrev pub forged : List Happening
 forged =
     Happening.Starts 1 both.sites
@@ -88,8 +88,8 @@ view = record { number = 1; site = 1 }
 abbrev pub next_life : TxnId
 next_life = record { site = 1; life = 2; seq = 1 }
 
--- The log of site 1 is left without its decision, which was told; it starts again, forms a view, takes its own copy for as new as the other
--- one, and a client reads x there.
+-- The log of site 1 is left without its decision, which was answered; it starts again, forms a view, finds its own copy as new as the
+-- other one, and a client reads x there.
 abbrev pub forgotten : List Happening
 forgotten =
     Happening.Comes 1 (from_two (message.Vote (txn 1)))

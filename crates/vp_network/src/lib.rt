@@ -1,5 +1,5 @@
-//! A cluster of processes on a network, whatever it loses, repeats and delays and whichever of them are killed, as definitions over plain
-//! values: what they do together is a schedule.
+//! A cluster of processes on a network, whatever the network loses, repeats and delays and whichever of them are killed, as definitions
+//! over plain values; and the laws that what they do together is a schedule.
 #![tactic(auto)]
 
 mod laws;

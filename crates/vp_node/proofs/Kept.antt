@@ -12,7 +12,7 @@ use Rattle.vp_stable.proofs.Times.{elapses_none, elapses_as, elapses_then, leave
 use Rattle.vp_runs.specs.Keeping.{saved_if_due, kept_with}
 use Rattle.vp_node.specs.Keeping.{SavesDueAt, MaySaveDueAt, KeepsAt, KeepsShort, MayKeep, MayKeepAt}
 
--- no call at all: a crash leaves what a read gives
+-- no call at all: a crash leaves what is read back
 pub leaves_settled : (P : Halves → Halves → Type 0) → ((log : Halves) → P log log) → (at : Standing) (disk : DiskState) → IsDisk disk → (log : Option Halves)
     → IfSome log (λ log. AreSettled at log (disk.may_leave disk.asked)) → IfSome log (λ log. LeavesOnly disk disk (P log))
 leaves_settled P p at disk is (Some log) kept =
@@ -50,13 +50,13 @@ leaves_as P Q as_q old new (Some log) leaves = record {
 }
 leaves_as P Q as_q old new None leaves = tt
 
--- where a checkpoint is due of a log, it is due of its batches
+-- if a checkpoint is due of a log, it is due of its batches
 pub may_save_due : (d : DurableState) (at : Standing) → is_due at ≡ true → DueIsOfTheBatches → (old new : Halves) → MaySaveAt d at old new → MaySaveDueAt d at old new
 may_save_due d at is_due_is law old new may batches stands =
     let due_is : due batches ≡ true = sym (law at batches old stands) ∙ is_due_is in
     ⊎_elim (λ same. inl same) (λ kept. inr (subst (λ b. HaveBatches (if b then saved d batches else batches) new) (sym due_is) kept)) (may batches stands)
 
--- ---- records behind the batches, and a checkpoint behind them where one is due
+-- ---- records after the batches, and a checkpoint after them if one is due
 
 module _ (d : DurableState) (records : List LogRecord) (some : 0 < length records) (from at to : Standing) where
   pub keeps_then : (a b c : Halves) → GainsAt records from at a b → SavesDueAt d at to b c → KeepsAt d records from to a c

@@ -1,3 +1,4 @@
+pub mod Taken
 pub mod Faults
 pub mod Kept
 mod Revived

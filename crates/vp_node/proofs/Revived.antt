@@ -49,7 +49,7 @@ module _ (catalogue : Catalogue) (id : ℕ) where
     starts_then None None (Some c) alike stands may = may
     starts_then None None None alike stands may = tt
 
-    -- a crash before the append leaves what a recovery may leave, and a later one the batches, with the start or without
+    -- a crash before the append leaves what a recovery may leave; a later one leaves the batches, with or without the start
     pub leaves_start_then : (old mid new : DiskState) → mid.asked ≡ old.asked → (before : Halves → Type 0) → (o p : Option Halves) → Becomes ReadAlike o p → IfSome p (StandsAt at batches)
         → IfSome o (λ log. LeavesOnly old mid (λ image. before image ⊎ ReadAlike log image)) → IfSome p (λ log. LeavesOnly mid new (MayGainAt begun at log))
         → IfSome o (λ log. LeavesOnly old new (λ image. before image ⊎ MayStart catalogue id log image))
@@ -63,7 +63,7 @@ module _ (catalogue : Catalogue) (id : ℕ) where
     leaves_start_then old mid new name before None (Some b) alike stands first second = tt
     leaves_start_then old mid new name before None None alike stands first second = tt
 
-  -- the log has the start behind its batches, and is told as it was
+  -- the log has the start after its batches, and is otherwise as it was
   pub stands_begun : (at to : Standing) (batches : List (List LogRecord)) → (o p q : Option Halves) → Becomes ReadAlike o p → IfSome p (StandsAt at batches)
       → Becomes (GainsAt (start_record (durable_in catalogue id batches) ∷ []) at to) p q → Becomes (λ before log. StandsAt to (start_node catalogue id batches).batches log) o q
   stands_begun at to batches (Some a) (Some b) (Some c) alike stands gains = gains batches stands
@@ -80,7 +80,7 @@ module _ (catalogue : Catalogue) (id : ℕ) where
   unfolding node_run
   starts_shaped batches k listed are left = (runs_are_shaped catalogue id batches [] k listed are (omega (arith, left)) tt).0
 
-  -- the log folds to what the site that starts has to keep
+  -- the log folds to the durable part of the site that starts
   start_folds : (batches : List (List LogRecord)) → durable_of (start_node catalogue id batches).site ≡ durable_in catalogue id (start_node catalogue id batches).batches
   unfolding node_run
   start_folds batches = runs_keep catalogue id batches []

@@ -1,4 +1,4 @@
--- What a turn leaves of a node: its site has its form, and its log folds to what the site has to keep.
+-- What a turn leaves of a node: its site has its form, and its log folds to the durable part of the site.
 use Rattle.std.proofs.Common.{◌≡◌, ◌∙◌, inl, inr, ⊎_elim, ◌⊎◌, List, [], ◌∷◌, ◌++◌, refl, sym, subst, ap}
 use Rattle.std.specs.declared.option.Option.{Option}
 use Rattle.std.specs.declared.option.Option.TheVariants.{Some, None}

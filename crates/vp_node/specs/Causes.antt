@@ -23,7 +23,7 @@ abbrev pub end_of_append : AppendFault → NodeEnd
 end_of_append append.DiskFault = ends.DiskFault
 end_of_append append.NoMemory = ends.NoMemory
 
--- The disk's count of failures rose where the answer is DiskFault, and stayed as it was at any other.
+-- The disk's count of failures rose if the end is DiskFault, and stayed as it was at any other.
 pub record HasNodeCause {T : Type 0} (before now : ℕ) (result : Result T NodeEnd) : Type 0 where
   pub later : before ≤ now
   pub failed : IsErrOf result ends.DiskFault → Rose before now
@@ -32,10 +32,10 @@ pub record HasNodeCause {T : Type 0} (before now : ℕ) (result : Result T NodeE
   pub lives_spent : (life : ℕ) → IsErrOf result (ends.LivesSpent life) → now ≡ before
   pub no_memory : IsErrOf result ends.NoMemory → now ≡ before
 
--- a turn ends a node for its disk or for want of memory alone
+-- a turn ends a node only if its disk fails or memory runs out
 abbrev pub EndsInTurn : {T : Type 0} → Result T NodeEnd → Type 0
 EndsInTurn result = IfErr result (λ e. (e ≡ ends.DiskFault) ⊎ (e ≡ ends.NoMemory))
 
--- it ends for want of memory or lives
+-- it ends because memory runs out or its lives are spent
 abbrev pub EndsWithoutDisk : {T : Type 0} → Result T NodeEnd → Type 0
 EndsWithoutDisk result = IfErr result (λ e. (e ≡ ends.NoMemory) ⊎ ((life : ℕ) × (e ≡ ends.LivesSpent life)))

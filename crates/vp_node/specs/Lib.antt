@@ -1,3 +1,4 @@
+pub mod Taking
 pub mod Causes
 pub mod Keeping
 pub mod Nodes

@@ -15,10 +15,10 @@ use Rattle.vp_runs.specs.Keeping.{durable_in}
 use Rattle.vp_node.specs.Keeping.{KeepsAt, MayKeepAt}
 use Rattle.vp_runs.specs.Turns.{Turn, turn_on, turn_lines}
 use Rattle.vp_runs.specs.Runs.{start_node}
-use Rattle.vp_turns.specs.declared.turned.TurnEffects.{TurnEffects}
-use Rattle.vp_turns.specs.declared.turned.Turned.{Turned}
+use Rattle.vp_node.specs.declared.turned.TurnEffects.{TurnEffects}
+use Rattle.vp_node.specs.declared.turned.Turned.{Turned}
 
--- what contracts see of a node: its site, and where its log stands
+-- what contracts see of a node: its site, and where its log is on the disk
 pub record NodeValue : Type 0 where
   pub site : SiteState
   pub at : Standing
@@ -30,31 +30,31 @@ pub record IsNode (catalogue : Catalogue) (node : NodeValue) : Type 0 where
 
 -- ---- what the disk keeps
 
--- A crash leaves what a read gives: a log whose batches fold to what the site has to keep.
+-- A crash leaves what is read back: a log whose batches fold to the durable part of the site.
 pub record Keeps (catalogue : Catalogue) (node : NodeValue) (log : Halves) (images : Halves → Type 0) : Type 0 where
   pub synced : Only log images
   pub batches : List (List LogRecord)
   pub stands : StandsAt node.at batches log
   pub folds : durable_in catalogue node.site.id batches ≡ durable_of node.site
 
--- the same where the disk is honest and tells the log
+-- the same where the disk is honest and has a log
 abbrev pub IsKept : Catalogue → NodeValue → DiskState → Type 0
 IsKept catalogue node disk = disk.honest → IfSome (log_of disk) (λ log. Keeps catalogue node log (disk.may_leave disk.asked))
 
 -- ---- a start
 
--- The node starts from the batches that the log had where the disk tells it, and its log has the start behind them.
+-- The node starts from the batches that the log had, if the disk has one, and its log has the start after them.
 pub record Starts (catalogue : Catalogue) (id : ℕ) (node : NodeValue) (old new : DiskState) : Type 0 where
   pub batches : List (List LogRecord)
   pub had : IfSome (log_of old) (HaveBatches batches)
   pub site : node.site ≡ (start_node catalogue id batches).site
   pub has : Steps (λ before log. StandsAt node.at (start_node catalogue id batches).batches log) old new
 
--- these batches end in a life behind which there is another one
+-- these batches end in a life that is not the last one
 abbrev pub HasLifeLeft : Catalogue → ℕ → List (List LogRecord) → Type 0
 HasLifeLeft catalogue id batches = (durable_in catalogue id batches).life < 2 ^ 32 - 1
 
--- Of the log that was there its batches are left, or, where a life was left, these with the start; where it was no log it is none.
+-- The batches of the log are left, or these with the start, if a life was left; if it was no log, it is none.
 pub record MayStart (catalogue : Catalogue) (id : ℕ) (old new : Halves) : Type 0 where
   pub batches : (batches : List (List LogRecord)) → HaveBatches batches old
       → HaveBatches batches new ⊎ (HasLifeLeft catalogue id batches × HaveBatches (start_node catalogue id batches).batches new)
@@ -74,26 +74,25 @@ what_comes catalogue node d = arrival catalogue node.site.id d
 abbrev pub turn_of : Catalogue → NodeValue → Datagram → Turn
 turn_of catalogue node d = turn_on catalogue node.site (what_comes catalogue node d)
 
--- The site took the turn, and this is what it committed and has to hand over.
+-- The site has done the turn, and these are its commits and what it has to hand over.
 pub record Gives (turn : Turn) (after : NodeValue) (turn_effects : TurnEffects) : Type 0 where
   pub site : after.site ≡ turn.site
   pub datagrams : turn_effects.datagrams ≡ turn.datagrams
   pub commits : turn_effects.effects.commits ≡ turn.commits
   pub stop : turn_effects.stop ≡ turn.stop
 
--- The site took the turn, and this is what it recorded, committed and has to hand over.
+-- The site has done the turn, and these are its lines and what it has to hand over.
 pub record Turns (catalogue : Catalogue) (node : NodeValue) (d : Datagram) (after : NodeValue) (told : Turned) : Type 0 where
   pub site : after.site ≡ (turn_of catalogue node d).site
   pub lines : told.lines ≡ turn_lines d (what_comes catalogue node d) (turn_of catalogue node d)
   pub datagrams : told.datagrams ≡ (turn_of catalogue node d).datagrams
-  pub commits : told.commits ≡ (turn_of catalogue node d).commits
   pub stop : told.stop ≡ (turn_of catalogue node d).stop
 
--- The log that stood there has the turn's batch behind the others, or a checkpoint in their place where one is due.
+-- The log that was in the first place has the turn's batch after the others, or a checkpoint instead if one is due.
 abbrev pub Saves : Turn → Standing → Standing → Halves → Halves → Type 0
 Saves turn from to old new = KeepsAt (durable_of turn.site) turn.batch from to old new
 
--- What is left of the log that stood there. It folds to what the site had to keep before the turn or after it.
+-- What is left of the log that was there. It folds to the durable part of the site before the turn or after it.
 pub record MaySave (catalogue : Catalogue) (node : NodeValue) (turn : Turn) (old new : Halves) : Type 0 where
   pub batches : MayKeepAt (durable_of turn.site) turn.batch node.at old new
   pub folds : (after : List (List LogRecord)) × HaveBatches after new

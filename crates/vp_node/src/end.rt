@@ -8,14 +8,14 @@ use vp_base::NoMemory;
 use vp_site::StartFault;
 use vp_stable::{AppendFault, LogFault};
 
-/// Why a node doesn't start, or is gone in a turn.
+/// Why a node doesn't start, or ends in a turn. Its site is gone then, as after a crash.
 #[derive(Clone, Copy, Debug, Drop, PartialEq, Eq)]
 pub enum NodeEnd {
     /// The disk failed.
     DiskFault,
-    /// The log is no log: behind the open gate at this byte of the half no batch of records with a gate stands.
+    /// The log is damaged: after the open gate at byte `at` of this half comes no batch of records with a gate.
     BadLog { half: u8, at: u64 },
-    /// The log's life is the last one.
+    /// The log's life is the last one; its number is given.
     LivesSpent { life: u32 },
     NoMemory,
 }

@@ -15,7 +15,7 @@ use vp_outside::Disk;
 use vp_site::Site;
 use vp_stable::{AppendFault, Log, a_checkpoint_is_due_of_batches};
 
-/// Makes a checkpoint of what the site has to keep.
+/// Makes a checkpoint of the site's durable part.
 fn save<D: Disk>(log: &mut Log, disk: &mut D, site: &Site) -> Result<(), AppendFault>
     requires attached { IsTrue (D.state disk.old).attached }
     requires kept { AreKept log.old (D.state disk.old) }
@@ -33,7 +33,7 @@ fn save<D: Disk>(log: &mut Log, disk: &mut D, site: &Site) -> Result<(), AppendF
     log.checkpoint(disk, &durable)
 }
 
-/// The same, where a checkpoint is due.
+/// Makes a checkpoint if one is due.
 fn save_if_due<D: Disk>(log: &mut Log, disk: &mut D, site: &Site) -> Result<(), AppendFault>
     requires attached { IsTrue (D.state disk.old).attached }
     requires kept { AreKept log.old (D.state disk.old) }
@@ -54,7 +54,8 @@ fn save_if_due<D: Disk>(log: &mut Log, disk: &mut D, site: &Site) -> Result<(), 
     save(log, disk, site)
 }
 
-/// Appends the records of a step that left the site as it is, and makes a checkpoint where one is due. Nothing is done of no records.
+/// Appends the records of a step that left the site like this, and makes a checkpoint if one is due. Does nothing if there are no
+/// records.
 pub fn keep<D: Disk>(
     log: &mut Log,
     disk: &mut D,

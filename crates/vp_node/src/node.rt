@@ -12,11 +12,15 @@ ghost use Rattle.vp_runs.specs.Arrivals.{IsArrival};
 ghost use Rattle.vp_runs.specs.Turns.{turn_on};
 ghost use Rattle.vp_node.specs.Causes.{HasNodeCause, EndsInTurn};
 ghost use Rattle.vp_node.specs.declared.end.NodeEnd.TheVariants as ends;
-ghost use Rattle.vp_turns.specs.Taking.{IsStepOf};
+ghost use Rattle.vp_node.specs.Taking.{IsStepOf};
 
+use crate::arrivals::arrival;
 use crate::end::NodeEnd;
 use crate::keeping::keep;
+use crate::recording::arrival_line;
 use crate::starting::next_life;
+use crate::taking::turn_on;
+use crate::turned::{TurnEffects, Turned};
 use std::marker::Model;
 use vp_base::SiteId;
 use vp_catalog::Catalog;
@@ -24,7 +28,6 @@ use vp_outside::Disk;
 use vp_runs::Arrival;
 use vp_site::Site;
 use vp_stable::{Log, halves_are_one_log};
-use vp_turns::{TurnEffects, Turned, arrival, arrival_line, take};
 
 /// A site that is up, with its log.
 #[derive(Drop)]
@@ -42,8 +45,8 @@ impl Model for Node {
 }
 
 impl Node {
-    /// Recovers the log that is attached, starts the site from it, and appends the start of its life. After a fault the log may have
-    /// that start or not.
+    /// Recovers the attached log, starts the site from it, and appends the start of its life. After a fault the log may have that start
+    /// or not.
     pub fn start<D: Disk>(catalog: &Catalog, id: SiteId, disk: &mut D) -> Result<Node, NodeEnd>
         requires attached { IsTrue (D.state disk.old).attached }
         requires id { has (sites_of catalog.now) id ≡ true }
@@ -53,7 +56,7 @@ impl Node {
         ensures kept { IfOk result (λ node. IsKept catalog.now node (D.state disk.new)) }
         ensures lives { IfOk result (λ node. node.site.life < 2 ^ 32) }
 
-        // Each other answer has its cause.
+        // Each other result has its cause.
         ensures bad_log { (half at : ℕ) → IsErrOf result (ends.BadLog half at) → IfSome (log_of (D.state disk.old)) (AreBadLog half at) }
         ensures lives_spent { (life : ℕ) → IsErrOf result (ends.LivesSpent life) → IsSpent catalog.now id life (D.state disk.old) }
         ensures unchanged { (half at life : ℕ) → IsErrOf result (ends.BadLog half at) ⊎ IsErrOf result (ends.LivesSpent life)
@@ -64,8 +67,8 @@ impl Node {
             (λ image. (D.state disk.old).may_leave (D.state disk.old).asked image ⊎ ReadAlike log image)) }
         ensures fault { OnErr result (Steps (MayStart catalog.now id) (D.state disk.old) (D.state disk.new)) }
 
-        // A crash before the first sync leaves what it might have left before the call, and a later one the batches, with the start, where a
-        // life was left, or without.
+        // A crash before the first sync leaves what it might have left before the call; a later one leaves the batches, with or without
+        // the start, which comes only if a life was left.
         ensures any_moment { (D.state disk.old).honest → IfSome (log_of (D.state disk.old)) (λ log.
             LeavesOnly (D.state disk.old) (D.state disk.new)
             (λ image. (D.state disk.old).may_leave (D.state disk.old).asked image ⊎ MayStart catalog.now id log image)) }
@@ -80,30 +83,30 @@ impl Node {
         Ok(Node { site, log })
     }
 
-    /// The number of its life, which its start forced to the log.
+    /// The number of the site's life, from 1 on, which its start forced to the log.
     pub fn life(&self) -> u32
         ensures { result ≡ self.now.site.life }
     {
         self.site.life()
     }
 
-    /// The node of a site that is up, and of its log.
+    /// Makes a node of a site that is up and its log.
     pub fn from_parts(site: Site, log: Log) -> Node
         ensures { result ≡ record { site = site; at = log } }
     {
         Node { site, log }
     }
 
-    /// The site and its log, apart.
+    /// Takes the node apart, into its site and its log.
     pub fn into_parts(self) -> (Site, Log)
         ensures { result ≡ (self.site, self.at) }
     {
         (self.site, self.log)
     }
 
-    /// Takes what came. Its records are synced before it returns, and nothing is sent here. After a fault or want of memory the node is
-    /// gone, as after a crash.
-    pub fn take<D: Disk>(
+    /// Does the turn of what came. Its records are synced before it returns, and nothing is sent here. After a fault, or if memory runs
+    /// out, the node is gone, as after a crash.
+    pub fn handle<D: Disk>(
         self,
         catalog: &Catalog,
         disk: &mut D,
@@ -118,15 +121,15 @@ impl Node {
         ensures stepped { IfOk result (λ it. IsStepOf catalog.now self.site what it.0.site it.1.effects) }
         ensures saved { IfOk result (λ it. Steps (Saves (turn_on catalog.now self.site what) self.at it.0.at)
             (D.state disk.old) (D.state disk.new)) }
-        // Whatever the disk tells, behind a turn with records no checkpoint is due, unless the generation is the last.
+        // Whatever the disk says, after a turn with records no checkpoint is due, unless the generation is the last.
         ensures short { IfOk result (λ it. KeepsShort (turn_on catalog.now self.site what).batch self.at it.0.at) }
         ensures node { IfOk result (λ it. IsNode catalog.now it.0) }
         ensures kept { IfOk result (λ it. IsKept catalog.now it.0 (D.state disk.new)) }
         ensures left { (D.state disk.old).honest → Steps (MaySave catalog.now self (turn_on catalog.now self.site what)) (D.state disk.old) (D.state disk.new) }
         ensures ends { EndsInTurn result }
 
-        // A crash at any moment of the turn leaves the batches that were there, with the turn's or without, or their checkpoint: they fold
-        // to what the site had to keep before the turn, or after it.
+        // A crash at any moment of the turn leaves the batches that were there, with or without the turn's, or their checkpoint: they
+        // fold to the durable part of the site before the turn, or after it.
         ensures any_moment { (D.state disk.old).honest → IfSome (log_of (D.state disk.old)) (λ log.
             LeavesOnly (D.state disk.old) (D.state disk.new)
             (MaySave catalog.now self (turn_on catalog.now self.site what) log)) }
@@ -134,14 +137,14 @@ impl Node {
         ensures others { LeavesOthers (D.state disk.old) (D.state disk.new) }
         ensures cause { HasNodeCause (D.state disk.old).faults (D.state disk.new).faults result }
     {
-        let (site, turn_effects) = take(self.site, catalog, what)?;
+        let (site, turn_effects) = turn_on(self.site, catalog, what)?;
         let mut log = self.log;
         keep(&mut log, disk, &site, &turn_effects.effects.records)?;
         Ok((Node { site, log }, turn_effects))
     }
 
-    /// Takes one datagram, and tells of it. Its records are synced before it returns, and nothing is sent here. After a fault or want of
-    /// memory the node is gone, as after a crash.
+    /// Does the turn of one datagram, and records it. Its records are synced before it returns, and nothing is sent here. After a fault,
+    /// or if memory runs out, the node is gone, as after a crash.
     pub fn turn<D: Disk>(
         self,
         catalog: &Catalog,
@@ -156,7 +159,7 @@ impl Node {
         ensures turned { IfOk result (λ it. Turns catalog.now self (record { port = port; bytes = bytes.now }) it.0 it.1) }
         ensures saved { IfOk result (λ it. Steps (Saves (turn_of catalog.now self (record { port = port; bytes = bytes.now })) self.at it.0.at)
             (D.state disk.old) (D.state disk.new)) }
-        // Whatever the disk tells, behind a turn with records no checkpoint is due, unless the generation is the last.
+        // Whatever the disk says, after a turn with records no checkpoint is due, unless the generation is the last.
         ensures short { IfOk result (λ it. KeepsShort (turn_of catalog.now self (record { port = port; bytes = bytes.now })).batch self.at it.0.at) }
         ensures node { IfOk result (λ it. IsNode catalog.now it.0) }
         ensures kept { IfOk result (λ it. IsKept catalog.now it.0 (D.state disk.new)) }
@@ -164,8 +167,8 @@ impl Node {
             (D.state disk.old) (D.state disk.new)) }
         ensures ends { EndsInTurn result }
 
-        // A crash at any moment of the turn leaves the batches that were there, with the turn's or without, or their checkpoint: they fold
-        // to what the site had to keep before the turn, or after it.
+        // A crash at any moment of the turn leaves the batches that were there, with or without the turn's, or their checkpoint: they
+        // fold to the durable part of the site before the turn, or after it.
         ensures any_moment { (D.state disk.old).honest → IfSome (log_of (D.state disk.old)) (λ log.
             LeavesOnly (D.state disk.old) (D.state disk.new)
             (MaySave catalog.now self (turn_of catalog.now self (record { port = port; bytes = bytes.now })) log)) }
@@ -176,7 +179,7 @@ impl Node {
         let alloc = catalog.sites().allocator();
         let what = arrival(alloc, catalog, self.site.id(), port, bytes)?;
         let line = arrival_line(alloc, bytes, &what)?;
-        let (node, turn_effects) = self.take(catalog, disk, what)?;
+        let (node, turn_effects) = self.handle(catalog, disk, what)?;
         Ok((node, turn_effects.recorded(line)?))
     }
 }

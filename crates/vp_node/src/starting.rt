@@ -1,4 +1,4 @@
-//! The site that a log's batches make.
+//! The site that starts from the batches of a log.
 
 ghost use Rattle.std.specs.Prelude.{◌≡◌, ◌<◌, ◌-◌, ◌^◌, ◌∷◌, [], ℕ, IfOk, IsErrOf};
 ghost use Rattle.vp_model.specs.Step.{start_record};
@@ -13,8 +13,8 @@ use vp_catalog::Catalog;
 use vp_records::Durable;
 use vp_site::Site;
 
-/// The durable part that the batches make of the copies with which the site begins.
-fn folded(catalog: &Catalog, id: SiteId, batches: &Batches) -> Result<Durable, NoMemory>
+/// Folds the batches, from the first copies of the site on.
+pub fn fold_batches(catalog: &Catalog, id: SiteId, batches: &Batches) -> Result<Durable, NoMemory>
     ensures { IfOk result (λ durable. durable ≡ durable_in catalog.now id batches.now) }
 {
     let mut durable = Durable::empty(catalog.copies(id)?);
@@ -24,7 +24,7 @@ fn folded(catalog: &Catalog, id: SiteId, batches: &Batches) -> Result<Durable, N
     Ok(durable)
 }
 
-/// The site in its next life, and the batch that its log is to get before the site does anything.
+/// Starts the site in its next life, and makes the batch that must be appended to its log before the site does anything.
 pub fn next_life(catalog: &Catalog, id: SiteId, batches: &Batches) -> Result<(Site, Batch), NodeEnd>
     ensures site { IfOk result (λ it. it.0 ≡ (start_node catalog.now id batches.now).site) }
     ensures batch { IfOk result (λ it. it.1 ≡ start_record (durable_in catalog.now id batches.now) ∷ []) }
@@ -33,7 +33,7 @@ pub fn next_life(catalog: &Catalog, id: SiteId, batches: &Batches) -> Result<(Si
         → (life ≡ 2 ^ 32 - 1) × ((durable_in catalog.now id batches.now).life ≡ life) }
     ensures ends { EndsWithoutDisk result }
 {
-    let durable = folded(catalog, id, batches)?;
+    let durable = fold_batches(catalog, id, batches)?;
     let (site, entry) = Site::start(catalog, id, durable)?;
     let mut batch = Batch::new(catalog.sites().allocator());
     batch.push(entry)?;

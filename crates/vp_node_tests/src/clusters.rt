@@ -18,7 +18,7 @@ const WRITTEN: &[u8] = b"\x56\x01\x21\x01\0\x03\x01\0\0\0\x01\0\0\0\x01\0\0\0\x0
 
 const COMMITTED: &[u8] = b"\x56\x01\x21\x01\0\x04\x01\0\0\0\x01\0\0\0\x01\0\0\0\x02";
 
-/// The call to begin, to site 2, and what it is answered.
+/// The call to begin, to site 2, and its answer.
 const BEGIN_THERE: &[u8] = b"\x56\x01\x20\0\x02\x01";
 
 const BEGUN_THERE: &[u8] = b"\x56\x01\x21\x02\0\x01\x02\0\0\0\x01\0\0\0\x01\0\0\0\0\0\0\0\0\0";
@@ -28,7 +28,7 @@ const READ_THERE: &[u8] = b"\x56\x01\x20\0\x02\x03\x02\0\0\0\x01\0\0\0\x01\0\0\0
 
 const VALUE: &[u8] = b"\x56\x01\x21\x02\0\x02\x02\0\0\0\x01\0\0\0\x01\0\0\0\x01\x02\x31\x31";
 
-/// The log of a site that has voted, and was told the commit: its life, its vote with the write, and the outcome.
+/// The log of a site that has voted and got the commit: its life, its vote with the write, and the outcome.
 const OF_A_PARTICIPANT: &[u8] = b"\x01\0\0\0\0\0\0\0\x05\x01\0\0\0\x01\
     \x01\0\0\0\0\0\0\0\x18\x03\x01\0\0\0\x01\0\0\0\x01\0\0\0\0\0\0\0\0\0\x01\0\x02\x31\x31\
     \x01\0\0\0\0\0\0\0\x0b\x04\x01\0\0\0\x01\0\0\0\x01\x01\0";
@@ -66,7 +66,7 @@ fn copied(alloc: Global, datagrams: &[Datagram]) -> Result<Vec<Datagram>, AllocE
 }
 
 impl Member {
-    /// Its run from an empty log on, which is the same each time for what has come so far.
+    /// Runs it from an empty log on, which gives the same each time for what has come so far.
     fn run(&self, rt: &impl Abort, alloc: Global) -> Ended {
         let setup = Setup {
             catalogue: THREE,
@@ -77,7 +77,7 @@ impl Member {
         setup.run(alloc, datagrams).expect(rt, "a run")
     }
 
-    /// What it hands over beyond the last time.
+    /// Adds what it hands over beyond the last time.
     fn hand_over(&mut self, rt: &impl Abort, alloc: Global, handed: &mut Vec<OnItsWay>) {
         let ended = self.run(rt, alloc);
         for it in ended.link.handed().iter().skip(self.passed) {
@@ -112,7 +112,7 @@ impl Cluster {
         }
     }
 
-    /// What comes to the port of a site comes to it, and all else to a client.
+    /// Delivers what goes to the port of a site to that, and all else to a client.
     fn deliver(&mut self, to: u16, datagram: Datagram) -> Result<(), AllocError> {
         match self.members.iter_mut().find(|member| member.port == to) {
             Some(member) => member.arrived.push(datagram)?,
@@ -134,7 +134,7 @@ impl Cluster {
         }
     }
 
-    /// Whether a client's call is answered so in the end.
+    /// Whether a client's call gets this answer in the end.
     fn answers(&mut self, rt: &impl Abort, port: u16, call: &[u8], answer: &[u8]) -> bool {
         let datagram = datagram(self.alloc, 7100, call).expect(rt, "memory");
         self.deliver(port, datagram).expect(rt, "memory");

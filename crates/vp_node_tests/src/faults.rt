@@ -1,5 +1,5 @@
-//! A node that serves one transaction and is stopped, of which each call of its link, its disk and its sink fails in turn; and one whose log
-//! becomes long, of which some calls of its disk do.
+//! A node that serves one transaction and is stopped, where each call of its link, its disk and its sink fails in turn; and one whose log
+//! becomes long, where some calls of its disk do.
 
 use std::alloc::Global;
 use std::process::Abort;
@@ -9,7 +9,7 @@ use vp_commands_tests::{
 };
 use vp_status::Status;
 
-/// What it prints where no call fails.
+/// What it prints if no call fails.
 const RECORDING: &str = "start 1\n\
 in 560120000101\n\
 out 560121010001010000000100000001000000000000000000\n\
@@ -20,8 +20,8 @@ out 56012101000401000000010000000100000002\n\
 in 5601240001\n\
 end\n";
 
-/// Calls of the link, the disk and the sink that fail, and what they end in: the status, how many lines of the recording are printed, how many
-/// datagrams were handed over, and how long the log is: 15 bytes with the start of its life, 49 with the commit.
+/// Calls of the link, the disk and the sink that fail, and how the run ends then: the status, how many lines of the recording are
+/// printed, how many datagrams were handed over, and how long the log is: 15 bytes with the start of its life, 49 with the commit.
 const FAULTS: [(u64, u64, u64, Status, usize, usize, usize); 17] = [
     // Call 1 of the link binds; then each turn receives, and each turn but the last sends. What isn't sent is lost. There is no call 9.
     (1, 0, 0, Status::LinkFault, 0, 0, 15),
@@ -33,8 +33,8 @@ const FAULTS: [(u64, u64, u64, Status, usize, usize, usize); 17] = [
     (7, 0, 0, Status::Done, 9, 3, 49),
     (8, 0, 0, Status::LinkFault, 7, 3, 49),
     (9, 0, 0, Status::Done, 9, 3, 49),
-    // The first line, the lines of each turn and the last line are put by a call of the sink each; the datagrams of a turn are sent behind
-    // its lines, and its records are kept before them.
+    // Each of the first line, the lines of a turn and the last line is put by one call of the sink; the datagrams of a turn are sent
+    // after its lines, and its records are kept before them.
     (0, 0, 1, Status::SinkFault, 0, 0, 15),
     (0, 0, 2, Status::SinkFault, 1, 0, 15),
     (0, 0, 3, Status::SinkFault, 3, 1, 15),
@@ -46,7 +46,7 @@ const FAULTS: [(u64, u64, u64, Status, usize, usize, usize); 17] = [
     (2, 0, 2, Status::SinkFault, 1, 0, 15),
 ];
 
-/// How its log begins once another life has started on it, where it has the commit: the closed gate behind the batches ends it.
+/// How its log begins once another life has started on it, if it has the commit: the closed gate after the batches ends it.
 const COMMIT_BETWEEN: &[u8] = b"\x01\0\0\0\0\0\0\0\x05\x01\0\0\0\x01\
     \x01\0\0\0\0\0\0\0\x19\x05\x01\0\0\0\x01\0\0\0\x01\0\0\0\0\0\0\0\0\0\x01\0\x02\x31\x31\0\
     \x01\0\0\0\0\0\0\0\x05\x01\0\0\0\x02\0";
@@ -74,7 +74,7 @@ fn first_lines(text: &[u8], count: usize) -> &[u8] {
     text
 }
 
-/// What is printed behind the recording.
+/// What is printed after the recording.
 fn last_line(status: Status) -> &'static [u8] {
     match status {
         Status::LinkFault => b"link fault\n",
@@ -83,7 +83,8 @@ fn last_line(status: Status) -> &'static [u8] {
     }
 }
 
-/// Whether it ended with this status, printed so many lines of the recording and the line of the status, and handed over so many datagrams.
+/// Whether it ended with this status, printed so many lines of the recording and the line of the status, and handed over so many
+/// datagrams.
 fn ends(ended: &Ended, status: Status, lines: usize, sent: usize) -> bool {
     let recorded = first_lines(RECORDING.as_bytes(), lines);
     ended.status == status
@@ -104,7 +105,7 @@ fn a_fault_of_the_link_is_told_unless_it_sends_and_one_of_the_sink_ends_the_reco
     }
 }
 
-/// Whether the log begins so once another life has started on it.
+/// Whether the log begins like this once another life has started on it.
 fn goes_on(rt: &impl Abort, alloc: Global, ended: &Ended, log: &[u8]) -> bool {
     let next = Setup::alone(ended.disk.half(0))
         .run(alloc, Vec::new(alloc))
@@ -112,7 +113,7 @@ fn goes_on(rt: &impl Abort, alloc: Global, ended: &Ended, log: &[u8]) -> bool {
     next.disk.half(0).starts_with(log)
 }
 
-/// How the log begins on which the next life starts, where the call of the disk with this number failed.
+/// How the log begins on which the next life starts, if the call of the disk with this number failed.
 fn log_behind(disk: u64) -> &'static [u8] {
     match disk {
         ..=9 => STARTED,
@@ -129,7 +130,7 @@ fn disk_fault_is_told(rt: &impl Abort, alloc: Global, disk: u64) -> bool {
 }
 
 // Call 1 attaches; recovery syncs, asks for both lengths, writes and syncs; the start of the life writes, syncs, writes and syncs, and so
-// does the commit. The last sync is behind the write that makes a batch count.
+// does the commit. The last sync is after the write that makes a batch count.
 #[test]
 fn a_call_of_the_disk_that_fails_is_told(rt: HostRuntime) {
     for disk in 1..=14u64 {
@@ -140,8 +141,8 @@ fn a_call_of_the_disk_that_fails_is_told(rt: HostRuntime) {
 /// Two sites.
 const TWO: &[u8] = b"site 1 7001\nsite 2 7002\nrecord x 10 1:1 2:1\n";
 
-/// What the next life prints that regroups: it starts again in the life that failed to start, starts in the next one, or knows of the view
-/// that was promised.
+/// What the next life prints when it regroups: it starts again in the life that failed to start, starts in the next one, or knows the
+/// view that was promised.
 const STARTED_AGAIN: &[u8] = b"start 16843010\nin 560120000102\n\
     out 5601010102000000000000000101\nout 560121010006000000000000000101\nlink fault\n";
 
@@ -163,7 +164,7 @@ fn regroup(rt: &impl Abort, alloc: Global, halves: [&[u8]; 2], disk: u64) -> End
     setup.run(alloc, datagrams).expect(rt, "a run")
 }
 
-/// What is printed where the call of the disk with this number fails, and then by the next life.
+/// What is printed if the call of the disk with this number fails, and then by the next life.
 fn printed(disk: u64) -> (&'static [u8], &'static [u8]) {
     match disk {
         ..=8 => (b"disk fault\n", STARTED_AGAIN),
@@ -183,8 +184,8 @@ fn long_log_goes_on(rt: &impl Abort, alloc: Global, half: &[u8], disk: u64) -> b
         && regroup(rt, alloc, halves, 0).is(Status::LinkFault, next)
 }
 
-// Recovery reads the half by call 4; call 9 is the last sync of the start of the life, call 12 opens the gate of the promise; the checkpoint
-// cuts the other half by call 14, and its last sync is call 21.
+// Recovery reads the half by call 4; call 9 is the last sync of the start of the life, call 12 opens the gate of the promise; the
+// checkpoint cuts the other half by call 14, and its last sync is call 21.
 #[test]
 fn a_call_of_the_disk_that_fails_on_a_long_log_is_told(rt: HostRuntime) {
     let half = long_half(rt.alloc()).expect(&rt, "memory");

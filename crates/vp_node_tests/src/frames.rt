@@ -8,7 +8,7 @@ use vp_status::Status;
 
 const CATALOGUE: &[u8] = b"site 1 7001\nsite 2 7002\nsite 3 7003\nrecord x 10 1:1 2:1 3:1\n";
 
-/// The copy 11 of x, of the opening view, which site 3 gives site 2 in view 1@2.
+/// The copy 11 of x, of the opening view, which site 3 sends site 2 in view 1@2.
 const COPY: &[u8] = b"\x56\x01\x10\x03\x02\0\0\0\0\0\0\0\x01\x02\0\x02\x31\x31\0\0\0\0\0\0\0\0\0";
 
 /// What site 2 prints of each beginning of it, and of the whole, which it doesn't wait for.

@@ -5,7 +5,7 @@ use std::process::Abort;
 use vp_disks::SureDisk;
 use vp_stable::{Log, LogFault};
 
-/// Three batches, Start of the lives 1, 2 and 3, each behind an open gate, and a closed gate.
+/// Three batches, Start of the lives 1, 2 and 3, each after an open gate, and a closed gate.
 const THREE: &[u8] = b"\
     \x01\0\0\0\0\0\0\0\x05\x01\0\0\0\x01\
     \x01\0\0\0\0\0\0\0\x05\x01\0\0\0\x02\
@@ -14,7 +14,7 @@ const THREE: &[u8] = b"\
 /// The bytes of a batch and the gate before it: the gate, eight of the length, the record's code, four of the life.
 const PIECE: usize = 14;
 
-/// What a recovery gives: so many batches, or the gate at fault.
+/// What a recovery finds: so many batches, or the gate at fault.
 #[derive(Clone, Copy, Drop, PartialEq, Eq)]
 enum Recovered {
     Batches(usize),
@@ -29,7 +29,7 @@ fn changed(alloc: Global, place: usize, mask: u8) -> Result<Vec<u8>, AllocError>
     Ok(out)
 }
 
-/// What is recovered where the byte was changed; none where it is another fault.
+/// What is recovered if the byte was changed; none where it is another fault.
 fn recover_changed(rt: &impl Abort, alloc: Global, place: usize, mask: u8) -> Option<Recovered> {
     let bytes = changed(alloc, place, mask).expect(rt, "memory");
     let mut disk = SureDisk::holding(alloc, bytes, Vec::new(alloc)).expect(rt, "memory");
@@ -40,7 +40,8 @@ fn recover_changed(rt: &impl Abort, alloc: Global, place: usize, mask: u8) -> Op
     }
 }
 
-/// A gate that isn't open any more ends the log. Behind a length or a code that is another one there is no batch. A life may be any number.
+/// What is to be found: a gate that is no longer open ends the log; after another length or code there is no batch; a life may be any
+/// number.
 fn wanted(batch: usize, byte: usize) -> Recovered {
     match byte {
         0 => Recovered::Batches(batch),
@@ -61,7 +62,7 @@ fn a_changed_byte_ends_the_log_or_is_refused_at_its_gate_or_is_a_life(rt: HostRu
     }
 }
 
-// A gate is open where it is 1.
+// A gate is open if it is 1.
 #[test]
 fn the_last_gate_is_refused_where_it_is_opened(rt: HostRuntime) {
     for mask in [1, 2, 4, 8, 16, 32, 64, 128, 255] {

@@ -1,4 +1,4 @@
--- Each allowed line has one newline, at its end, so none begins another.
+-- Each allowed line has one newline, at its end, so no line begins another.
 use Rattle.std.proofs.Common.{ℕ, ◌^◌, ◌<◌, List, [], ◌∷◌, ◌++◌, refl, sym, subst, arith}
 use Rattle.std.specs.Prelude.{codes}
 use Rattle.std.specs.Fmt.{decimal}

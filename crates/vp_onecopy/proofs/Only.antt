@@ -1,4 +1,4 @@
--- Of a text one answer is right, but for want of memory.
+-- Only one result is right for a text, apart from want of memory.
 use Rattle.std.proofs.Common.{◌≡◌, ◌≢◌, ◌⊎◌, ℕ, zero, suc, ◌+◌, ◌^◌, ◌<◌, List, [], ◌∷◌, ◌++◌, length, Result, Ok, Err, refl, sym, ap, subst, ◌∙◌, append_assoc, arith, inl, inr}
 use Rattle.std.specs.Prelude.{codes}
 use Rattle.std.proofs.lemmas.List.{append-nil, length-append}
@@ -15,7 +15,7 @@ use Rattle.vp_onecopy.specs.History.{empty, after, Allowed, Onward, NamesAgain, 
 use Rattle.vp_onecopy.specs.Passing.{history_line, Passed, Behind, IsMissing, AnsweredAll, IsOnly}
 use Rattle.vp_onecopy.proofs.Steps.{reads, readable}
 
--- ---- the lines behind the line `history`
+-- ---- the lines after the line `history`
 
 abbrev Bad : List ℕ → ℕ → ℕ → Type 0
 Bad = IsBadLine empty after Allowed Onward
@@ -65,7 +65,7 @@ long_stopped text line at t = record {
   number = refl;
 }
 
--- the end line stands where a line that names a name again stands
+-- the end line is where a line is that repeats a name
 end_again : (text : List ℕ) → length text < 2 ^ 63 → (l m : ℕ) → Stopped IsEnd text l → Stopped NamesAgain text m → ⊥
 end_again text small l m f g =
     let same = faulty_same empty after Allowed Onward IsEnd NamesAgain end_stops again_stops text (lines_plain text small) l m f g in
@@ -217,7 +217,7 @@ missing_same n rest (Err (faults.BadLine l i)) (Err faults.NoMemory) a b t u = a
 missing_same n rest (Err (faults.Twice l)) s a b t u = absurd a
 missing_same n rest (Err faults.NoMemory) s a b t u = absurd (t refl)
 
--- the line `history` stands there, or no line does
+-- the line `history` is there, or no further line is
 found_or_ended : (n m : ℕ) (text front rest other tail : List ℕ) → Passed n front → text ≡ front ++ (history_line ++ rest) → Passed m other → text ≡ other ++ tail → HasNoNewline tail → ⊥
 found_or_ended n m text front rest other tail p e q f clean =
     let w = passed_lines n front p in

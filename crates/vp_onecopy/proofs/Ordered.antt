@@ -1,4 +1,4 @@
--- A stable sort by view gives the order of the journal: a list whose views do not fall is determined by its entries in each view.
+-- A stable sort by view gives the order of the journal: a list whose views never fall is determined by its entries in each view.
 use Rattle.std.proofs.Common.{◌≡◌, ◌<◌, ◌+◌, ℕ, suc, ◌∙◌, ap, sym, Bool, true, false, cond, List, [], ◌∷◌, ◌++◌, length, refl, arith, get_or, Ordering}
 use Rattle.std.specs.Prelude.{⊤, ◌==◌, ◌&&◌, ◌||◌, not, nat_lt, fold, filter, flat_map}
 use Rattle.std.specs.Ordering.{is_lt, nat_cmp, ordering_then}
@@ -43,7 +43,7 @@ same_back a b e = grind (arith, nat_tests)
 tie_is : (a b : ViewId) → (not (view_before a b) && not (view_before b a)) ≡ same_view b a
 tie_is a b = grind (arith, nat_tests)
 
--- ---- transactions whose views do not fall
+-- ---- transactions whose views never fall
 
 -- no view is before this one
 abbrev NoneBefore : ViewId → List Commit → Type 0

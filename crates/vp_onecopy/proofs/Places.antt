@@ -1,4 +1,4 @@
--- The place of a name is below the count of names.
+-- The place of a name is below the number of names.
 use Rattle.std.proofs.Common.{◌≡◌, ◌<◌, ℕ, zero, suc, List, [], ◌∷◌, length, Option, Some, None, Result, Ok, refl, ap, subst, arith}
 use Rattle.vp_text.specs.Reading.{scan, ended}
 use Rattle.vp_text.proofs.Exact.{ok_value, at_err}

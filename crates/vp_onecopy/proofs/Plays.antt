@@ -33,14 +33,14 @@ misread m operation rec value kept read o l is differ same = (
 split_at : (ops : List Op) (i : ℕ) (operation : Op) → i < length ops → operation ≡ get_or ops i operation → ops ≡ take i ops ++ operation ∷ drop (i + 1) ops
 split_at ops i operation l is = sym (take-append-drop i ops) ∙ ap (λ x. take i ops ++ x) (drop_more ops i operation l ∙ ap (λ x. x ∷ drop (i + 1) ops) (sym is))
 
--- one operation more
+-- one more operation
 pub plays_more : (before : Values) (ops : List Op) (i : ℕ) (operation : Op) (mid after : Values) → i < length ops → operation ≡ get_or ops i operation
     → play before (take i ops) ≡ Some mid → play_one mid operation ≡ Some after → play before (take (i + 1) ops) ≡ Some after
 plays_more before ops i operation mid after l is so_far one =
     let parts : take (i + 1) ops ≡ take i ops ++ operation ∷ [] = take_more ops i operation l ∙ ap (λ x. take i ops ++ x ∷ []) (sym is) in
     ap (play before) parts ∙ play-append before (take i ops) (operation ∷ []) ∙ ap (option_and_then (λ n. play n (operation ∷ []))) so_far ∙ ap (option_and_then (λ n. play n [])) one
 
--- the operation that stops
+-- the operation that can't be played
 pub plays_stop : (before : Values) (ops : List Op) (i : ℕ) (operation : Op) (mid after : Values) (fault : PlayFault) → i < length ops → operation ≡ get_or ops i operation
     → play before (take i ops) ≡ Some mid → after ≡ mid → PlaysOne mid (i + 1) operation after (Err fault) → Plays before ops after (Err fault)
 plays_stop before ops i operation mid after (faults.Differs place kept read) l is so_far same one = (

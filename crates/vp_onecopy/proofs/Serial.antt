@@ -18,14 +18,14 @@ use Rattle.vp_model.proofs.PlayedInParts.{play-append, serial-append}
 split_at : (list : List Commit) (i : ℕ) (commit : Commit) → i < length list → commit ≡ get_or list i commit → list ≡ take i list ++ commit ∷ drop (i + 1) list
 split_at list i commit l is = sym (take-append-drop i list) ∙ ap (λ x. take i list ++ x) (drop_more list i commit l ∙ ap (λ x. x ∷ drop (i + 1) list) (sym is))
 
--- one transaction more
+-- one more transaction
 pub serial_more : (start : Values) (list : List Commit) (i : ℕ) (commit : Commit) (mid after : Values) → i < length list → commit ≡ get_or list i commit
     → serial start (take i list) ≡ Some mid → play mid commit.ops ≡ Some after → serial start (take (i + 1) list) ≡ Some after
 serial_more start list i commit mid after l is so_far one =
     let parts : take (i + 1) list ≡ take i list ++ commit ∷ [] = take_more list i commit l ∙ ap (λ x. take i list ++ x ∷ []) (sym is) in
     ap (serial start) parts ∙ serial-append start (take i list) (commit ∷ []) ∙ ap (option_and_then (λ n. serial n (commit ∷ []))) so_far ∙ ap (option_and_then (λ n. serial n [])) one
 
--- a list with a read of another value does not play
+-- a list with a read of another value can't be played
 
 fails : (m : Values) (operation : Op) (rec : ℕ) (kept read : List ℕ) → Misreads m operation rec kept read → play_one m operation ≡ None
 fails m operation rec kept read h =
@@ -67,7 +67,7 @@ record_there before ops after place rec kept read h x is =
     let same : x ≡ h.operation = is ∙ ap (λ n. get_or ops n x) here ∙ ap (λ (l : List Op). get_or l (length h.front) x) h.reached.parts ∙ at_length h.front h.operation h.back x in
     sym (ap op_record (same ∙ h.misread.is))
 
--- a transaction that stops
+-- a transaction that can't be played
 pub decided : (start : Values) (list : List Commit) (i : ℕ) (commit : Commit) (mid after : Values) (fault : PlayFault) (result : Result Verdict NoMemory) → i < length list → commit ≡ get_or list i commit
     → serial start (take i list) ≡ Some mid → Plays mid commit.ops after (Err fault) → IfOk result (Tells commit fault) → IfOk result (Decides start list)
 decided start list i commit mid after fault (Err e) l is so_far h told = tt

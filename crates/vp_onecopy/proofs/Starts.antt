@@ -1,4 +1,4 @@
--- The start lines: they end with the names or the values, and stand there one behind the other.
+-- The start lines: they end with the names or the values, and come one after the other.
 use Rattle.std.proofs.Common.{◌≡◌, ◌⊎◌, inl, inr, ℕ, List, [], ◌∷◌, length, refl, arith}
 use Rattle.vp_model.specs.Texts.History.{starts_text}
 

@@ -31,7 +31,7 @@ all_said = reached empty after Allowed Onward
 abbrev pub Lines : List HistoryLine → List ℕ → Type 0
 Lines = LinesText empty after Allowed Onward
 
--- where the reading stands
+-- the place that the reading has reached
 abbrev pub Stands : List ℕ → List ℕ → History → ℕ → Type 0
 Stands = SoFar empty after Allowed Onward reads
 
@@ -139,7 +139,7 @@ stands_long text rest new h line small s read some =
       first = refl;
     }
 
--- ---- what the loop answers
+-- ---- the results of the loop
 
 pub answered_next : (text rest new : List ℕ) (h : History) (line : ℕ) (e : HistoryFault) → length text < 2 ^ 63 → Stands text rest h line → NextLine h line rest new (Err e) → Answered text (Err e)
 answered_next text rest new h line (faults.BadLine l at) small s n =

@@ -1,4 +1,4 @@
--- The histories that have a text are the whole ones.
+-- The histories that have a text are exactly the whole ones.
 use Rattle.std.proofs.Common.{◌≡◌, ◌≢◌, ℕ, true, false, zero, suc, ◌≤◌, ◌<◌, List, [], ◌∷◌, ◌++◌, length, get_or, refl, sym, ap, subst, ◌∙◌, arith, append_assoc, inl}
 use Rattle.std.specs.Prelude.{codes, Result, Ok, Err, IfOk, All, AllPairs}
 use Rattle.std.specs.Fmt.{decimal}
@@ -60,7 +60,7 @@ unnamed names name h none k d lt same = none (k, subst (IsPlace names k) (get_or
 fresh : (names : List (List ℕ)) (name : List ℕ) (more : List (List ℕ)) → AllPairs Apart (names ++ name ∷ more) → IsNamed names name → ⊥
 fresh names name more h named = pairs_before Apart names name more h named.0 [] (place_below names named.0 name named.1) (sym (place_is names named.0 name named.1))
 
--- ---- views that don't fall
+-- ---- views that never fall
 
 abbrev Rises : Commit → Commit → Type 0
 Rises a b = view_before b.view a.view ≡ false
@@ -195,7 +195,7 @@ starts_added ns vs (name ∷ names) (value ∷ values) same few named valued apa
     (All-tail (λ (value : List ℕ). IsValue value value) value values valued) (subst (AllPairs Apart) (sym together) apart) one in
     subst (λ (x : List (List ℕ)). Spelled (listed x (vs ++ value ∷ values) [])) together (subst (λ (x : List (List ℕ)). Spelled (listed ((ns ++ name ∷ []) ++ names) x [])) (append_assoc vs (value ∷ []) values) rest)
 
--- there is a name where an operation is on one
+-- there is a name wherever an operation is on one
 some_from : (names : List (List ℕ)) (i : ℕ) → i < length names → some_names names ≡ true
 some_from [] i lt = absurd (omega (arith, lt))
 some_from (name ∷ names) i lt = refl
@@ -238,7 +238,7 @@ whole_spelled h w =
     let starts = starts_added [] [] h.names h.start w.values w.few w.named w.starting w.apart nothing in
     commits_added h.names h.start [] h.commits w.apart w.entries (subst (λ (n : ℕ). CommitsWithin n h.commits) w.values w.places) w.ascending starts
 
--- the text of such a history, behind the line `history`
+-- the text of such a history, after the line `history`
 record ReadBack (h : History) : Type 0 where
   rest : List ℕ
   lines_are : history_lines h.names h.start h.commits ≡ history_line ++ rest

@@ -29,7 +29,7 @@ after h (kind.Start name value) = record { names = h.names ++ name ∷ []; start
 after h (kind.Commit commit) = record { names = h.names; start = h.start; commits = h.commits ++ commit ∷ [] }
 after h kind.End = h
 
--- The line is allowed behind what the history says, and this is its text.
+-- The line may follow what the history says, and this is its text.
 abbrev pub Allowed : History → HistoryLine → List ℕ → Type 0
 Allowed h line text = LineText (before h) line text
 
@@ -37,7 +37,7 @@ Allowed h line text = LineText (before h) line text
 abbrev pub IsNamed : List (List ℕ) → List ℕ → Type 0
 IsNamed names name = (i : ℕ) × IsPlace names i name
 
--- A line may follow: this is no end line, and no start line of a name that has one.
+-- Another line may follow: this is not the end line, and not a start line of a name that has one.
 abbrev pub Onward : History → HistoryLine → Type 0
 Onward h (kind.Start name value) = IsNamed h.names name → ⊥
 Onward h (kind.Commit commit) = ⊤
@@ -49,7 +49,7 @@ NamesAgain h (kind.Start name value) = IsNamed h.names name
 NamesAgain h (kind.Commit commit) = ⊥
 NamesAgain h kind.End = ⊥
 
--- The lines behind the line `history`, and then the end line.
+-- The lines after the line `history`, and then the end line.
 pub record IsHistory (h : History) (text : List ℕ) : Type 0 where
   pub lines : List HistoryLine
   pub front : List ℕ
@@ -59,7 +59,7 @@ pub record IsHistory (h : History) (text : List ℕ) : Type 0 where
   pub last_is : Allowed h kind.End last
   pub parts : text ≡ front ++ last
 
--- Behind the end line there is more.
+-- More follows the end line.
 pub record IsTooLong (text : List ℕ) (line at : ℕ) : Type 0 where
   pub lines : List HistoryLine
   pub front : List ℕ
@@ -72,7 +72,7 @@ pub record IsTooLong (text : List ℕ) (line at : ℕ) : Type 0 where
   pub number : length lines + 2 ≡ line
   pub first : at ≡ 1
 
--- what is answered of the lines behind the line `history`
+-- what is returned for the lines after the line `history`
 abbrev pub Answered : List ℕ → Result History HistoryFault → Type 0
 Answered text (Ok h) = IsHistory h text
 Answered text (Err (faults.BadLine line at)) = IsBadLine empty after Allowed Onward text line at ⊎ IsTooLong text line at
@@ -81,14 +81,14 @@ Answered text (Err faults.NoMemory) = ⊤
 
 -- ---- the steps of the reader
 
--- the next line was read, or this is its place in the text
+-- the next line was read, or its fault is at this place in the text
 abbrev pub NextLine : History → ℕ → List ℕ → List ℕ → Result HistoryLine HistoryFault → Type 0
 NextLine h number old new (Ok line) = line_at (before h) old ≡ Ok (line, new)
 NextLine h number old new (Err (faults.BadLine line at)) = (line ≡ number) × (left : ℕ) × (line_at (before h) old ≡ Err left) × (at ≡ length old - left + 1)
 NextLine h number old new (Err (faults.Twice line)) = ⊥
 NextLine h number old new (Err faults.NoMemory) = ⊤
 
--- the line was added, or it is the end line, or it names a name again
+-- the line was added, or it is the end line, or it repeats a name
 abbrev pub Adds : History → HistoryLine → ℕ → History → Result Bool HistoryFault → Type 0
 Adds old line number new (Ok true) = (new ≡ after old line) × Onward old line
 Adds old line number new (Ok false) = (new ≡ old) × (line ≡ kind.End)

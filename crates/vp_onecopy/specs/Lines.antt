@@ -1,4 +1,4 @@
--- The lines of a history, each allowed after the lines before it.
+-- The lines of a history, each allowed by the lines before it.
 use Rattle.std.specs.Prelude.{◌≡◌, ℕ, List, [], ◌∷◌, ◌++◌, length, Bool, true, false, codes, ◌&&◌, ◌==◌, nat_lt}
 use Rattle.std.specs.Fmt.{decimal}
 use Rattle.std.specs.List.{AllByRecursion}
@@ -10,7 +10,7 @@ use Rattle.vp_model.specs.Types.op
 use Rattle.vp_onecopy.specs.declared.line.HistoryLine.{HistoryLine}
 use Rattle.vp_onecopy.specs.declared.line.HistoryLine.TheVariants as kind
 
--- what the lines before said: the names of the start lines, the view of the last commit line, the count of commit lines
+-- what the lines before say: the names of the start lines, the view of the last commit line, and the number of commit lines
 pub record Before : Type 0 where
   pub names : List (List ℕ)
   pub last : ViewId
@@ -33,7 +33,7 @@ some_names (name ∷ names) = true
 abbrev pub OpsText : List (List ℕ) → List Op → List ℕ → Type 0
 OpsText names = HasItems (λ (u : Unit {0}). some_names names) (λ u op. u) (λ u. OpText names) (10 ∷ []) tt
 
--- Start lines stand before the commit lines, and there are at most 256.
+-- Start lines come before the commit lines, and there are at most 256.
 abbrev pub may_start : Before → Bool
 may_start before = (before.commits == 0) && nat_lt (length before.names) 256
 
@@ -52,7 +52,7 @@ pub record CommitText (before : Before) (commit : Commit) (text : List ℕ) : Ty
   pub ops_are : OpsText before.names commit.ops ops
   pub parts : text ≡ codes "commit " ++ (txn ++ 32 ∷ (view ++ ops))
 
--- The line is allowed after the lines before it, and this is its text.
+-- The lines before it allow the line, and this is its text.
 abbrev pub LineText : Before → HistoryLine → List ℕ → Type 0
 LineText before (kind.Start name value) text = StartText before name value text
 LineText before (kind.Commit commit) text = CommitText before commit text

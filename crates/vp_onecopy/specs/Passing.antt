@@ -11,48 +11,48 @@ use Rattle.vp_onecopy.specs.History.{empty, after, Allowed, Onward, NamesAgain, 
 abbrev pub history_line : List ℕ
 history_line = codes "history\n"
 
--- so many lines, none of which is the line `history`
+-- that many lines, none of which is the line `history`
 abbrev pub Passed : ℕ → List ℕ → Type 0
 Passed zero text = text ≡ []
 Passed (suc n) text = (front : List ℕ) × (line : List ℕ) × Passed n front × IsLine line × (line ≡ history_line → ⊥) × (text ≡ front ++ line)
 
--- The first line `history` stands behind so many lines; or there is none, and behind so many lines stands none that ends.
+-- The first line `history` comes after that many lines; or there is none, and only that many lines end with a newline.
 abbrev pub Passes : List ℕ → List ℕ → Result ℕ ℕ → Type 0
 Passes old new (Ok n) = (front : List ℕ) × Passed n front × (old ≡ front ++ (history_line ++ new))
 Passes old new (Err n) = (front : List ℕ) × Passed n front × (old ≡ front ++ new) × HasNoNewline new
 
--- What is answered where the rest stands behind so many passed lines and the line `history`: its lines are counted on.
+-- What is returned where the rest comes after that many lines and the line `history`: its lines are counted on from there.
 abbrev pub Behind : ℕ → List ℕ → Result History HistoryFault → Type 0
 Behind n rest (Ok h) = IsHistory h rest
 Behind n rest (Err (faults.BadLine line at)) = (l : ℕ) × (line ≡ n + 1 + l) × (IsBadLine empty after Allowed Onward rest l at ⊎ IsTooLong rest l at)
 Behind n rest (Err (faults.Twice line)) = (l : ℕ) × (line ≡ n + 1 + l) × IsFaultyLine empty after Allowed Onward NamesAgain rest l
 Behind n rest (Err faults.NoMemory) = ⊤
 
--- Where no line is `history`, the place is behind the last byte.
+-- Where no line is `history`, the fault is after the last byte.
 abbrev pub IsMissing : ℕ → List ℕ → Result History HistoryFault → Type 0
 IsMissing n rest (Ok h) = ⊥
 IsMissing n rest (Err (faults.BadLine line at)) = (line ≡ n + 1) × (at ≡ length rest + 1) × HasNoNewline rest
 IsMissing n rest (Err (faults.Twice line)) = ⊥
 IsMissing n rest (Err faults.NoMemory) = ⊥
 
--- What is answered of the whole text: it has so many lines before the first line `history`, or has no such line.
+-- What is returned for the whole text: it has that many lines before the first line `history`, or has no such line.
 abbrev pub AnsweredAll : List ℕ → Result History HistoryFault → Type 0
 AnsweredAll text result = (n : ℕ) × (front : List ℕ) × (rest : List ℕ) × Passed n front
     × (((text ≡ front ++ (history_line ++ rest)) × Behind n rest result) ⊎ ((text ≡ front ++ rest) × IsMissing n rest result))
 
--- Nothing else can be answered of the text, but for want of memory.
+-- Only one result is possible for a text, apart from want of memory.
 abbrev pub IsOnly : List ℕ → Result History HistoryFault → Type 0
 IsOnly text result =
     (other : Result History HistoryFault) → AnsweredAll text other → result ≢ Err faults.NoMemory → other ≢ Err faults.NoMemory → other ≡ result
 
--- Behind lines that are not the line `history` the text is that of the history, and it ends with it.
+-- After lines other than the line `history`, the text is that of the history, and ends with it.
 abbrev pub IsPrintedIn : List ℕ → History → Type 0
 IsPrintedIn text h = (n : ℕ) × (front : List ℕ) × Passed n front × (text ≡ front ++ history_lines h.names h.start h.commits)
 
--- Where memory is found, such a text of a whole history is read as this history.
+-- Where memory suffices, such a text of a whole history is read as this history.
 abbrev pub IsTaken : List ℕ → Result History HistoryFault → Type 0
 IsTaken text result = (h : History) → IsWhole h → IsPrintedIn text h → result ≢ Err faults.NoMemory → result ≡ Ok h
 
--- The text that is printed of the history is that of this very history.
+-- The text that is printed of the history is the text of exactly this history.
 abbrev pub IsReadBack : History → Type 0
 IsReadBack h = AnsweredAll (history_lines h.names h.start h.commits) (Ok h)

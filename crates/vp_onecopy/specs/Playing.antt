@@ -1,4 +1,4 @@
--- What comes of playing operations on the one copy.
+-- What playing operations on the one copy gives.
 use Rattle.std.specs.Prelude.{◌≡◌, ◌≢◌, ℕ, ◌+◌, ◌<◌, ⊤, List, ◌∷◌, ◌++◌, length, slice_get, Some, Result, Ok, Err}
 use Rattle.std.specs.List.{All}
 use Rattle.vp_model.specs.Types.{Op, Commit}
@@ -12,7 +12,7 @@ abbrev pub op_record : Op → ℕ
 op_record (op.Read rec value) = rec
 op_record (op.Write rec value) = rec
 
--- each operation is on one of so many records
+-- each operation is on one of that many records
 abbrev pub OpsWithin : ℕ → List Op → Type 0
 OpsWithin count ops = All (λ operation. op_record operation < count) ops
 
@@ -25,7 +25,7 @@ pub record Misreads (copy : Values) (operation : Op) (rec : ℕ) (kept read : Li
   pub stands : slice_get copy rec ≡ Some kept
   pub differs : kept ≢ read
 
--- the operations before it play and leave this copy
+-- the operations before it can be played and leave this copy
 pub record PlaysUpTo (before : Values) (ops front back : List Op) (after : Values) : Type 0 where
   pub parts : ops ≡ front ++ back
   pub played : play before front ≡ Some after
@@ -39,19 +39,19 @@ pub record IsFirstMisread (before : Values) (ops : List Op) (after : Values) (pl
   pub place_is : place ≡ length front + 1
   pub misread : Misreads after operation rec kept read
 
--- Some of the operations play, from the first on, and leave this copy.
+-- The first ones of the operations can be played, and leave this copy.
 pub record IsStopped (before : Values) (ops : List Op) (after : Values) : Type 0 where
   pub front : List Op
   pub back : List Op
   pub reached : PlaysUpTo before ops front back after
 
--- what is answered, and the copy that is left
+-- the result, and the copy that is left
 abbrev pub Plays : Values → List Op → Values → Result ⊤ PlayFault → Type 0
 Plays before ops after (Ok done) = play before ops ≡ Some after
 Plays before ops after (Err (faults.Differs place kept read)) = (rec : ℕ) × IsFirstMisread before ops after place rec kept read
 Plays before ops after (Err faults.NoMemory) = IsStopped before ops after
 
--- the same of one operation, which stands at this place
+-- the same for one operation, which is at this place
 abbrev pub PlaysOne : Values → ℕ → Op → Values → Result ⊤ PlayFault → Type 0
 PlaysOne before place operation after (Ok done) = play_one before operation ≡ Some after
 PlaysOne before place operation after (Err (faults.Differs op kept read)) = (op ≡ place) × (rec : ℕ) × Misreads after operation rec kept read

@@ -1,4 +1,4 @@
-//! The check that transactions ran one after the other on one copy.
+//! The check whether a list of transactions is a serial run on one copy.
 
 ghost use Rattle.std.specs.Prelude.{◌≡◌, length, IfOk};
 ghost use Rattle.vp_onecopy.specs.Playing.{op_record, CommitsWithin};
@@ -8,14 +8,14 @@ use crate::map::Map;
 use crate::playing::{PlayFault, play};
 use vp_base::{Commit, CopyOf, NoMemory, Op, RecId, TxnId, Value};
 
-/// Whether the transactions ran one after the other on one copy.
+/// Whether the list is a serial run on one copy. (One-copy serializability: Bernstein, Hadzilacos and Goodman 1987, chapter 8.)
 #[derive(Drop)]
 pub enum Verdict {
-    /// They did, and left this copy.
+    /// It is, and leaves this copy.
     Serial {
         map: Map,
     },
-    /// This operation of the transaction, counted from 1, is the first read of another value than the copy has.
+    /// It isn't: this operation of the transaction, counted from 1, is the first read of a value that the copy doesn't have.
     Differs {
         txn: TxnId,
         op: usize,
@@ -25,7 +25,7 @@ pub enum Verdict {
     },
 }
 
-/// Plays the transactions one after the other on a copy of the start.
+/// Plays the transactions one after the other on a copy of `start`.
 pub fn check(start: &Map, list: &[Commit]) -> Result<Verdict, NoMemory>
     requires { CommitsWithin (length start.now) list.now }
     ensures { IfOk result (Decides start.now list.now) }
@@ -40,7 +40,7 @@ pub fn check(start: &Map, list: &[Commit]) -> Result<Verdict, NoMemory>
     Ok(Verdict::Serial { map })
 }
 
-/// What a fault in playing the transaction tells of the list.
+/// What a fault in playing this transaction says of the list.
 fn tell(commit: &Commit, fault: PlayFault) -> Result<Verdict, NoMemory>
     requires { IsWithin commit.now.ops fault }
     ensures { IfOk result (Tells commit.now fault) }

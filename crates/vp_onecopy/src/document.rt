@@ -13,12 +13,12 @@ use crate::fault::HistoryFault;
 use crate::line::HistoryLine;
 use crate::map::History;
 use crate::passing::pass_over;
-use crate::reading::take_line;
+use crate::reading::parse_line;
 use std::alloc::Global;
 use vp_base::{Commit, LineFault, ViewId, place};
 use vp_text::Cursor;
 
-/// The view of the last of the commits; the opening view where there is none.
+/// The view of the last commit; the opening view where there is none.
 fn last_view(commits: &[Commit]) -> ViewId
     ensures { result ≡ last_from opening commits.now }
 {
@@ -28,7 +28,7 @@ fn last_view(commits: &[Commit]) -> ViewId
     }
 }
 
-/// The next line, which is allowed behind what the history says so far.
+/// Reads the next line, which the lines before it allow.
 fn next_line(
     alloc: Global,
     cursor: &mut Cursor,
@@ -44,7 +44,7 @@ fn next_line(
     let here = cursor.left();
     let commits = history.commits.as_slice();
     let last = last_view(commits);
-    match take_line(
+    match parse_line(
         alloc,
         cursor,
         history.names.as_slice(),
@@ -60,7 +60,7 @@ fn next_line(
     }
 }
 
-/// Adds what a line says, where it isn't the end line.
+/// Adds what a line says, unless it is the end line. Returns whether it is.
 fn add(history: &mut History, line: HistoryLine, number: usize) -> Result<bool, HistoryFault>
     ensures { Adds history.old line number history.new result }
 {
@@ -81,7 +81,7 @@ fn add(history: &mut History, line: HistoryLine, number: usize) -> Result<bool, 
     }
 }
 
-/// Behind the end line the input ends.
+/// Checks that nothing follows the end line.
 fn finish(history: History, cursor: &Cursor, line: usize) -> Result<History, HistoryFault>
     requires { line + 1 < 2 ^ 64 }
     ensures { Finishes history line cursor.now result }
@@ -95,7 +95,7 @@ fn finish(history: History, cursor: &Cursor, line: usize) -> Result<History, His
     Ok(history)
 }
 
-/// The history that the lines behind the line `history` spell, counted from 1.
+/// Reads a history from its lines after the line `history`, which are counted from 1.
 fn read_lines(alloc: Global, text: &[u8]) -> Result<History, HistoryFault>
     requires { length text.now < 2 ^ 63 }
     ensures { Answered text.now result }
@@ -112,7 +112,7 @@ fn read_lines(alloc: Global, text: &[u8]) -> Result<History, HistoryFault>
     }
 }
 
-/// The same, where so many lines and the line `history` stand before.
+/// Reads a history from its lines, where `passed` lines and the line `history` came before.
 fn read_behind(alloc: Global, rest: &[u8], passed: usize) -> Result<History, HistoryFault>
     requires { passed + length rest.now < 2 ^ 63 }
     ensures { Behind passed rest.now result }
@@ -130,7 +130,7 @@ fn read_behind(alloc: Global, rest: &[u8], passed: usize) -> Result<History, His
     }
 }
 
-/// The history that the text spells, behind the lines before the first line `history`.
+/// Reads the history in the text, which begins at the first line `history`; the lines before that are passed over.
 pub fn read_history(alloc: Global, text: &[u8]) -> Result<History, HistoryFault>
     ensures answer { AnsweredAll text.now result }
     ensures only { IsOnly text.now result }

@@ -1,14 +1,15 @@
-//! Why a history could not be read.
+//! Why a history can't be read.
 
 use vp_base::NoMemory;
 
-/// Why a history could not be read. Lines and places are counted from 1.
+/// Why a history can't be read. Lines, and bytes within a line, are counted from 1.
 #[derive(Clone, Copy, Debug, Drop, PartialEq, Eq)]
 pub enum HistoryFault {
-    /// No allowed line stands there: it goes wrong at this byte.
+    /// The line is not an allowed one: it goes wrong at the byte `at`.
     BadLine { line: usize, at: usize },
-    /// The start line names a record that has one.
+    /// The start line names a record that an earlier start line names.
     Twice { line: usize },
+    /// Memory is lacking; nothing is known of the text.
     NoMemory,
 }
 

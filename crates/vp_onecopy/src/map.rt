@@ -22,7 +22,7 @@ impl Model for Map {
 }
 
 impl Map {
-    /// No values, which take no memory.
+    /// Makes a copy without records. Takes no memory.
     pub fn new(alloc: Global) -> Map
         ensures { result ≡ [] }
     {
@@ -31,7 +31,7 @@ impl Map {
         }
     }
 
-    /// Adds the value of the next record. Without memory the map stays as it is.
+    /// Adds the value of the next record. Where memory is lacking, the map stays as it is.
     pub fn push(&mut self, value: Value) -> Result<(), NoMemory>
         ensures ok { OnOk result (self.new ≡ self.old ++ value ∷ []) }
         ensures err { OnErr result (self.new ≡ self.old) }
@@ -40,12 +40,14 @@ impl Map {
         Ok(())
     }
 
+    /// Makes a copy of these values, in catalogue order.
     pub fn from_vec(values: Vec<Value>) -> Map
         ensures { result ≡ values.items }
     {
         Map { values }
     }
 
+    /// The values, in catalogue order.
     pub fn as_slice(&self) -> &[Value]
         ensures { result.now ≡ self.now }
     {
@@ -71,7 +73,7 @@ impl CopyOf for Map {
     }
 }
 
-/// The starting value of each record, and the transactions that committed, in order.
+/// The starting value of each record, and the committed transactions, in order.
 #[derive(Drop)]
 pub struct History {
     pub names: Names,
@@ -80,7 +82,7 @@ pub struct History {
 }
 
 impl History {
-    /// A history of nothing, which takes no memory.
+    /// Makes a history without records and transactions. Takes no memory.
     pub fn new(alloc: Global) -> History
         ensures { result ≡ empty }
     {

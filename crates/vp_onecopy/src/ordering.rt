@@ -1,4 +1,4 @@
-//! The order of the transactions that committed.
+//! The order of committed transactions.
 
 ghost use Rattle.std.specs.Prelude.{◌≡◌, IfOk};
 ghost use Rattle.vp_model.specs.OneCopy.{order};
@@ -6,7 +6,7 @@ ghost use Rattle.vp_model.specs.OneCopy.{order};
 use std::alloc::Global;
 use vp_base::{Commit, Commits, CopyOf, NoMemory, Seq};
 
-/// The transactions by ascending view, and within a view as in the journal.
+/// Sorts copies of the transactions by view; those of one view stay in the order of the journal.
 pub fn order(alloc: Global, journal: &[Commit]) -> Result<Commits, NoMemory>
     ensures { IfOk result (λ commits. commits ≡ order journal.now) }
 {

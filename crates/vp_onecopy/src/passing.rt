@@ -6,7 +6,7 @@ ghost use Rattle.vp_onecopy.specs.Passing.{Passes};
 
 use vp_text::Cursor;
 
-/// The length of the first line, its newline included, or None where no newline comes.
+/// The length of the first line, its newline included, or `None` where there is no newline.
 fn line_size(bytes: &[u8]) -> Option<usize>
     ensures { MatchOption result (HasNoNewline bytes.now) (λ n. (0 < n) × (n ≤ length bytes.now) × IsLine (take n bytes.now)) }
 {
@@ -18,8 +18,8 @@ fn line_size(bytes: &[u8]) -> Option<usize>
     None
 }
 
-/// Passes over the lines up to the first line `history`, that included, and counts those before it. Where there is no such
-/// line the error has the count of all lines that end.
+/// Passes over the lines up to the first line `history`, it included, and returns how many lines came before it. Where there is no
+/// such line, the error is the number of all lines that end with a newline.
 pub fn pass_over(cursor: &mut Cursor) -> Result<usize, usize>
     requires { length cursor.old < 2 ^ 63 }
     ensures passes { Passes cursor.old cursor.new result }

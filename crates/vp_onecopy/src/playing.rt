@@ -1,4 +1,4 @@
-//! Operations on the one copy.
+//! Playing operations on the one copy.
 
 ghost use Rattle.std.specs.Prelude.{◌≡◌, ◌<◌, length, OnErr};
 ghost use Rattle.vp_onecopy.specs.Playing.{op_record, OpsWithin, PlaysOne, Plays};
@@ -6,11 +6,12 @@ ghost use Rattle.vp_onecopy.specs.Playing.{op_record, OpsWithin, PlaysOne, Plays
 use crate::map::Map;
 use vp_base::{CopyOf, NoMemory, Op, Ops, Value};
 
-/// Why the operations do not play, or not all of them.
+/// Why the operations couldn't all be played.
 #[derive(Drop)]
 pub enum PlayFault {
-    /// The operation at this place, counted from 1, read another value than the copy has.
+    /// The operation at the place `op`, counted from 1, read the value `read`, but the copy has `kept`.
     Differs { op: usize, kept: Value, read: Value },
+    /// Memory is lacking.
     NoMemory,
 }
 
@@ -24,7 +25,7 @@ impl From<NoMemory> for PlayFault {
     }
 }
 
-/// Plays the operations in order. After a fault the copy stands behind the operations that were played.
+/// Plays the operations in order. After an error the copy is as the operations before it left it.
 pub fn play(map: &mut Map, ops: &Ops) -> Result<(), PlayFault>
     requires { OpsWithin (length map.old) ops.now }
     ensures plays { Plays map.old ops.now map.new result }
@@ -36,7 +37,7 @@ pub fn play(map: &mut Map, ops: &Ops) -> Result<(), PlayFault>
     Ok(())
 }
 
-/// Plays the operation at this place.
+/// Plays one operation, which is at this place.
 fn play_one(map: &mut Map, place: usize, operation: &Op) -> Result<(), PlayFault>
     requires { op_record operation.now < length map.old }
     ensures plays { PlaysOne map.old place operation.now map.new result }

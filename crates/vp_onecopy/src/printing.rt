@@ -1,4 +1,4 @@
-//! The text of a history.
+//! Printing a history.
 
 ghost use Rattle.std.specs.Prelude.{◌++◌, ◌∷◌, codes, flat_map, slice_index_or, []};
 ghost use Rattle.std.specs.Fmt.{decimal};
@@ -33,7 +33,7 @@ fn print_starts(names: &[Name], values: &[Value], out: &mut Vec<u8>) -> Result<(
     Ok(())
 }
 
-/// Appends the name of a record, and nothing where there is no name at its place.
+/// Appends the name of a record; nothing where there is no name at its place.
 #[tactic(auto, using(vp_text::proofs::Printing::printing))]
 pub fn print_name(names: &[Name], rec: RecId, out: &mut Vec<u8>) -> Result<(), NoMemory>
     ensures { Appends result out.old.items (slice_index_or names.now rec []) out.new.items }
@@ -114,7 +114,7 @@ fn print_end(commits: u64, out: &mut Vec<u8>) -> Result<(), NoMemory>
     Ok(())
 }
 
-/// Appends the line `history` and the lines of the history. Without memory only a beginning of them may stand there.
+/// Appends the line `history` and the lines of the history. After an error a beginning of them may have been appended.
 #[tactic(auto, using(crate::proofs::Whole::read_back, vp_text::proofs::Printing::printing))]
 pub fn print_history(history: &History, out: &mut Vec<u8>) -> Result<(), NoMemory>
     ensures read_back { IsWhole history.now → IsReadBack history.now }

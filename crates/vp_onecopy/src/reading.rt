@@ -11,53 +11,53 @@ ghost use Rattle.vp_onecopy.specs.declared.line.HistoryLine.TheVariants as kind;
 use crate::line::HistoryLine;
 use std::alloc::Global;
 use vp_base::{
-    Commit, LineFault, MOST_RECORDS, Name, Op, Ops, RecId, TxnId, Value, ViewId, take_place,
+    Commit, LineFault, MOST_RECORDS, Name, Op, Ops, RecId, TxnId, Value, ViewId, parse_place,
 };
 use vp_text::{Cursor, Unexpected};
 
-/// The record whose name stands next.
-fn take_record(cursor: &mut Cursor, names: &[Name]) -> Result<RecId, Unexpected>
+/// Reads the name of a record, and gives its place.
+fn parse_record(cursor: &mut Cursor, names: &[Name]) -> Result<RecId, Unexpected>
     requires { length names.now ≤ 256 }
     ensures { Reads (λ rec. rec) (λ e. e.left) result cursor.new (among_at names.now cursor.old) }
 {
-    let place = take_place(cursor, names)?;
+    let place = parse_place(cursor, names)?;
     Ok(RecId::new(place as u8))
 }
 
 #[tactic(auto, unfolding(crate::specs::Reading::read_at))]
-fn take_read(alloc: Global, cursor: &mut Cursor, names: &[Name]) -> Result<Op, LineFault>
+fn parse_read(alloc: Global, cursor: &mut Cursor, names: &[Name]) -> Result<Op, LineFault>
     requires { length names.now ≤ 256 }
     ensures { Tries (λ op. op) line_left result cursor.new (read_at names.now cursor.old) }
 {
     cursor.literal(b" r ")?;
-    let rec = take_record(cursor, names)?;
+    let rec = parse_record(cursor, names)?;
     cursor.literal(b" ")?;
-    let value = Value::take(alloc, cursor)?;
+    let value = Value::parse(alloc, cursor)?;
     Ok(Op::Read { rec, value })
 }
 
 #[tactic(auto, unfolding(crate::specs::Reading::write_at))]
-fn take_write(alloc: Global, cursor: &mut Cursor, names: &[Name]) -> Result<Op, LineFault>
+fn parse_write(alloc: Global, cursor: &mut Cursor, names: &[Name]) -> Result<Op, LineFault>
     requires { length names.now ≤ 256 }
     ensures { Tries (λ op. op) line_left result cursor.new (write_at names.now cursor.old) }
 {
     cursor.literal(b" w ")?;
-    let rec = take_record(cursor, names)?;
+    let rec = parse_record(cursor, names)?;
     cursor.literal(b" ")?;
-    let value = Value::take(alloc, cursor)?;
+    let value = Value::parse(alloc, cursor)?;
     Ok(Op::Write { rec, value })
 }
 
 #[tactic(auto, unfolding(crate::specs::Reading::op_at))]
-fn take_op(alloc: Global, cursor: &mut Cursor, names: &[Name]) -> Result<Op, LineFault>
+fn parse_op(alloc: Global, cursor: &mut Cursor, names: &[Name]) -> Result<Op, LineFault>
     requires { length names.now ≤ 256 }
     ensures { Tries (λ op. op) line_left result cursor.new (op_at names.now cursor.old) }
 {
     let mut other = cursor.fork();
-    match take_read(alloc, cursor, names) {
+    match parse_read(alloc, cursor, names) {
         Ok(op) => Ok(op),
         Err(LineFault::NoMemory) => Err(LineFault::NoMemory),
-        Err(LineFault::Unexpected(first)) => match take_write(alloc, &mut other, names) {
+        Err(LineFault::Unexpected(first)) => match parse_write(alloc, &mut other, names) {
             Ok(op) => {
                 *cursor = other;
                 Ok(op)
@@ -68,9 +68,9 @@ fn take_op(alloc: Global, cursor: &mut Cursor, names: &[Name]) -> Result<Op, Lin
     }
 }
 
-/// The next operation, or None for the end of the line.
+/// Reads the next operation, or the end of the line, which is `None`.
 #[tactic(auto, unfolding(vp_text::specs::Reading::next_at))]
-fn take_next(alloc: Global, cursor: &mut Cursor, names: &[Name]) -> Result<Option<Op>, LineFault>
+fn parse_next(alloc: Global, cursor: &mut Cursor, names: &[Name]) -> Result<Option<Op>, LineFault>
     requires { length names.now ≤ 256 }
     ensures { Tries (λ op. op) line_left result cursor.new (next_at (some_names names.now) (op_at names.now) (10 ∷ []) cursor.old) }
 {
@@ -78,7 +78,7 @@ fn take_next(alloc: Global, cursor: &mut Cursor, names: &[Name]) -> Result<Optio
     match cursor.literal(b"\n") {
         Ok(()) => Ok(None),
         Err(first) if names.is_empty() => Err(LineFault::Unexpected(first)),
-        Err(first) => match take_op(alloc, &mut other, names) {
+        Err(first) => match parse_op(alloc, &mut other, names) {
             Ok(op) => {
                 *cursor = other;
                 Ok(Some(op))
@@ -89,33 +89,33 @@ fn take_next(alloc: Global, cursor: &mut Cursor, names: &[Name]) -> Result<Optio
     }
 }
 
-/// The operations up to the end of the line.
-fn take_ops(alloc: Global, cursor: &mut Cursor, names: &[Name]) -> Result<Ops, LineFault>
+/// Reads operations up to the end of the line.
+fn parse_ops(alloc: Global, cursor: &mut Cursor, names: &[Name]) -> Result<Ops, LineFault>
     requires few { length names.now ≤ 256 }
     requires names { AllNames names.now }
     ensures { Tries (λ ops. ops) line_left result cursor.new (ops_at names.now (suc (length cursor.old)) cursor.old) }
 {
     let mut ops = Vec::new(alloc);
-    while let Some(op) = take_next(alloc, cursor, names)? {
+    while let Some(op) = parse_next(alloc, cursor, names)? {
         ops.push(op)?;
     }
     Ok(Ops::from_vec(ops))
 }
 
 #[tactic(auto, unfolding(crate::specs::Reading::start_at))]
-fn take_start(alloc: Global, cursor: &mut Cursor) -> Result<HistoryLine, LineFault>
+fn parse_start(alloc: Global, cursor: &mut Cursor) -> Result<HistoryLine, LineFault>
     ensures { Tries (λ line. line) line_left result cursor.new (start_at cursor.old) }
 {
     cursor.literal(b"start ")?;
-    let name = Name::take(alloc, cursor)?;
+    let name = Name::parse(alloc, cursor)?;
     cursor.literal(b" ")?;
-    let value = Value::take(alloc, cursor)?;
+    let value = Value::parse(alloc, cursor)?;
     cursor.literal(b"\n")?;
     Ok(HistoryLine::Start { name, value })
 }
 
 #[tactic(auto, unfolding(crate::specs::Reading::commit_at))]
-fn take_commit(
+fn parse_commit(
     alloc: Global,
     cursor: &mut Cursor,
     names: &[Name],
@@ -126,15 +126,15 @@ fn take_commit(
     ensures { Tries (λ line. line) line_left result cursor.new (commit_at names.now last cursor.old) }
 {
     cursor.literal(b"commit ")?;
-    let txn = TxnId::take(cursor)?;
+    let txn = TxnId::parse(cursor)?;
     cursor.literal(b" ")?;
-    let view = ViewId::take_from(cursor, last)?;
-    let ops = take_ops(alloc, cursor, names)?;
+    let view = ViewId::parse_from(cursor, last)?;
+    let ops = parse_ops(alloc, cursor, names)?;
     Ok(HistoryLine::Commit(Commit { txn, view, ops }))
 }
 
 #[tactic(auto, unfolding(crate::specs::Reading::ending_at))]
-fn take_end(cursor: &mut Cursor, commits: u64) -> Result<(), Unexpected>
+fn parse_end(cursor: &mut Cursor, commits: u64) -> Result<(), Unexpected>
     ensures { Reads (λ u. kind.End) (λ e. e.left) result cursor.new (ending_at commits cursor.old) }
 {
     cursor.literal(b"end ")?;
@@ -142,9 +142,9 @@ fn take_end(cursor: &mut Cursor, commits: u64) -> Result<(), Unexpected>
     cursor.literal(b"\n")
 }
 
-/// A commit line or the end line.
+/// Reads a commit line or the end line.
 #[tactic(auto, unfolding(crate::specs::Reading::later_at))]
-fn take_later(
+fn parse_later(
     alloc: Global,
     cursor: &mut Cursor,
     names: &[Name],
@@ -156,10 +156,10 @@ fn take_later(
     ensures { Tries (λ line. line) line_left result cursor.new (later_at (record { names = names.now; last = last; commits = commits }) cursor.old) }
 {
     let mut other = cursor.fork();
-    match take_commit(alloc, cursor, names, last) {
+    match parse_commit(alloc, cursor, names, last) {
         Ok(line) => Ok(line),
         Err(LineFault::NoMemory) => Err(LineFault::NoMemory),
-        Err(LineFault::Unexpected(first)) => match take_end(&mut other, commits) {
+        Err(LineFault::Unexpected(first)) => match parse_end(&mut other, commits) {
             Ok(()) => {
                 *cursor = other;
                 Ok(HistoryLine::End)
@@ -169,9 +169,9 @@ fn take_later(
     }
 }
 
-/// A line that is allowed after lines with these names, the last view and so many commits.
+/// Reads a line that may follow start lines with these names and `commits` commits, the last of which has this view.
 #[tactic(auto, unfolding(crate::specs::Reading::line_at))]
-pub fn take_line(
+pub fn parse_line(
     alloc: Global,
     cursor: &mut Cursor,
     names: &[Name],
@@ -183,13 +183,13 @@ pub fn take_line(
     ensures { Tries (λ line. line) line_left result cursor.new (line_at (record { names = names.now; last = last; commits = commits }) cursor.old) }
 {
     if commits > 0 || names.len() >= MOST_RECORDS {
-        return take_later(alloc, cursor, names, last, commits);
+        return parse_later(alloc, cursor, names, last, commits);
     }
     let mut other = cursor.fork();
-    match take_start(alloc, cursor) {
+    match parse_start(alloc, cursor) {
         Ok(line) => Ok(line),
         Err(LineFault::NoMemory) => Err(LineFault::NoMemory),
-        Err(LineFault::Unexpected(first)) => match take_later(
+        Err(LineFault::Unexpected(first)) => match parse_later(
             alloc, &mut other, names, last, commits,
         ) {
             Ok(line) => {

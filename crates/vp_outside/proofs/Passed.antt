@@ -13,7 +13,7 @@ count_none n = grind (arith)
 pub count_more : (before n : ℕ) → count_after (count_after before n) 1 ≡ count_after before (n + 1)
 count_more before n = grind (arith)
 
--- the next datagrams of a list, and empty ones behind its end
+-- the next datagrams of a list, and then empty ones
 abbrev pub firsts : ℕ → List Datagram → List Datagram
 firsts zero left = []
 firsts (suc n) [] = nothing ∷ firsts n []
@@ -42,7 +42,7 @@ drop_more (suc n) (d ∷ left) = drop_more n left
 pub one_longer : (ds : List Datagram) (d : Datagram) → length (ds ++ d ∷ []) ≡ suc (length ds)
 one_longer ds d = omega (arith, length-append ds (d ∷ []))
 
--- a datagram that was given after these was given behind them
+-- a datagram that was given after these is in the list after them
 pub gave_more : (a b c : Option (List Datagram)) (ds : List Datagram) (d : Datagram) → Gave a b ds → Gave b c (d ∷ []) → Gave a c (ds ++ d ∷ [])
 gave_more None b c ds d h k = tt
 gave_more (Some left) None c ds d h k = absurd h
@@ -62,7 +62,7 @@ pub hands_none : (a b : Option (List Handed)) → b ≡ a → Hands a b []
 hands_none None b e = tt
 hands_none (Some handed) b e = rw e (sym (append-nil handed))
 
--- datagrams that were handed over, and then others
+-- some datagrams were handed over, and then others
 pub hands_then : (a b c : Option (List Handed)) (xs ys : List Handed) → Hands a b xs → Hands b c ys → Hands a c (xs ++ ys)
 hands_then None b c xs ys h k = tt
 hands_then (Some x) None c xs ys h k = absurd h

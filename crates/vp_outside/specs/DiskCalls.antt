@@ -6,7 +6,7 @@ use Rattle.vp_outside.specs.Disk.{half_of, InHalf, Gives, DiskState, log_of, Sta
 use Rattle.vp_outside.specs.declared.sink.OutFault.{OutFault}
 use Rattle.vp_outside.specs.declared.sink.OutFault.TheVariants.{NoMemory, Failed}
 
--- Each call: whether a sync is kept stays, and time goes on.
+-- Every call keeps whether syncs are kept, and time goes on.
 pub record GoesOn (old new : DiskState) : Type 0 where
   pub honest : old.honest ↔ new.honest
   pub time : (log : Option (List ℕ)) → Elapses log old new (new.may_leave log)
@@ -17,7 +17,7 @@ pub record LeavesLogs (old new : DiskState) : Type 0 where
   pub untouched : (log : Option (List ℕ)) → Untouched log old new
   pub goes_on : GoesOn old new
 
--- The log of that name is chosen.
+-- The log of that name becomes the attached one.
 pub record Attaches {T : Type 0} (name : List ℕ) (old new : DiskState) (result : Result T OutFault) : Type 0 where
   pub asked : (IsErrOf result NoMemory → ⊥) → new.asked ≡ Some name
   pub attached : OnOk result (IsTrue new.attached)
@@ -27,13 +27,13 @@ pub record Attaches {T : Type 0} (name : List ℕ) (old new : DiskState) (result
   pub goes_on : GoesOn old new
   pub cause : HasOutCause old.faults new.faults result
 
--- The length of a half is told.
+-- The result is the length of a half.
 pub record Measures {E : Type 0} (half : ℕ) (old new : DiskState) (result : Result ℕ E) : Type 0 where
   pub told : IfOk result (λ n. IfSome (log_of old) (λ log. n ≡ length (half_of half log)))
   pub leaves : LeavesLogs old new
   pub cause : HasCause old.faults new.faults result
 
--- The front of the buffer got the bytes of a half from that place on.
+-- The bytes of a half from that place on were copied to the front of the buffer.
 pub record Reads {E : Type 0} (half at : ℕ) (buf buf' : List ℕ) (old new : DiskState) (result : Result ℕ E) : Type 0 where
   pub within : IfOk result (λ n. n ≤ length buf)
   pub room : length buf' ≡ length buf
@@ -41,19 +41,19 @@ pub record Reads {E : Type 0} (half at : ℕ) (buf buf' : List ℕ) (old new : D
   pub leaves : LeavesLogs old new
   pub cause : HasCause old.faults new.faults result
 
--- The stop is one call nearer.
+-- One call less is left before the stop.
 abbrev pub OneNearer : Option ℕ → Option ℕ → Type 0
 OneNearer None now = now ≡ None
 OneNearer (Some calls) now = (left : ℕ) × (calls ≡ suc left) × (now ≡ Some left)
 
--- A disk that is to stop fails at no call before that, and does none behind it. A call that isn't done brings the stop no nearer.
+-- A disk that is to stop fails at no call before that, and does no call after it. A call that isn't done brings the stop no nearer.
 pub record KeepsToStop {T : Type 0} (before now : Option ℕ) (result : Result T OutFault) : Type 0 where
   pub done : OnOk result (OneNearer before now)
   pub not_done : OnErr result (now ≡ before)
   pub at_stop : IsErrOf result Failed → IfSome before (λ calls. calls ≡ 0)
 
--- A half of the attached log takes the first step where the call is done, and the second where it isn't. Until a sync, a crash leaves the
--- second. A stop leaves it as it was.
+-- A half of the attached log is changed by the first step where the call is done, and by the second where it isn't. Until a sync, a
+-- crash leaves what the second allows. A stop leaves the half as it was.
 pub record Changes {T : Type 0} (half : ℕ) (whole part : List ℕ → List ℕ → Type 0) (old new : DiskState) (result : Result T OutFault) : Type 0 where
   pub done : OnOk result (Steps (InHalf half whole) old new)
   pub not_done : OnErr result (Steps (InHalf half part) old new)

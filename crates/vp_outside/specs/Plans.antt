@@ -1,4 +1,4 @@
--- What a plan of failing calls does at a call.
+-- What a plan of failing calls says of a call.
 use Rattle.std.specs.Prelude.{◌≡◌, ◌==◌, ◌↔◌, ◌⊎◌, ℕ, ◌-◌, length, if◌then◌else◌, Contains, Option, Some, None, option_map, Result, OnOk, IsErrOf}
 use Rattle.std.specs.Global.{Vec}
 use Rattle.vp_outside.specs.Causes.{count_after}
@@ -6,11 +6,11 @@ use Rattle.vp_outside.specs.declared.fault_plan.FaultPlan.{FaultPlan}
 use Rattle.vp_outside.specs.declared.sink.OutFault.{OutFault}
 use Rattle.vp_outside.specs.declared.sink.OutFault.TheVariants.{Failed, NoMemory}
 
--- the plan with these calls to fail, before its first call
+-- the plan in which these calls are to fail, before the first call
 abbrev pub unstarted : Vec ℕ → FaultPlan
 unstarted failing = record { failing = failing; calls = 0; faults = 0; until_stop = None }
 
--- how many calls are left before the stop, behind one of them
+-- how many calls are left before the stop, after one of them
 abbrev pub one_nearer : Option ℕ → Option ℕ
 one_nearer until_stop = option_map (λ calls. calls - 1) until_stop
 
@@ -18,7 +18,7 @@ one_nearer until_stop = option_map (λ calls. calls - 1) until_stop
 abbrev pub stop_of : FaultPlan → Option ℕ
 stop_of plan = if length plan.failing.items == 0 then plan.until_stop else None
 
--- the next call is to fail: its number is in the plan, or the plan has stopped
+-- the next call is to fail: its number is in the plan, or the stop has come
 abbrev pub FailsNext : FaultPlan → Type 0
 FailsNext plan = Contains plan.failing.items (count_after plan.calls 1) ⊎ (plan.until_stop ≡ Some 0)
 
@@ -37,7 +37,7 @@ pub record CountsCall (old new : FaultPlan) (failed : Type 0) : Type 0 where
   pub nearer : new.until_stop ≡ one_nearer old.until_stop
   pub planned : failed ↔ FailsNext old
 
--- A call was counted as done or as failed, and not at all where it found no memory. What is to fail isn't done.
+-- A call was counted as done or as failed, or not at all where it lacked memory. A call that is to fail isn't done.
 pub record GoesByPlan {T : Type 0} (old new : FaultPlan) (result : Result T OutFault) : Type 0 where
   pub done : OnOk result (new ≡ passed old)
   pub not_planned : OnOk result (FailsNext old → ⊥)

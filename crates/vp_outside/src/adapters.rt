@@ -8,7 +8,7 @@ use crate::sink::{OutFault, Sink};
 use crate::source::{Failed, Source};
 use std::io::{Read, Write};
 
-/// A reader as a source. It tells what it has left where the reader does.
+/// A reader of the standard library as a source. Contracts know what is left of it where the reader says.
 #[derive(Drop)]
 pub struct Reading<R> {
     inner: R,
@@ -18,6 +18,7 @@ pub struct Reading<R> {
 }
 
 impl<R: Read> Reading<R> {
+    /// Makes a source of the reader, from which nothing has been taken.
     pub fn new(inner: R) -> Reading<R>
         ensures left { (⟦<Reading<R> as Source>⟧.state result).left ≡ R.remaining inner }
         ensures taken { (⟦<Reading<R> as Source>⟧.state result).taken ≡ 0 }
@@ -57,7 +58,7 @@ impl<R: Read> Source for Reading<R> {
     }
 }
 
-/// A writer as a sink. It tells what it holds where the writer does.
+/// A writer of the standard library as a sink. Contracts know what it holds where the writer says.
 #[derive(Drop)]
 pub struct Writing<W> {
     inner: W,
@@ -65,6 +66,7 @@ pub struct Writing<W> {
 }
 
 impl<W: Write> Writing<W> {
+    /// Makes a sink of the writer.
     pub fn new(inner: W) -> Writing<W>
         ensures held { (⟦<Writing<W> as Sink>⟧.state result).held ≡ W.contents inner }
         ensures faults { (⟦<Writing<W> as Sink>⟧.state result).faults ≡ 0 }
@@ -80,7 +82,7 @@ impl<W: Write> Sink for Writing<W> {
         self.faults
     }
 
-    /// It never answers want of memory.
+    /// Want of memory is never its error.
     fn put(&mut self, piece: &[u8]) -> Result<usize, OutFault>
         ensures puts { Puts piece.now (⟦<Writing<W> as Sink>⟧.state self.old) (⟦<Writing<W> as Sink>⟧.state self.new) result }
         ensures no_memory { IsErrOf result OutOfMemory → ⊥ }

@@ -1,8 +1,8 @@
-//! Buffers that a caller lends.
+//! Filling a buffer that the caller lends.
 
 ghost use Rattle.std.specs.Prelude.{◌≡◌, ◌-◌, ◌++◌, drop, length, min, take};
 
-/// Puts the bytes from `at` on into the front of the buffer, as far as there is room, and answers how many.
+/// Copies the bytes from `at` on to the front of the buffer, as many as it has room for, and returns how many.
 pub fn give(bytes: &[u8], at: u64, buf: &mut [u8]) -> usize
     ensures count { result ≡ min (length buf.old) (length bytes.now - at) }
     ensures given { buf.new ≡ take result (drop at bytes.now) ++ drop result buf.old }

@@ -1,21 +1,22 @@
-//! Which calls of an object in memory fail.
+//! Plans that say which calls of an object in memory fail.
 
 ghost use Rattle.std.specs.Prelude.{if◌then◌else◌, ◌≡◌, ◌↔◌, IsTrue};
 ghost use Rattle.vp_outside.specs.Causes.{count_after};
 
-/// The calls that are to fail: those with these numbers, counted from 1, and each one behind a stop.
+/// The calls that are to fail: those with these numbers, counted from 1, and each one after a stop.
 #[derive(Drop)]
 pub struct FaultPlan {
     pub failing: Vec<u64>,
     pub calls: u64,
     pub faults: u64,
-    /// How many calls are left before the stop, where there is one.
+    /// How many calls are left before the stop, if there is to be one.
     pub until_stop: Option<u64>,
 }
 
 impl FaultPlan {
     ghost use Rattle.vp_outside.specs.Plans.{CountsCall, FailsNext, failed, passed, unstarted};
 
+    /// Makes a plan in which the calls with these numbers fail. The first call has number 1.
     pub fn new(failing: Vec<u64>) -> FaultPlan
         ensures { result ≡ unstarted failing }
     {
@@ -27,14 +28,14 @@ impl FaultPlan {
         }
     }
 
-    /// Whether the next call is to fail.
+    /// Whether the next call is to fail. Counts nothing.
     pub fn fails_next(&self) -> bool
         ensures { IsTrue result ↔ FailsNext self.now }
     {
         self.until_stop == Some(0) || self.failing.contains(&self.calls.saturating_add(1))
     }
 
-    /// Counts a call that is done.
+    /// Counts a call that succeeds.
     pub fn pass(&mut self)
         ensures { self.new ≡ passed self.old }
     {
@@ -42,7 +43,7 @@ impl FaultPlan {
         self.until_stop = self.until_stop.map(|calls| calls.saturating_sub(1));
     }
 
-    /// Counts a call that fails, and the fault.
+    /// Counts a call that fails, and a fault.
     pub fn fail(&mut self)
         ensures { self.new ≡ failed self.old }
     {
@@ -50,7 +51,7 @@ impl FaultPlan {
         self.faults = self.faults.saturating_add(1);
     }
 
-    /// Counts a call, and answers whether it is to fail. That is counted as a fault.
+    /// Counts a call, and returns whether it is to fail, which is counted as a fault.
     pub fn fails_now(&mut self) -> bool
         ensures counted { CountsCall self.old self.new (IsTrue result) }
         ensures faults { self.new.faults ≡ (if result then count_after self.old.faults 1 else self.old.faults) }

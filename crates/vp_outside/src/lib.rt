@@ -1,4 +1,4 @@
-//! The world outside as traits, whose objects count their failures, and forms of them in memory.
+//! The world outside as traits, whose objects count their failures, and implementations of them in memory.
 #![tactic(auto)]
 
 mod adapters;

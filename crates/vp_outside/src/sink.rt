@@ -1,4 +1,4 @@
-//! Where output goes.
+//! Sinks, to which output goes.
 
 ghost use Rattle.std.specs.Prelude.{◌≡◌, OnOk, OnErr};
 ghost use Rattle.std.specs.Io.KnownBytes.{Appends};
@@ -9,11 +9,12 @@ use crate::source::Failed;
 use std::alloc::AllocError;
 use vp_base::NoMemory;
 
-/// Why a call that hands something out did not do it.
+/// Why a call that hands something out did not do so.
 #[derive(Clone, Copy, Debug, PartialEq, Eq)]
 pub enum OutFault {
-    /// The outside failed.
+    /// The world outside failed.
     Failed,
+    /// Memory is lacking.
     NoMemory,
 }
 
@@ -41,22 +42,21 @@ impl From<AllocError> for OutFault {
     }
 }
 
-/// What output goes to.
+/// What output is written to.
 pub trait Sink {
-    /// What it tells.
+    /// Its state, as contracts see it.
     ghost state: { Self → SinkState };
 
-    /// How often it failed.
+    /// How often a call failed.
     fn faults(&self) -> u64
         ensures { result ≡ (state self.now).faults };
 
-    /// Takes a prefix of the piece, and answers its length. A call that fails or finds no memory
-    /// takes nothing.
+    /// Takes a prefix of the piece, and returns its length in bytes. A call that fails or lacks memory takes nothing.
     fn put(&mut self, piece: &[u8]) -> Result<usize, OutFault>
         ensures { Puts piece.now (state self.old) (state self.new) result };
 }
 
-/// Puts all the bytes, piece by piece.
+/// Puts all the bytes, piece by piece. After an error a prefix of them has been put.
 pub fn write_all<K: Sink>(sink: &mut K, bytes: &[u8]) -> Result<(), OutFault>
     ensures ok { OnOk result (Appends (K.state sink.old).held (K.state sink.new).held bytes.now) }
     ensures err { OnErr result (AppendsPrefix (K.state sink.old).held (K.state sink.new).held bytes.now) }

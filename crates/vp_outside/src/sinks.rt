@@ -8,11 +8,11 @@ use crate::fault_plan::FaultPlan;
 use crate::sink::{OutFault, Sink};
 use std::alloc::Global;
 
-/// Collects bytes in memory, with a plan of the calls that fail. It tells what it holds.
+/// A sink that collects bytes in memory, with a plan of the calls that fail. Contracts know what it holds.
 #[derive(Drop)]
 pub struct TextSink {
     bytes: Vec<u8>,
-    /// The calls that fail. A call that finds no memory isn't counted there.
+    /// Which calls fail. A call that lacks memory isn't counted.
     pub plan: FaultPlan,
     /// How many bytes a call takes at most.
     pub most: usize,
@@ -20,7 +20,7 @@ pub struct TextSink {
 }
 
 impl TextSink {
-    /// The calls with these numbers will fail. The first call has number 1.
+    /// Makes an empty sink at which the calls with these numbers fail. The first call has number 1.
     pub fn new(alloc: Global, failing: Vec<u64>) -> TextSink
         ensures held { (⟦<TextSink as Sink>⟧.state result).held ≡ Some [] }
         ensures plan { result.plan ≡ unstarted failing }
@@ -33,7 +33,7 @@ impl TextSink {
         }
     }
 
-    /// What it holds.
+    /// The bytes that it holds.
     pub fn bytes(&self) -> &[u8]
         ensures { Some result.now ≡ (⟦<TextSink as Sink>⟧.state self.now).held }
     {
@@ -65,13 +65,14 @@ impl Sink for TextSink {
     }
 }
 
-/// Collects bytes in memory, and never fails but for want of it. It tells what it holds.
+/// A sink that collects bytes in memory and never fails except for want of it. Contracts know what it holds.
 #[derive(Drop)]
 pub struct SureSink {
     bytes: Vec<u8>,
 }
 
 impl SureSink {
+    /// Makes an empty sink.
     pub fn new(alloc: Global) -> SureSink
         ensures { (⟦<SureSink as Sink>⟧.state result).held ≡ Some [] }
     {
@@ -80,7 +81,7 @@ impl SureSink {
         }
     }
 
-    /// What it holds.
+    /// The bytes that it holds.
     pub fn bytes(&self) -> &[u8]
         ensures { Some result.now ≡ (⟦<SureSink as Sink>⟧.state self.now).held }
     {

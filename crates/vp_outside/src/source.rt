@@ -1,4 +1,4 @@
-//! Where input comes from.
+//! Sources, from which input comes.
 
 ghost use Rattle.std.specs.Prelude.{◌≡◌, ◌<◌, ◌≤◌, ℕ, List, length, vec_len, IfOk, OnOk, OnErr, IsErrOf};
 ghost use Rattle.vp_outside.specs.Input.{SourceState, IsEnded, Took, Takes, HasInputCause};
@@ -6,32 +6,33 @@ ghost use Rattle.vp_outside.specs.declared.source.InputFault.TheVariants.{NoMemo
 
 use std::alloc::{AllocError, Global};
 
-/// What a call answers where the outside failed.
+/// The error of a call where the world outside failed.
 #[derive(Clone, Copy, Debug, PartialEq, Eq)]
 pub struct Failed;
 
-/// What input comes from.
+/// What input is read from.
 pub trait Source {
-    /// What it tells.
+    /// Its state, as contracts see it.
     ghost state: { Self → SourceState };
 
-    /// How often it failed.
+    /// How often a call failed.
     fn faults(&self) -> u64
         ensures { result ≡ (state self.now).faults };
 
-    /// Puts the next bytes into the front of the buffer, and answers how many. At a buffer that
-    /// isn't empty, 0 is the end of input. A call that fails gives nothing.
+    /// Copies the next bytes to the front of the buffer, and returns how many. Where the buffer isn't empty, 0 means the end of
+    /// input. A call that fails takes nothing.
     fn take(&mut self, buf: &mut [u8]) -> Result<usize, Failed>
         ensures { Takes buf.new (state self.old) (state self.new) result };
 }
 
-/// Why an input isn't there as a whole.
+/// Why an input couldn't be read as a whole.
 #[derive(Clone, Copy, Debug, PartialEq, Eq)]
 pub enum InputFault {
     /// The source failed.
     Failed,
-    /// More bytes were taken than the limit allows.
+    /// The input is longer than the limit.
     TooLong,
+    /// Memory is lacking.
     NoMemory,
 }
 
@@ -51,7 +52,7 @@ impl From<AllocError> for InputFault {
     }
 }
 
-/// Reads the source to the end of input. It is too long where more than `limit` bytes were taken.
+/// Reads the source to the end of input. The error is `TooLong` once more than `limit` bytes were taken.
 pub fn read_to_end<S: Source>(
     alloc: Global,
     source: &mut S,

@@ -7,7 +7,7 @@ ghost use Rattle.vp_outside.specs.Plans.{CountsCall, unstarted};
 use crate::fault_plan::FaultPlan;
 use crate::source::{Failed, Source};
 
-/// Bytes that are given from the first one on.
+/// Bytes that are given in order from the first one.
 #[derive(Drop)]
 struct Text {
     bytes: Vec<u8>,
@@ -29,7 +29,7 @@ impl Text {
         }
     }
 
-    /// Gives what is left, as far as there is room and no more than `most` bytes.
+    /// Copies what is left to the front of the buffer, as much as it has room for, but no more than `most` bytes.
     fn give(&mut self, buf: &mut [u8], most: usize) -> usize
         ensures count { result ≡ min (min (length buf.old) most) (length self.old.bytes.items - self.old.at) }
         ensures given { buf.new ≡ take result (drop self.old.at self.old.bytes.items) ++ drop result buf.old }
@@ -47,11 +47,11 @@ impl Text {
     }
 }
 
-/// A text in memory, and a plan of the calls that fail. It tells what it has left.
+/// A source that gives a text in memory, with a plan of the calls that fail. Contracts know what is left.
 #[derive(Drop)]
 pub struct TextSource {
     text: Text,
-    /// The calls that fail.
+    /// Which calls fail.
     pub plan: FaultPlan,
     /// How many bytes a call gives at most.
     pub most: usize,
@@ -59,7 +59,7 @@ pub struct TextSource {
 }
 
 impl TextSource {
-    /// The calls with these numbers will fail. The first call has number 1.
+    /// Makes a source of the bytes at which the calls with these numbers fail. The first call has number 1.
     pub fn new(bytes: Vec<u8>, failing: Vec<u64>) -> TextSource
         ensures left { (⟦<TextSource as Source>⟧.state result).left ≡ Some bytes.items }
         ensures taken { (⟦<TextSource as Source>⟧.state result).taken ≡ 0 }
@@ -101,13 +101,14 @@ impl Source for TextSource {
     }
 }
 
-/// A text in memory that never fails. It tells what it has left.
+/// A source that gives a text in memory and never fails. Contracts know what is left.
 #[derive(Drop)]
 pub struct SureSource {
     text: Text,
 }
 
 impl SureSource {
+    /// Makes a source of the bytes.
     pub fn new(bytes: Vec<u8>) -> SureSource
         ensures left { (⟦<SureSource as Source>⟧.state result).left ≡ Some bytes.items }
         ensures taken { (⟦<SureSource as Source>⟧.state result).taken ≡ 0 }

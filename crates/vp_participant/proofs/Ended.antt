@@ -1,4 +1,4 @@
--- The doubts after a transaction was taken out.
+-- The transactions in doubt after one was removed.
 use Rattle.std.proofs.Common.{◌≡◌, Bool, not, if◌then◌else◌, List, [], ◌∷◌, filter, Option, Some, None, is_some, refl, arith}
 use Rattle.std.proofs.lemmas.Bool.Decides.{nat_tests}
 use Rattle.vp_model.specs.Words.{without_first}

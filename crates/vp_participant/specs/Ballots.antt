@@ -1,4 +1,4 @@
--- What a part votes, with the state of the participant after it.
+-- How a part votes, and the state of the participant afterwards.
 use Rattle.std.specs.Prelude.{ℕ, not, if◌then◌else◌, List, Some, None}
 use Rattle.std.specs.Option.{option_map_or}
 use Rattle.vp_model.specs.Types.{TxnId, Lock, Part}
@@ -10,7 +10,7 @@ use Rattle.vp_model.specs.Messages.{has_all_locks, with_vote, with_new_doubt}
 use Rattle.vp_participant.specs.declared.participant.Voted.{Voted}
 use Rattle.vp_participant.specs.declared.participant.Voted.TheVariants as voted
 
--- the first vote of a part: a yes only with all its locks, and with a record to force only where it writes
+-- the first vote of a part: yes only with all its locks, and with a log record to force only where it writes
 unfoldable pub first_ballot : Part → List ℕ → List (ℕ × List ℕ) → List Lock → ParticipantState → Voted × ParticipantState
 first_ballot part reads writes locks p =
     if not (has_all_locks locks part.txn reads writes)
@@ -23,7 +23,7 @@ first_ballot part reads writes locks p =
 abbrev pub ballot_of : Part → List ℕ → List (ℕ × List ℕ) → List Lock → ParticipantState → Voted × ParticipantState
 ballot_of part reads writes locks p = if part.voted then (voted.Yes None, p) else first_ballot part reads writes locks p
 
--- the vote on a transaction; one without a part here is not voted on
+-- the vote on a transaction; where it has no part here, there is none
 unfoldable pub ballot : TxnId → List ℕ → List (ℕ × List ℕ) → List Lock → ParticipantState → Voted × ParticipantState
 ballot txn reads writes locks p =
     if has_doubt txn p.doubts

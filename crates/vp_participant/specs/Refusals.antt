@@ -1,4 +1,4 @@
--- Why a request is refused: the tests, in their order, and what an answer tells of them.
+-- Why a request is refused: the tests in their order, and what a result says of them.
 use Rattle.std.specs.Prelude.{ℕ, Bool, not, if◌then◌else◌, List, Option, Some, None, option_map, Result, Ok, Err}
 use Rattle.vp_model.specs.Types.{ViewId, TxnId, View, Lock}
 use Rattle.vp_model.specs.Words.{is_view, has_txn}
@@ -24,7 +24,7 @@ vote_refusal held txn view p =
     then Some vote_fault.Ended
     else None)
 
--- why a lock is refused: other owners are asked last
+-- why a lock is refused: other owners' locks are tested last
 abbrev pub lock_refusal : Option View → TxnId → ViewId → ℕ → Bool → ParticipantState → List Lock → Option PartFault
 lock_refusal held txn view rec exclusive p locks =
     if not (is_view (id_of held) view)
@@ -33,7 +33,7 @@ lock_refusal held txn view rec exclusive p locks =
     then Some part_fault.Ended
     else option_map (λ owner. part_fault.Held owner) (conflict rec exclusive txn locks))
 
--- the refusal in an answer: want of memory is none
+-- the refusal in a result: want of memory is not a refusal
 abbrev pub vote_refused : {A : Type 0} → Result A PrepareFault → Option PrepareFault
 vote_refused (Ok a) = None
 vote_refused (Err vote_fault.NoMemory) = None
@@ -47,12 +47,12 @@ lock_refused (Err (part_fault.OtherView now)) = Some (part_fault.OtherView now)
 lock_refused (Err part_fault.Ended) = Some part_fault.Ended
 lock_refused (Err (part_fault.Held owner)) = Some (part_fault.Held owner)
 
--- the same fault, as that of a request for a lock
+-- the same fault as a fault of a request for a lock
 abbrev pub of_lock : LockFault → PartFault
 of_lock (lock_fault.Held owner) = part_fault.Held owner
 of_lock lock_fault.NoMemory = part_fault.NoMemory
 
--- and as that of a request for a vote
+-- and as a fault of a request for a vote
 abbrev pub of_vote : PrepareFault → PartFault
 of_vote (vote_fault.OtherView now) = part_fault.OtherView now
 of_vote vote_fault.Ended = part_fault.Ended

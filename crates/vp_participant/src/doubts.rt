@@ -12,6 +12,7 @@ use vp_base::{CopyOf, Doubt, NoMemory, Owner, Part, RecId, TxnId, Value, Writes}
 use vp_lists::{is_same_txn, put, take_txn};
 use vp_locks::Locks;
 
+/// Whether the transaction is in doubt.
 pub fn is_in_doubt(doubts: &[Doubt], txn: &TxnId) -> bool
     ensures { result ≡ has_doubt txn.now doubts.now }
 {
@@ -33,7 +34,7 @@ pub fn is_written(doubts: &[Doubt], rec: RecId) -> bool
         .any(|doubt| has_write(doubt.writes.as_slice(), rec))
 }
 
-/// The transaction of the part is in doubt.
+/// Adds the transaction of the part to those in doubt, with its writes.
 pub fn add_doubt(doubts: &mut Vec<Doubt>, part: &Part, writes: &Writes) -> Result<(), NoMemory>
     ensures { OnOk result (doubts.new.items ≡ put_doubt (record { txn = part.now.txn; view = part.now.view; writes = writes.now }) doubts.old.items) }
 {
@@ -47,7 +48,7 @@ pub fn add_doubt(doubts: &mut Vec<Doubt>, part: &Part, writes: &Writes) -> Resul
     )
 }
 
-/// Takes the transaction out of the doubts.
+/// Removes the transaction from those in doubt and returns what was kept of it.
 pub fn take_doubt(doubts: &mut Vec<Doubt>, txn: &TxnId) -> Option<Doubt>
     ensures taken { result ≡ doubt_of txn.now doubts.old.items }
     ensures rest { doubts.new.items ≡ without_doubt txn.now doubts.old.items }
@@ -57,7 +58,7 @@ pub fn take_doubt(doubts: &mut Vec<Doubt>, txn: &TxnId) -> Option<Doubt>
     doubt
 }
 
-/// The exclusive lock on each record that the transaction writes.
+/// Takes an exclusive lock on each record that the transaction writes.
 fn lock_writes(locks: &mut Locks, doubt: &Doubt) -> Result<(), NoMemory>
     ensures { OnOk result (locks.new ≡ locks.old ++ locks_in_doubt doubt.now) }
 {
@@ -67,7 +68,7 @@ fn lock_writes(locks: &mut Locks, doubt: &Doubt) -> Result<(), NoMemory>
     Ok(())
 }
 
-/// The exclusive locks of each transaction in doubt, whoever else has a lock on the record.
+/// Takes the exclusive locks of each transaction in doubt, whoever else has a lock on the record.
 pub fn lock_doubts(locks: &mut Locks, doubts: &[Doubt]) -> Result<(), NoMemory>
     ensures { OnOk result (locks.new ≡ locks.old ++ flat_map locks_in_doubt doubts.now) }
 {
@@ -77,7 +78,7 @@ pub fn lock_doubts(locks: &mut Locks, doubts: &[Doubt]) -> Result<(), NoMemory>
     Ok(())
 }
 
-/// The transactions in doubt join the others, which keep their order.
+/// Adds the transactions in doubt to the list, which stays in order.
 pub fn add_doubted(txns: &mut Vec<TxnId>, doubts: &[Doubt]) -> Result<(), NoMemory>
     ensures { OnOk result (txns.new.items ≡ for_each doubts.now (λ d. put_txn d.txn) txns.old.items) }
 {

@@ -1,23 +1,29 @@
-//! Why a request of a transaction is refused.
+//! Why a request of another site's transaction is refused.
 
 use vp_base::{NoMemory, Owner, ViewId};
 use vp_locks::LockFault;
 
-/// Why a lock is refused: the site holds another view, `now`, or none; the transaction ended here in the held view; or an owner
-/// other than the transaction has a lock that forbids it.
+/// Why a lock is refused.
 #[derive(Clone, Copy, Drop)]
 pub enum PartFault {
+    /// The site holds another view, `now`, or none.
     OtherView { now: Option<ViewId> },
+    /// The transaction has ended here, in the held view.
     Ended,
+    /// Another owner has a lock that conflicts; of several such owners, the least one.
     Held { owner: Owner },
+    /// Memory is lacking.
     NoMemory,
 }
 
-/// Why a vote is refused: the site holds another view, `now`, or none, or the transaction ended here in the held view.
+/// Why a vote is refused.
 #[derive(Clone, Copy, Drop)]
 pub enum PrepareFault {
+    /// The site holds another view, `now`, or none.
     OtherView { now: Option<ViewId> },
+    /// The transaction has ended here, in the held view.
     Ended,
+    /// Memory is lacking.
     NoMemory,
 }
 

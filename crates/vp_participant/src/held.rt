@@ -1,4 +1,4 @@
-//! Whether the held view is the one that is asked for.
+//! Whether the held view is the one that a request names.
 
 ghost use Rattle.std.specs.Prelude.{◌≡◌, option_copied};
 ghost use Rattle.vp_model.specs.Words.{is_view};
@@ -13,6 +13,7 @@ pub fn id_of(held: Option<&View>) -> Option<ViewId>
     held.map(|view| view.id)
 }
 
+/// Whether the held view is this one.
 pub fn is_held(held: Option<&View>, view: ViewId) -> bool
     ensures { result ≡ is_view (id_of (option_copied held.entry)) view }
 {

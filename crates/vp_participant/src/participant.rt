@@ -29,22 +29,23 @@ use vp_locks::{Keeps, Locks};
 use vp_records::Durable;
 use vp_tables::{Noted, Table};
 
-/// What a part votes: yes, with the log record that is to be forced before the vote is sent, if any; or it is silent, and
-/// nothing is sent.
+/// How a part votes.
 #[derive(Drop)]
 pub enum Voted {
+    /// Yes. Where the part writes, `forced` is to be forced to the log before the vote is sent.
     Yes { forced: Option<LogRecord> },
+    /// Not at all: nothing is sent.
     Silent,
 }
 
-/// How a transaction ended here: the view and the writes of its doubt, where it was in doubt.
+/// What is left of a transaction that ended here: the view and the writes of its doubt, where it was in doubt.
 #[derive(Drop)]
 pub struct Settled {
     pub doubt: Option<(ViewId, Writes)>,
 }
 
-/// The parts here of other sites' transactions, those in doubt, and those that ended here in the held view. After want of
-/// memory it may only be dropped, and so may the lock table that the call was lent.
+/// The parts here of other sites' transactions, those in doubt, and those that ended here in the held view. After want of memory
+/// this and the lock table that was lent may be changed in part: drop both.
 pub struct Participant {
     parts: Table<Part>,
     doubts: Vec<Doubt>,
@@ -70,8 +71,8 @@ impl Model for Participant {
 }
 
 impl Participant {
-    /// The participant of a site that starts: the exclusive locks of the transactions in doubt stand behind those that the
-    /// table has, also where two of them write one record, as a log from outside may have it.
+    /// The participant of a site that starts. The exclusive locks of the transactions in doubt are added to the table, even where
+    /// two of them write the same record, as a log from elsewhere may have it.
     pub fn restore(
         alloc: Global,
         durable: &Durable,
@@ -89,7 +90,7 @@ impl Participant {
         })
     }
 
-    /// The transaction gets a part, which has not voted. One that has a part or is in doubt stays as it is.
+    /// Gives the transaction a part, which has not voted, unless it has one or is in doubt.
     fn join(&mut self, txn: &TxnId, view: ViewId) -> Result<(), NoMemory>
         ensures { OnOk result (self.new ≡ with_part txn.now view self.old) }
     {
@@ -103,7 +104,7 @@ impl Participant {
         })
     }
 
-    /// Why the transaction is refused, whatever it asks for.
+    /// Why the transaction is refused, whatever it asks for; `None` where it isn't.
     fn refusal(&self, held: Option<&View>, txn: &TxnId, view: ViewId) -> Option<PrepareFault>
         ensures { result ≡ vote_refusal (option_copied held.entry) txn.now view self.now }
     {
@@ -116,7 +117,7 @@ impl Participant {
         }
     }
 
-    /// A shared lock for the part of the transaction, which joins where there is none.
+    /// Takes a shared lock for the transaction, which gets a part here where it has none.
     pub fn read_request(
         &mut self,
         locks: &mut Locks,
@@ -136,7 +137,7 @@ impl Participant {
         Ok(())
     }
 
-    /// An exclusive lock for the part of the transaction, which joins where there is none.
+    /// Takes an exclusive lock for the transaction, which gets a part here where it has none.
     pub fn write_request(
         &mut self,
         locks: &mut Locks,
@@ -156,7 +157,7 @@ impl Participant {
         Ok(())
     }
 
-    /// The part is a part no more: its transaction is in doubt until its outcome comes. Gives the log record of the vote.
+    /// Puts the transaction in doubt, until its outcome comes, and removes its part. Returns the log record of the vote.
     fn put_in_doubt(&mut self, part: &Part, writes: &Writes) -> Result<LogRecord, NoMemory>
         ensures forced { IfOk result (λ forced. forced ≡ log_record.Yes part.now.txn part.now.view writes.now) }
         ensures doubt { OnOk result (self.new ≡ with_new_doubt part.now writes.now self.old) }
@@ -203,8 +204,8 @@ impl Participant {
         }
     }
 
-    /// The vote on the transaction. A yes is made in the held view alone, and the first one of a part only with all the locks:
-    /// exclusive ones on what the transaction writes, any on what it read.
+    /// Votes on the transaction. A yes is given only in the held view, and the first yes of a part only where the transaction has
+    /// all its locks: exclusive ones on what it writes, and any on what it has read.
     #[tactic(auto, unfolding(crate::specs::Ballots::ballot))]
     pub fn prepare(
         &mut self,
@@ -228,8 +229,8 @@ impl Participant {
         }
     }
 
-    /// The transaction ends here with all its locks, and in a view its end is noted. What it was in doubt of is given back: the
-    /// caller writes it where the transaction was committed, and nothing waits for the doubt any more.
+    /// Ends the transaction here and releases all its locks; where a view is held, the end is noted. What it was in doubt about is
+    /// returned: after a commit the caller writes that to the copies, and nothing waits for the doubt any more.
     pub fn outcome(
         &mut self,
         locks: &mut Locks,
@@ -260,7 +261,7 @@ impl Participant {
         is_written(&self.doubts, rec)
     }
 
-    /// The transactions in doubt, with their views and writes.
+    /// Copies the transactions in doubt, with their views and writes.
     pub fn in_doubt(&self) -> Result<InDoubt, NoMemory>
         ensures { IfOk result (λ doubts. doubts ≡ self.now.doubts) }
     {
@@ -268,7 +269,7 @@ impl Participant {
         Ok(InDoubt::from_vec(doubts))
     }
 
-    /// The transactions with a part here or in doubt here, whose outcome is not known.
+    /// The transactions with a part here or in doubt here, whose outcomes are not known, ascending.
     pub fn known(&self) -> Result<Txns, NoMemory>
         ensures { IfOk result (λ txns. txns ≡ known self.now) }
     {
@@ -277,8 +278,8 @@ impl Participant {
         Ok(Txns::from_vec(txns))
     }
 
-    /// The site leaves its view: the transactions in doubt stay, with their exclusive locks, and the other parts go. The locks
-    /// of refreshes go here too, so that the site only has to end its list of them.
+    /// Leaves the view: the transactions in doubt stay, with their exclusive locks, and the other parts end. The locks of refreshes
+    /// are released too, so the site only has to end its list of refreshes.
     pub fn leave(&mut self, locks: &mut Locks)
         ensures parts { self.new ≡ without_parts self.old }
         ensures locks { locks.new ≡ filter (outlasts self.old) locks.old }

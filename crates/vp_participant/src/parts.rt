@@ -6,7 +6,7 @@ ghost use Rattle.vp_model.specs.Messages.{put_part};
 use vp_base::{NoMemory, Part};
 use vp_tables::Table;
 
-/// The part has voted.
+/// Notes that the part has voted.
 pub fn mark_voted(parts: &mut Table<Part>, part: &Part) -> Result<(), NoMemory>
     ensures { OnOk result (parts.new ≡ put_part (record part.now { voted = true }) parts.old) }
 {

@@ -4,8 +4,8 @@ ghost use Rattle.std.specs.Prelude.{◌≡◌};
 
 use vp_base::{CallNo, RecId, Recs, TxnId, ViewId, Writes};
 
-/// A transaction's request for a lock on a record: the view in which it runs, and the number of its call that asks. Whether a
-/// shared or an exclusive lock is asked for is said by the method that takes it.
+/// A request for a lock on a record: the transaction, the view in which it runs, and the number of the call that asks. The method
+/// that takes the request decides whether the lock is shared or exclusive.
 #[derive(Clone, Copy, Drop)]
 pub struct Request {
     pub txn: TxnId,
@@ -15,6 +15,7 @@ pub struct Request {
 }
 
 impl Request {
+    /// Makes a request of these.
     pub fn new(txn: TxnId, view: ViewId, number: CallNo, rec: RecId) -> Request
         ensures { result ≡ record { txn = txn; view = view; number = number; rec = rec } }
     {
@@ -27,8 +28,8 @@ impl Request {
     }
 }
 
-/// A transaction's request for the vote of its part: the view in which it runs, the number of its commit, the records that it
-/// read here, and the last values that it writes here.
+/// A request for the vote of a part: the view in which the transaction runs, the number of its commit, the records that it has read
+/// here, and the last values that it writes here.
 #[derive(Clone, Copy, Drop)]
 pub struct Prepare<'a> {
     pub txn: TxnId,

@@ -1,4 +1,4 @@
--- What stands above the steps of a picture.
+-- What is above the steps of a picture.
 use Rattle.std.specs.Prelude.{ℕ, ◌+◌, ◌-◌, ◌==◌, nat_lt, if◌then◌else◌, ◌++◌, codes}
 use Rattle.std.specs.Fmt.{decimal}
 use Rattle.std.specs.Option.{option_map_or}
@@ -16,7 +16,7 @@ site_head catalogue site s =
     let x = column catalogue site.0 in
     s |> written (x - 4) ink.Site (codes "site " ++ decimal site.0) |> written (x + 66) ink.Faint (codes "port " ++ decimal site.1)
 
--- what a site has of a record, where it has a copy
+-- the weight of a site's copy of a record, if it has one
 abbrev pub weight_head : Catalogue → RecordEntry → ℕ × ℕ → Sheet → Sheet
 weight_head catalogue entry site s =
     let weight = option_map_or (λ w. w) (value_at site.0 entry.weights) 0 in
@@ -25,7 +25,7 @@ weight_head catalogue entry site s =
 abbrev pub record_head : Catalogue → RecordEntry → Sheet → Sheet
 record_head catalogue entry s = next_line (for_each catalogue.sites (weight_head catalogue entry) s)
 
--- the opening view, where the picture begins with it
+-- the opening view, if the picture begins with it
 abbrev pub opened : Catalogue → Sheet → Sheet
 opened catalogue s =
     if nat_lt 1 s.part.from

@@ -1,9 +1,9 @@
--- Where things stand: the lifeline of a site, and the height of a line of text.
+-- Positions, in pixels: the lifeline of a site, and the height of a line of text.
 use Rattle.std.specs.Prelude.{ℕ, ◌+◌, ◌-◌, ◌*◌, ◌==◌, nat_lt, if◌then◌else◌, Option, Some, None}
 use Rattle.std.specs.List.{position}
 use Rattle.vp_model.specs.Catalogue.{Catalogue, sites_of}
 
--- the first of 16 lifelines is 60 from the left, each other one 240 from the one before it
+-- the first of 16 lifelines is 60 from the left, each other one 240 to the right of the one before it
 abbrev pub column_at : Option ℕ → ℕ
 column_at None = 60
 column_at (Some place) = if nat_lt place 16 then 60 + 240 * place else 60

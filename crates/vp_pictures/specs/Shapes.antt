@@ -1,4 +1,4 @@
--- How an SVG writes shapes.
+-- How shapes are written in SVG.
 use Rattle.std.specs.Prelude.{ℕ, ◌==◌, if◌then◌else◌, List, [], ◌∷◌, ◌++◌, codes}
 use Rattle.std.specs.Fmt.{decimal}
 use Rattle.std.specs.List.{flat_map}
@@ -7,7 +7,7 @@ use Rattle.vp_pictures.specs.declared.shape.Ink.TheVariants as ink
 use Rattle.vp_pictures.specs.declared.shape.Shape.{Shape}
 use Rattle.vp_pictures.specs.declared.shape.Shape.TheVariants as shape
 
--- the class of a shape, by which it is styled
+-- the class of a shape, which gives its style
 abbrev pub ink_word : Ink → List ℕ
 ink_word ink.Site = codes "h"
 ink_word ink.Faint = codes "n"
@@ -25,7 +25,7 @@ ink_word ink.Never = codes "s"
 ink_word ink.Cut = codes "c"
 ink_word ink.Heal = codes "j"
 
--- what would begin an element or a reference, or end an attribute, is named
+-- a byte that would begin an element or a reference, or end an attribute, is written as a reference
 abbrev pub escape : ℕ → List ℕ
 escape byte =
     if byte == 60 then codes "&lt;" else (if byte == 38 then codes "&amp;" else (if byte == 34 then codes "&quot;" else byte ∷ []))

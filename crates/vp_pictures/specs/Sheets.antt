@@ -22,7 +22,7 @@ said x ink text s = next_line (written x ink text s)
 abbrev pub mark_at : Sheet → ℕ → Option Mark
 mark_at s k = if k == 0 then None else slice_get s.marks (k - 1)
 
--- the site that an event is drawn at
+-- the site at whose lifeline an event is drawn
 abbrev pub site_drawn : Event → Sheet → Option ℕ
 site_drawn (event.Call site words) s = Some site
 site_drawn (event.Deliver k) s = option_map (λ (m : Mark). m.to) (mark_at s k)

@@ -1,4 +1,4 @@
--- What is drawn of a step.
+-- How a step is drawn.
 use Rattle.std.specs.Prelude.{ℕ, ◌+◌, ◌-◌, ◌*◌, ◌%◌, Bool, true, false, ◌&&◌, ◌||◌, nat_le, if◌then◌else◌, List, [], ◌∷◌, ◌++◌, length, Option, Some, None, option_to_list}
 use Rattle.std.specs.Fmt.{decimal}
 use Rattle.std.specs.Option.{option_map_or}
@@ -40,13 +40,13 @@ bar_in x y end (Some view) = Some (shape.Bar (colour view) (x - 4) y (end - y))
 abbrev pub bar_of : Catalogue → ℕ → ℕ → ℕ → Look → Option Shape
 bar_of catalogue y end site look = bar_in (column catalogue site) y end look.held
 
--- between which sites nothing is delivered any more, or again
+-- the line between two sites that are cut or healed
 abbrev pub cut_of : Catalogue → ℕ → Event → Option Shape
 cut_of catalogue y (event.Cut a b) = Some (shape.Line ink.Cut (column catalogue a) y (column catalogue b) y)
 cut_of catalogue y (event.Heal a b) = Some (shape.Line ink.Heal (column catalogue a) y (column catalogue b) y)
 cut_of catalogue y _ = None
 
--- a delivery comes where its step is done; at a cut, or to a site that is down, it is lost
+-- a delivery arrives if its step is done; it is lost at a cut, or if the site is down
 abbrev pub arrow_kind : Shown → Ink
 arrow_kind (shown.Step commits first messages replies) = ink.Comes
 arrow_kind _ = ink.Lost
@@ -57,7 +57,7 @@ arrow_of catalogue kind m line =
     let to = column catalogue m.to in
     shape.Line kind (edge from to) (top m.line + 9) (edge to from) (top line + 9)
 
--- the arrow of a delivery on this line, where its sending or its end is drawn
+-- the arrow of a delivery on this line, if its sending or its end is drawn
 abbrev pub delivery : Catalogue → Bool → Shown → ℕ → Option Mark → Option Shape
 delivery catalogue is_drawn what line None = None
 delivery catalogue is_drawn what line (Some m) = if m.is_drawn || is_drawn then Some (arrow_of catalogue (arrow_kind what) m line) else None
@@ -79,11 +79,11 @@ refuses (answer.Aborted txn number) = false
 refuses (answer.Inviting view) = false
 refuses _ = true
 
--- where the texts of an event begin
+-- the left end of the texts of an event
 abbrev pub event_x : Catalogue → Event → Sheet → ℕ
 event_x catalogue e s = option_map_or (λ site. column catalogue site + 16) (site_drawn e s) 76
 
--- an event; a delivery is the message that comes
+-- an event; a delivery is written as the message that comes
 abbrev pub words_of_event : Event → Sheet → List ℕ
 words_of_event (event.Deliver k) s = option_map_or (λ (m : Mark). arrival_words k m.text) (mark_at s k) (event_text (event.Deliver k))
 words_of_event e s = event_text e
@@ -122,7 +122,7 @@ said_reply x reply s = said x (if refuses reply.answer then ink.Refusal else ink
 abbrev pub said_idle : ℕ → Shown → Sheet → Sheet
 said_idle x what s = said x ink.Idle (idle_words what) s
 
--- what the step gave: its commits, its messages and its replies; or why it did nothing
+-- the effects of the step: its commits, its messages and its replies; or why it did nothing
 unfoldable pub said_shown : Catalogue → ℕ → Shown → Sheet → Sheet
 said_shown catalogue x (shown.Step commits first messages replies) s =
     s |> for_each commits (said_commit x) |> for_each messages (said_message catalogue x) |> for_each replies (said_reply x)
@@ -145,7 +145,7 @@ with_looks catalogue y looks s = for_each looks (with_look catalogue y (top s.li
 abbrev pub with_cut : Option Shape → Sheet → Sheet
 with_cut cut s = record s { arrows = s.arrows ++ option_to_list cut }
 
--- a step that is drawn: what each site looks like after it, from its first line to its last one
+-- a step that is drawn: each site as it is after it, from its first line to its last one
 unfoldable pub stepped : Catalogue → ℕ → Line → List (ℕ × Look) → Option View → Sheet → Sheet
 stepped catalogue number line looks joined s =
     let x = event_x catalogue line.event s in
@@ -156,7 +156,7 @@ stepped catalogue number line looks joined s =
     |> said_view catalogue x joined
     |> with_looks catalogue (top s.lines) looks
 
--- one that is not: its messages may come later
+-- a step that isn't drawn: its messages may come later
 abbrev pub hidden_message : Catalogue → Sent → Sheet → Sheet
 hidden_message catalogue sent s = with_mark catalogue false s.lines sent s
 

@@ -1,4 +1,4 @@
--- How the texts, the lines and the bars of a picture look, by their classes.
+-- The style of the texts, lines and bars of a picture, by their classes.
 use Rattle.std.specs.Prelude.{ℕ, List, ◌++◌, codes}
 
 abbrev pub texts : List ℕ

@@ -47,6 +47,6 @@ view_words catalogue view =
     ++ (flat_map member_words view.members
     ++ (codes ": may use " ++ (decimal (usable catalogue view) ++ (codes " of " ++ (decimal (length catalogue.records) ++ codes " records")))))))
 
--- what a site has of a record
+-- a site's copy of a record, with its weight
 abbrev pub weight_words : RecordEntry → ℕ → List ℕ
 weight_words entry weight = entry.name ++ (codes ": " ++ (decimal weight ++ (codes " of " ++ decimal (sum_by (λ (w : ℕ × ℕ). w.1) entry.weights))))

@@ -1,4 +1,4 @@
-//! What stands above the steps, and around them.
+//! What is above the steps, and around them.
 
 ghost use Rattle.std.specs.Prelude.{◌≡◌, ◌++◌, ◌≤◌, OnOk, [], codes};
 ghost use Rattle.std.specs.List.{flat_map};
@@ -17,15 +17,15 @@ use vp_catalog::{Catalog, Placed};
 /// The opening view.
 const OPENING: ViewId = ViewId { number: 0, site: 0 };
 
-/// How texts look.
+/// The style of all texts.
 const TEXTS: &[u8] =
     b"<style type=\"text/css\">\ntext{font:12px monospace;fill:#222;paint-order:stroke;stroke:#fff;stroke-width:3px}\n";
 
-/// How each kind of text looks.
+/// The style of each kind of text.
 const INKS: &[u8] =
     b".h{font-weight:bold;font-size:14px}.n{fill:#999}.k{font-weight:bold;fill:#000}.m{fill:#666}.r{fill:#05c}.f{fill:#c00;font-weight:bold}.w{fill:#060}.d{fill:#c00}\n";
 
-/// How lines look.
+/// The style of lines.
 const LINES: &[u8] =
     b"line{stroke:#999}.a{stroke:#777;marker-end:url(#arrow)}.x{stroke:#c00;marker-end:url(#cross)}.s{stroke:#777;marker-end:url(#stop)}\n.c{stroke:#c00;stroke-dasharray:6 3}.j{stroke:#080;stroke-dasharray:6 3}\n";
 
@@ -37,14 +37,14 @@ const COLOURS: &[u8] =
 const ARROW: &[u8] =
     b"</style>\n<defs>\n<marker id=\"arrow\" markerWidth=\"9\" markerHeight=\"8\" refX=\"8\" refY=\"4\" orient=\"auto\"><path d=\"M0,0 L8,4 L0,8 z\" fill=\"#777\"/></marker>\n";
 
-/// The ends of an arrow that is lost and of a stub.
+/// The ends of an arrow that is lost, and of a stub.
 const ENDS: &[u8] =
     b"<marker id=\"cross\" markerWidth=\"10\" markerHeight=\"10\" refX=\"5\" refY=\"5\" orient=\"auto\"><path d=\"M1,1 L9,9 M1,9 L9,1\" stroke=\"#c00\" stroke-width=\"2\"/></marker>\n<marker id=\"stop\" markerWidth=\"4\" markerHeight=\"10\" refX=\"2\" refY=\"5\" orient=\"auto\"><path d=\"M2,0 L2,10\" stroke=\"#777\" stroke-width=\"2\"/></marker>\n";
 
 /// The page.
 const PAGE: &[u8] = b"</defs>\n<rect width=\"100%\" height=\"100%\" fill=\"#fff\"/>\n";
 
-/// Appends how things look.
+/// Appends the styles.
 #[tactic(auto, unfolding(crate::specs::Style::style))]
 fn print_style(out: &mut Vec<u8>) -> Result<(), NoMemory>
     ensures { OnOk result (out.new.items ≡ out.old.items ++ style) }
@@ -59,7 +59,7 @@ fn print_style(out: &mut Vec<u8>) -> Result<(), NoMemory>
     Ok(())
 }
 
-/// The stub of a message: short, from where it was sent.
+/// Makes the stub of a message: short, from where it was sent.
 fn stub(catalog: &Catalog, mark: &Mark) -> Shape
     ensures { result ≡ stub catalog.now mark.now }
 {
@@ -111,7 +111,7 @@ impl Sheet {
         self.next_line()
     }
 
-    /// Writes what a site has of a record, where it has a copy.
+    /// Writes the weight of a site's copy of a record, if it has one.
     fn head_weight(
         &mut self,
         catalog: &Catalog,
@@ -128,7 +128,7 @@ impl Sheet {
         self.write(column(catalog, pair.0) - 4, Ink::Event, text)
     }
 
-    /// Writes the opening view, where the picture begins with it.
+    /// Writes the opening view, if the picture begins with it.
     fn open(&mut self, catalog: &Catalog) -> Result<(), NoMemory>
         ensures { OnOk result (self.new ≡ opened catalog.now self.old) }
     {
@@ -143,7 +143,7 @@ impl Sheet {
         self.say(76, Ink::View, text)
     }
 
-    /// The stub of a message that is drawn, where the message never comes.
+    /// Makes the stub of a message that is drawn, if the message never comes.
     fn stub_of(&self, catalog: &Catalog, mark: &Mark) -> Option<Shape>
         ensures { result ≡ stub_of catalog.now self.now.came mark.now }
     {
@@ -186,7 +186,7 @@ impl Sheet {
         Ok(())
     }
 
-    /// Appends the picture.
+    /// Appends the picture as SVG. If memory runs out, a beginning of it was appended.
     pub fn print(&self, catalog: &Catalog, out: &mut Vec<u8>) -> Result<(), NoMemory>
         ensures { OnOk result (out.new.items ≡ out.old.items ++ picture_text catalog.now self.now) }
     {

@@ -1,6 +1,6 @@
 //! Pictures of runs: what is drawn of each step of a schedule, as shapes, and the SVG of these shapes.
 //!
-//! A sheet is given the steps one after the other, and then prints the picture.
+//! A sheet gets the steps one after the other, and then prints the picture.
 #![tactic(auto)]
 
 mod head;

@@ -1,4 +1,4 @@
-//! Where things stand: the lifeline of a site, and the height of a line of text.
+//! Positions, in pixels: the lifeline of a site, and the height of a line of text.
 
 ghost use Rattle.std.specs.Prelude.{◌≡◌, ◌==◌, ◌≤◌, ◌<◌, ◌^◌};
 ghost use Rattle.std.specs.List.{position};
@@ -13,7 +13,7 @@ fn place_of(sites: &[SiteId], site: SiteId) -> Option<usize>
     sites.iter().position(|s| s.get() == site.get())
 }
 
-/// The lifeline of a site: the first one is 60 from the left, each other one 240 from the one before it.
+/// The left position of the lifeline of a site: that of the first site is 60, each other one is 240 to the right of the one before it.
 pub fn column(catalog: &Catalog, site: SiteId) -> u64
     ensures place { result ≡ column catalog.now site }
     ensures least { 60 ≤ result }
@@ -29,7 +29,7 @@ pub fn column(catalog: &Catalog, site: SiteId) -> u64
     }
 }
 
-/// The top of a line of text.
+/// The top of a line of text, in pixels from that of the picture.
 pub fn top(line: u32) -> u64
     ensures place { result ≡ top line }
     ensures most { result < 2 ^ 40 }
@@ -46,7 +46,7 @@ pub fn edge(own: u64, other: u64) -> u64
     if own < other { own + 5 } else { own - 5 }
 }
 
-/// Where a stub ends that goes from one lifeline towards another one.
+/// The end of a stub that goes from one lifeline towards another one.
 pub fn stub_end(own: u64, other: u64) -> u64
     requires least { 60 ≤ own }
     requires most { own ≤ 3660 }

@@ -1,4 +1,4 @@
-//! Shapes, and how an SVG writes them.
+//! Shapes, and how they are written in SVG.
 
 ghost use Rattle.std.specs.Prelude.{◌≡◌, ◌++◌, OnOk};
 ghost use Rattle.std.specs.List.{flat_map};
@@ -7,7 +7,7 @@ ghost use Rattle.vp_pictures.specs.Shapes.{attribute, escape, escaped, ink_word,
 use vp_base::{NoMemory, Word};
 use vp_text::print_number;
 
-/// What a text or a line is of: it is styled by that.
+/// What a text or a line is for, which gives its style.
 #[derive(Clone, Copy, Debug, Drop, PartialEq, Eq)]
 pub enum Ink {
     Site,
@@ -52,7 +52,7 @@ pub enum Shape {
 }
 
 impl Ink {
-    /// The class of its shapes.
+    /// The class of the shapes.
     fn word(self) -> &'static [u8]
         ensures { result.now ≡ ink_word self }
     {
@@ -76,7 +76,7 @@ impl Ink {
     }
 }
 
-/// Appends an attribute that is a number, behind these bytes.
+/// Appends an attribute that is a number, after these bytes.
 pub fn print_attribute(name: &[u8], number: u64, out: &mut Vec<u8>) -> Result<(), NoMemory>
     ensures { OnOk result (out.new.items ≡ out.old.items ++ attribute name.now number) }
 {
@@ -86,7 +86,7 @@ pub fn print_attribute(name: &[u8], number: u64, out: &mut Vec<u8>) -> Result<()
     Ok(())
 }
 
-/// Appends a byte of a text: what would begin an element or a reference, or end an attribute, is named.
+/// Appends a byte of a text. A byte that would begin an element or a reference, or end an attribute, is written as a reference.
 fn print_escaped(byte: u8, out: &mut Vec<u8>) -> Result<(), NoMemory>
     ensures { OnOk result (out.new.items ≡ out.old.items ++ escape byte) }
 {

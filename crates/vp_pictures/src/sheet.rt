@@ -18,15 +18,15 @@ pub struct Part {
     pub to: u32,
 }
 
-/// What is drawn of a site at a time: whether it is up, and the view that it holds.
+/// How a site is drawn at a time: whether it is up, and the view that it holds.
 #[derive(Clone, Copy, Drop, PartialEq, Eq)]
 pub struct Look {
     pub up: bool,
     pub held: Option<ViewId>,
 }
 
-/// A message that was sent: its number, the line on which it is drawn, or which is next where it isn't, from where to where it goes, and
-/// its text.
+/// A message that was sent: its number, the line on which it is drawn (or the next line, if it isn't drawn), from where to where it goes,
+/// and its text.
 #[derive(Drop)]
 pub struct Mark {
     pub number: u64,
@@ -37,18 +37,18 @@ pub struct Mark {
     pub text: Word,
 }
 
-/// What is drawn so far: below, the bars; then the arrows; and on top the texts, each on a line of its own but for those at the left and
-/// in the head. Without memory a call may have drawn a part of what it draws, so the sheet is then to be dropped.
+/// What is drawn so far: the bars at the bottom, then the arrows, and on top the texts, each on a line of its own but for those at the
+/// left and in the head. If memory runs out, a call may have drawn a part of what it draws, so the sheet must then be dropped.
 #[derive(Drop)]
 pub struct Sheet {
     pub part: Part,
-    /// How many lines there are.
+    /// The number of lines.
     pub lines: u32,
-    /// How far the texts go.
+    /// The right end of the widest text, in pixels.
     pub wide: u64,
     /// The messages, in the order in which they were sent.
     pub marks: Seq<Mark>,
-    /// The numbers of the messages that came somewhere.
+    /// The numbers of the messages that were delivered.
     pub came: Seq<u64>,
     pub bars: Seq<Shape>,
     pub arrows: Seq<Shape>,
@@ -56,7 +56,7 @@ pub struct Sheet {
 }
 
 impl Sheet {
-    /// An empty sheet.
+    /// Makes an empty sheet.
     pub fn new(alloc: Global, part: Part) -> Sheet
         ensures { result ≡ record { part = part; lines = 0; wide = 400; marks = []; came = []; bars = []; arrows = []; texts = [] } }
     {
@@ -72,7 +72,7 @@ impl Sheet {
         }
     }
 
-    /// Goes to the next line.
+    /// Goes to the next line. Fails, as if memory ran out, if there are 2^32 - 1 lines already.
     pub fn next_line(&mut self) -> Result<(), NoMemory>
         ensures { OnOk result (self.new ≡ next_line self.old) }
     {
@@ -83,7 +83,8 @@ impl Sheet {
         Ok(())
     }
 
-    /// Writes a text on this line, beside others.
+    /// Writes a text on this line, beside others, with its left end at `x` pixels. Fails, as if memory ran out, for a text of more than
+    /// 1,000,000 bytes.
     pub fn write(&mut self, x: u64, ink: Ink, text: Word) -> Result<(), NoMemory>
         requires { x ≤ 10000 }
         ensures { OnOk result (self.new ≡ written x ink text self.old) }
@@ -97,7 +98,7 @@ impl Sheet {
         self.texts.push(Shape::Text { ink, x, y, text })
     }
 
-    /// Writes a text on this line, and goes to the next.
+    /// Writes a text on this line, with its left end at `x` pixels, and goes to the next line.
     pub fn say(&mut self, x: u64, ink: Ink, text: Word) -> Result<(), NoMemory>
         requires { x ≤ 10000 }
         ensures { OnOk result (self.new ≡ said x ink text self.old) }
@@ -106,6 +107,7 @@ impl Sheet {
         self.next_line()
     }
 
+    /// Draws an arrow, if there is one.
     pub fn draw_arrow(&mut self, shape: Option<Shape>) -> Result<(), NoMemory>
         ensures { OnOk result (self.new ≡ record self.old { arrows = self.old.arrows ++ option_to_list shape }) }
     {
@@ -115,6 +117,7 @@ impl Sheet {
         }
     }
 
+    /// Draws a bar, if there is one.
     pub fn draw_bar(&mut self, shape: Option<Shape>) -> Result<(), NoMemory>
         ensures { OnOk result (self.new ≡ record self.old { bars = self.old.bars ++ option_to_list shape }) }
     {
@@ -135,7 +138,7 @@ impl Sheet {
         }
     }
 
-    /// The site that an event is drawn at.
+    /// The site at whose lifeline an event is drawn.
     pub fn site(&self, event: &Event) -> Option<SiteId>
         ensures { result ≡ site_drawn event.now self.now }
     {

@@ -1,4 +1,4 @@
-//! What is drawn of a step.
+//! How a step is drawn.
 
 ghost use Rattle.std.specs.Prelude.{◌≡◌, ◌≤◌, ◌^◌, ◌<◌, Bool, IfOk, IfSome, OnOk, option_copied};
 ghost use Rattle.vp_model.specs.Words.{for_each};
@@ -19,14 +19,14 @@ use vp_base::{
 };
 use vp_catalog::Catalog;
 
-/// The colour of a view.
+/// The index of the colour of a view, below 12.
 fn colour(view: &ViewId) -> u64
     ensures { result ≡ colour view.now }
 {
     (view.number % 12 * 5 + u64::from(view.site) * 3) % 12
 }
 
-/// The answer refuses the call.
+/// Whether the answer refuses the call.
 fn refuses(answer: &Answer) -> bool
     ensures { result ≡ refuses answer.now }
 {
@@ -41,7 +41,7 @@ fn refuses(answer: &Answer) -> bool
     }
 }
 
-/// A delivery comes where its step is done.
+/// The kind of the arrow of a delivery: it is lost where its step isn't done.
 fn arrow_kind(shown: &Shown) -> Ink
     ensures { result ≡ arrow_kind shown.now }
 {
@@ -51,7 +51,7 @@ fn arrow_kind(shown: &Shown) -> Ink
     }
 }
 
-/// The lifeline of a site that is up.
+/// The lifeline of a site, if it is up.
 fn life_of(catalog: &Catalog, y: u64, end: u64, site: SiteId, look: &Look) -> Option<Shape>
     ensures { result ≡ life_of catalog.now y end site look.now }
 {
@@ -69,7 +69,7 @@ fn life_of(catalog: &Catalog, y: u64, end: u64, site: SiteId, look: &Look) -> Op
     }
 }
 
-/// The bar of a view that is held.
+/// The bar of a view, if one is held.
 fn bar_of(catalog: &Catalog, y: u64, end: u64, site: SiteId, look: &Look) -> Option<Shape>
     ensures { result ≡ bar_of catalog.now y end site look.now }
 {
@@ -84,7 +84,7 @@ fn bar_of(catalog: &Catalog, y: u64, end: u64, site: SiteId, look: &Look) -> Opt
     }
 }
 
-/// Between which sites nothing is delivered any more, or again.
+/// The line between two sites that are cut or healed.
 fn cut_of(catalog: &Catalog, y: u64, event: &Event) -> Option<Shape>
     ensures { result ≡ cut_of catalog.now y event.now }
 {
@@ -107,7 +107,7 @@ fn cut_of(catalog: &Catalog, y: u64, event: &Event) -> Option<Shape>
     }
 }
 
-/// The way of a message that is delivered on this line.
+/// The arrow of a message that is delivered on this line.
 fn arrow_of(catalog: &Catalog, ink: Ink, mark: &Mark, line: u32) -> Shape
     ensures { result ≡ arrow_of catalog.now ink mark.now line }
 {
@@ -127,15 +127,15 @@ impl Sheet {
         self.texts.allocator()
     }
 
-    /// The event of this number is in the part that is drawn.
+    /// Whether the event with this number is in the part that is drawn.
     fn is_drawn(&self, number: u32) -> bool
         ensures { result ≡ is_drawn self.now number }
     {
         self.part.from <= number && number <= self.part.to
     }
 
-    /// Draws a step: the number of its event line, its line, what each site looks like after it, and the view that its site holds from here
-    /// on. Of a step outside the part that is drawn only the messages are kept.
+    /// Draws a step: the number of its event line, its line, how each site is after it, and the view that its site joins by it. Of a step
+    /// outside the part that is drawn only the messages are kept.
     #[tactic(auto, unfolding(crate::specs::Steps::drawn))]
     pub fn draw(
         &mut self,
@@ -156,7 +156,7 @@ impl Sheet {
         }
     }
 
-    /// Draws how a message comes, or what it meets.
+    /// Draws the arrow of a delivery, or says what is in its way.
     fn draw_delivery(
         &mut self,
         catalog: &Catalog,
@@ -173,7 +173,7 @@ impl Sheet {
         self.draw_arrow(arrow)
     }
 
-    /// The arrow of a delivery: it is drawn where its sending or its end is.
+    /// The arrow of a delivery, if its sending or its end is drawn.
     fn arrow(&self, catalog: &Catalog, is_drawn: bool, k: u32, shown: &Shown) -> Option<Shape>
         ensures { result ≡ delivery catalog.now is_drawn shown.now self.now.lines (mark_at self.now k) }
     {
@@ -236,7 +236,7 @@ impl Sheet {
         self.draw_looks(catalog, y, looks)
     }
 
-    /// Where the texts of an event begin.
+    /// The left end of the texts of an event.
     fn event_x(&self, catalog: &Catalog, event: &Event) -> u64
         ensures place { result ≡ event_x catalog.now event.now self.now }
         ensures most { result ≤ 4000 }
@@ -247,7 +247,7 @@ impl Sheet {
         }
     }
 
-    /// Writes an event, and the number of its line at the left; a delivery is the message that comes.
+    /// Writes an event, and the number of its line at the left; a delivery is written as the message that comes.
     #[tactic(auto, unfolding(crate::specs::Steps::said_event))]
     fn say_event(&mut self, x: u64, number: u32, event: &Event) -> Result<(), NoMemory>
         requires { x ≤ 4000 }
@@ -328,7 +328,7 @@ impl Sheet {
         Ok(())
     }
 
-    /// Writes a message at its sending, from where its arrows or its stub begin.
+    /// Writes a message where it is sent, from where its arrows or its stub begin.
     fn say_message(&mut self, catalog: &Catalog, x: u64, sent: &Sent) -> Result<(), NoMemory>
         requires { x ≤ 4000 }
         ensures { OnOk result (self.new ≡ said_message catalog.now x sent.now self.old) }

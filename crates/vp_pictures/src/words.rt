@@ -14,7 +14,7 @@ use vp_catalog::{Catalog, Placed};
 use vp_text::print_number;
 use vp_trace::{print_answer, print_event, print_message};
 
-/// A word and a number.
+/// Makes a text of the word and the number.
 pub fn numbered(alloc: Global, word: &[u8], number: u64) -> Result<Word, NoMemory>
     ensures { IfOk result (λ w. w ≡ word.now ++ decimal number) }
 {
@@ -23,13 +23,14 @@ pub fn numbered(alloc: Global, word: &[u8], number: u64) -> Result<Word, NoMemor
     Ok(Word::from_vec(text))
 }
 
+/// Copies the word.
 pub fn copied(alloc: Global, word: &[u8]) -> Result<Word, NoMemory>
     ensures { IfOk result (λ w. w ≡ word.now) }
 {
     Ok(Word::from_vec(Vec::from_slice(alloc, word)?))
 }
 
-/// An event, as a schedule has it.
+/// Prints an event as a schedule has it.
 pub fn event_words(alloc: Global, event: &Event) -> Result<Word, NoMemory>
     ensures { IfOk result (λ w. w ≡ event_text event.now) }
 {
@@ -38,7 +39,7 @@ pub fn event_words(alloc: Global, event: &Event) -> Result<Word, NoMemory>
     Ok(Word::from_vec(text))
 }
 
-/// A message that comes.
+/// Prints a message that comes: its number and its own text.
 pub fn arrival_words(alloc: Global, k: u32, message: &[u8]) -> Result<Word, NoMemory>
     ensures { IfOk result (λ w. w ≡ arrival_words k message.now) }
 {
@@ -49,6 +50,7 @@ pub fn arrival_words(alloc: Global, k: u32, message: &[u8]) -> Result<Word, NoMe
     Ok(Word::from_vec(text))
 }
 
+/// Prints a message as a trace has it, without its number and its sites.
 pub fn message_words(alloc: Global, catalog: &Catalog, message: &Message) -> Result<Word, NoMemory>
     ensures { IfOk result (λ w. w ≡ message_text catalog.now message.now) }
 {
@@ -57,7 +59,7 @@ pub fn message_words(alloc: Global, catalog: &Catalog, message: &Message) -> Res
     Ok(Word::from_vec(text))
 }
 
-/// A message as it is sent: its number, to where, and its text.
+/// Prints a message that is sent: its number, the site that it goes to, and its own text.
 pub fn sent_words(alloc: Global, k: u64, to: SiteId, message: &[u8]) -> Result<Word, NoMemory>
     ensures { IfOk result (λ w. w ≡ sent_words k to message.now) }
 {
@@ -70,6 +72,7 @@ pub fn sent_words(alloc: Global, k: u64, to: SiteId, message: &[u8]) -> Result<W
     Ok(Word::from_vec(text))
 }
 
+/// Prints an answer as a trace has it.
 pub fn answer_words(alloc: Global, answer: &Answer) -> Result<Word, NoMemory>
     ensures { IfOk result (λ w. w ≡ answer_text answer.now) }
 {
@@ -78,6 +81,7 @@ pub fn answer_words(alloc: Global, answer: &Answer) -> Result<Word, NoMemory>
     Ok(Word::from_vec(text))
 }
 
+/// Prints a commit: its transaction and its view.
 pub fn commit_words(alloc: Global, commit: &Commit) -> Result<Word, NoMemory>
     ensures { IfOk result (λ w. w ≡ commit_words commit.now) }
 {
@@ -88,7 +92,7 @@ pub fn commit_words(alloc: Global, commit: &Commit) -> Result<Word, NoMemory>
     Ok(Word::from_vec(text))
 }
 
-/// Why an event did nothing, or which life begins.
+/// Prints why an event did nothing, or which life begins.
 pub fn idle_words(alloc: Global, shown: &Shown) -> Result<Word, NoMemory>
     ensures { IfOk result (λ w. w ≡ idle_words shown.now) }
 {
@@ -122,7 +126,7 @@ fn print_member(site: SiteId, out: &mut Vec<u8>) -> Result<(), NoMemory>
     site.print(out)
 }
 
-/// How many records may be used in a view.
+/// Counts the records that may be used in a view.
 fn usable(catalog: &Catalog, view: &View) -> u16
     ensures { result ≡ usable catalog.now view.now }
 {
@@ -136,7 +140,7 @@ fn usable(catalog: &Catalog, view: &View) -> u16
     count
 }
 
-/// A view, with its members and what may be used in it.
+/// Prints a view: its members, and how many records may be used in it.
 pub fn view_words(alloc: Global, catalog: &Catalog, view: &View) -> Result<Word, NoMemory>
     ensures { IfOk result (λ w. w ≡ view_words catalog.now view.now) }
 {
@@ -152,7 +156,7 @@ pub fn view_words(alloc: Global, catalog: &Catalog, view: &View) -> Result<Word,
     Ok(Word::from_vec(text))
 }
 
-/// What a site has of a record.
+/// Prints a site's copy of a record: the record's name, the weight of the copy, and the weight of all copies.
 pub fn weight_words(alloc: Global, placed: &Placed, weight: u32) -> Result<Word, NoMemory>
     ensures { IfOk result (λ w. w ≡ weight_words placed.now weight) }
 {

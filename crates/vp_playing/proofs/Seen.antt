@@ -33,7 +33,7 @@ module _ {S : Type 0} (sees begins : ℕ × Line → S → S → Type 0) where
   some_then [] ys old mid new e some = subst (λ (s : S). SeesSome sees begins ys s new) e some
   some_then (x ∷ xs) ys old mid new h some = inr (inr (h.0, h.1, some_then xs ys h.0 mid new h.2 some))
 
--- where each line leaves one value, so do some lines
+-- if each line leaves one value, some lines do too
 pub sees_fold : {S : Type 0} (see : S → ℕ × Line → S) (lines : List (ℕ × Line)) (old new : S) → SeesAll (λ line before after. after ≡ see before line) lines old new → new ≡ fold see old lines
 sees_fold see [] old new e = e
 sees_fold see (line ∷ lines) old new h = sees_fold see lines h.0 new h.2 ∙ ap (λ s. fold see s lines) h.1

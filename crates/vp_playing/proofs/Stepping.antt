@@ -1,4 +1,4 @@
--- What whoever does the steps has done of a run, and is ready for.
+-- What the stepper has done of a run, and what it is ready for.
 use Rattle.std.proofs.Common.{◌≡◌, ◌∙◌, ap, sym, subst, ℕ, suc, ◌+◌, ◌<◌, false, List, [], ◌∷◌, ◌++◌, refl, arith, length, drop, append_assoc}
 use Rattle.std.specs.Prelude.{⊤, Ok, Option, Some, None, IfSome, get_or}
 use Rattle.std.specs.List.{list_any}
@@ -8,7 +8,7 @@ use Rattle.vp_model.specs.Catalogue.{Catalogue}
 use Rattle.vp_model.specs.Limits.{world_limits, is_over}
 use Rattle.vp_model.specs.World.{WorldState, Moment, Run, Schedule, flowing, one_step, flow, one_event, run_from, run_of, start_run, start_world, moments_of}
 use Rattle.vp_world.specs.Known.{Known}
-use Rattle.vp_places.specs.Asked.{Asked}
+use Rattle.vp_world.specs.Asked.{Asked}
 use Rattle.vp_world.specs.Steps.{asked_of, DoesEvent, IsReady}
 use Rattle.vp_playing.specs.Played.{run_in, lines_in, Sees, SeesAll, StepsAll, IsReadyFor}
 use Rattle.vp_playing.proofs.Seen.{sees_append}
@@ -22,7 +22,7 @@ one_step_of catalogue n (event.Flow count) run none = absurd (none count refl)
 one_step_of catalogue n e run none = refl
 
 module _ {S : Type 0} (may : Catalogue → Asked → S → Type 0) (did : Asked → S → S → Type 0) (catalogue : Catalogue) where
-  -- who is ready for some moments is so for those in their midst, once those before are done
+  -- a stepper that is ready for some moments is ready for any part of them, once it has done those before
   pub part_is_ready : (xs ys rest ms : List Moment) (old mid : S) → ms ≡ (xs ++ ys) ++ rest → StepsAll did catalogue xs old mid → IsReadyFor may did catalogue ms old → IsReadyFor may did catalogue ys mid
   part_is_ready xs ys rest ms old mid e so_far ready before more m now is steps =
       ready (xs ++ before) (more ++ rest) m now
@@ -41,7 +41,7 @@ module _ {S : Type 0} (may : Catalogue → Asked → S → Type 0) (did : Asked 
   other_is_ready n e w s none ready =
       step_is_ready n e w s (subst (λ (run : Run). IsReadyFor may did catalogue run.moments s) (one_step_of catalogue n e (run_in w) none) ready)
 
--- who may be asked for all is ready for any moments
+-- a stepper that may be asked for all is ready for any moments
 pub always_ready : {S : Type 0} (did : Asked → S → S → Type 0) (catalogue : Catalogue) (moments : List Moment) (s : S) → IsReadyFor (λ _ _ _. ⊤) did catalogue moments s
 always_ready did catalogue moments s before rest m now is done = anything (asked_of catalogue m.line.event m.before)
   where
@@ -57,7 +57,7 @@ step_did did catalogue n e w old new done = (new, done, refl)
 
 -- ---- a flow
 
--- nobody sees anything
+-- nothing is seen of any line
 abbrev pub unseen : Catalogue → ℕ × Line → Unit {0} → Unit {0} → Type 0
 unseen catalogue line old new = Unit {0}
 
@@ -65,7 +65,7 @@ all_unseen : (catalogue : Catalogue) (lines : List (ℕ × Line)) → SeesAll (u
 all_unseen catalogue [] = refl
 all_unseen catalogue (line ∷ lines) = (tt, tt, all_unseen catalogue lines)
 
--- the steps of the first i deliveries of a flow in the world w were done
+-- the steps of the first i deliveries of a flow in the world w are done
 pub record Delivering {S : Type 0} (did : Asked → S → S → Type 0) (catalogue : Catalogue) (n count : ℕ) (w : WorldState) (i : ℕ) (now : WorldState) (old new : S) : Type 0 where
   pub at : Flowing unseen catalogue n count w i now tt tt
   pub done : StepsAll did catalogue at.run.moments old new
@@ -80,7 +80,7 @@ module _ {S : Type 0} (did : Asked → S → S → Type 0) (catalogue : Catalogu
   pub flow_did : flow catalogue n count (run_in w) ≡ so_far.at.run → StepsAll did catalogue (flow catalogue n count (run_in w)).moments old new
   flow_did e = subst (λ (run : Run). StepsAll did catalogue run.moments old new) (sym e) so_far.done
 
-  -- it stops where no message may be delivered, or all are
+  -- it stops where no message may be delivered, or all are delivered
   pub flow_stopped : i < count → flowing known.world ≡ None → StepsAll did catalogue (flow catalogue n count (run_in w)).moments old new
   flow_stopped lt none = flow_did (flow_stops unseen catalogue n count w i known.world tt tt so_far.at lt none)
 
@@ -122,7 +122,7 @@ module _ {S : Type 0} (did : Asked → S → S → Type 0) (catalogue : Catalogu
 
 -- ---- a schedule, event by event
 
--- the steps of the first i events of the schedule were done
+-- the steps of the first i events of the schedule are done
 pub record Stepping {S : Type 0} (did : Asked → S → S → Type 0) (s : Schedule) (i : ℕ) (now : WorldState) (old new : S) : Type 0 where
   pub run : Run
   pub world : now ≡ run.world

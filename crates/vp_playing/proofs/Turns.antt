@@ -84,7 +84,7 @@ unfolding one_event
 numbered catalogue n (event.Flow count) w = flow_numbered catalogue n count (run_in w) tt
 numbered catalogue n e w = step_numbered catalogue n e (run_in w) tt
 
--- moments are only added
+-- a run only gets more moments
 pub run_grows : (catalogue : Catalogue) (n : ℕ) (events : List Event) (run : Run) → (rest : List Moment) × ((run_from catalogue n events run).moments ≡ run.moments ++ rest)
 unfolding run_from
 run_grows catalogue n [] run = ([], sym (append-nil run.moments))
@@ -120,7 +120,7 @@ found_any (m ∷ ms) counted e = go (over m) e (found_any ms counted)
     go true q rest = refl
     go false q rest = rest q
 
--- the first moment that exceeds a limit is the first among those that come behind some which exceed none
+-- the first moment that exceeds a limit is the first among those after some that exceed none
 found_behind : (xs ys rest : List Moment) → list_any over xs ≡ false → find over ((xs ++ ys) ++ rest) ≡ option_or (find over ys) (find over rest)
 found_behind xs ys rest none =
     find-append over (xs ++ ys) rest ∙ ap (λ o. option_or o (find over rest)) (find-append over xs ys)
@@ -190,7 +190,7 @@ cut_behind sees xs ys rest counted old mid new none so_far some more = record {
       (sees_steps sees xs (before_first over ys) old mid new so_far more);
 }
 
--- what stands before the first step over a limit stands there also where more steps come
+-- what is before the first step over a limit is the same where more steps come
 before_grows : (ys rest : List Moment) → (more : List Moment) × (before_first over (ys ++ rest) ≡ before_first over ys ++ more)
 before_grows ys rest = go (list_any over ys) refl
   where
@@ -211,7 +211,7 @@ some_behind {S} sees begins xs ys rest old mid new none so_far some =
 
 -- ---- a flow, delivery by delivery
 
--- i deliveries of a flow in the world w were done
+-- i deliveries of a flow in the world w are done
 pub record Flowing {S : Type 0} (sees : Catalogue → ℕ × Line → S → S → Type 0) (catalogue : Catalogue) (n count : ℕ) (w : WorldState) (i : ℕ) (now : WorldState) (old new : S) : Type 0 where
   pub run : Run
   pub world : now ≡ run.world
@@ -364,7 +364,7 @@ module _ {S : Type 0} (sees : Catalogue → ℕ × Line → S → S → Type 0) 
   steps_are : drop (length p.run.moments) (behind p.run.moments added).moments ≡ added.moments
   steps_are = drop-append_seam p.run.moments added.moments
 
-  -- what stands under the event line in the run, by the steps that it adds
+  -- the lines of the steps that the event adds, each with its number
   abbrev under : List Moment → List (ℕ × Line)
   under steps = own_line (i + 1) x ++ (lines_in (before_first over steps) ++ (cond (list_any over steps) [] rest_within))
 
@@ -470,7 +470,7 @@ pub step_is_cut : {S : Type 0} (sees : ℕ × Line → S → S → Type 0) (cata
 unfolding one_step
 step_is_cut sees catalogue n e w counted s some = record { limit = rw some some; seen = rw some refl }
 
--- what is answered of a step
+-- what the result of a step says
 pub step_ends : {S : Type 0} (sees begins : Catalogue → ℕ × Line → S → S → Type 0) (catalogue : Catalogue) (n : ℕ) (e : Event) (w : WorldState) (why : WorldEnd) (s : S) → Ends {A = Unit {0}} (refused world_limits catalogue e w) (Err why) → Sees sees begins catalogue [] (stepped catalogue n e w) (Err why) s s
 step_ends sees begins catalogue n e w (end.Limit what limit) s h = let cut = step_is_cut (sees catalogue) catalogue n e w what s h.0 in (cut.limit, h.1, cut.seen)
 step_ends sees begins catalogue n e w end.NoMemory s h = sees_none (sees catalogue) (begins catalogue) (lines_in (before_first over (stepped catalogue n e w).moments)) s s refl
@@ -497,7 +497,7 @@ step_shows sees begins catalogue n e w known line old new none is line_is seen =
       (new, subst (λ (l : Line). sees catalogue (n, l) old new) line_is seen, refl),
 )
 
--- ---- what is answered of a flow
+-- ---- the result of a flow
 
 module _ {S : Type 0} (sees begins : Catalogue → ℕ × Line → S → S → Type 0) (catalogue : Catalogue) (n count : ℕ) (w : WorldState) (i : ℕ) (known : Known) (old new : S) (same : known.catalogue ≡ catalogue) (so_far : Flowing sees catalogue n count w i known.world old new) where
   pub flow_shows : flow catalogue n count (run_in w) ≡ so_far.run → Sees sees begins catalogue [] (flow catalogue n count (run_in w)) (Ok known) old new
@@ -523,7 +523,7 @@ module _ {S : Type 0} (sees begins : Catalogue → ℕ × Line → S → S → T
       let g = subst (λ c. Sees sees begins c [] (stepped c n (event.Deliver k) known.world) (Err end.NoMemory) new now_seen) same h in
       flow_is_left sees catalogue n count w i known.world old new so_far k lt some begins now_seen g
 
--- ---- what is answered of a schedule
+-- ---- the result of a schedule
 
 pub play_is_over : {S : Type 0} (sees begins : Catalogue → ℕ × Line → S → S → Type 0) (s : Schedule) (i : ℕ) (known : Known) (old new : S) → known.catalogue ≡ s.catalogue → Played sees s i known.world old new → i ≡ length s.events → Plays sees begins s (Ok known) old new
 play_is_over sees begins s i known old new same so_far e =

@@ -5,7 +5,7 @@ use Rattle.vp_model.specs.Types.{Event, Line}
 use Rattle.vp_model.specs.Catalogue.{Catalogue}
 use Rattle.vp_model.specs.World.{WorldState, Moment, Run, Schedule, run_of}
 use Rattle.vp_model.specs.Limits.{world_limits, is_over, limit_in, limit_reached, lines_within}
-use Rattle.vp_places.specs.Asked.{Asked}
+use Rattle.vp_world.specs.Asked.{Asked}
 use Rattle.vp_world.specs.Known.{Known}
 use Rattle.vp_world.specs.Steps.{DoesEvent, IsReady}
 use Rattle.vp_world.specs.Limits.{limit_of}
@@ -23,26 +23,26 @@ run_in w = record { moments = []; world = w }
 abbrev pub lines_in : List Moment → List (ℕ × Line)
 lines_in moments = map (λ (m : Moment). (m.number, m.line)) moments
 
--- an observer before and after it has seen these lines, one after the other; the same of anything else that comes one after the other
+-- an observer before and after it has seen these lines, one after the other; the same for any other things that come one after the other
 abbrev pub SeesAll : {A S : Type 0} → (A → S → S → Type 0) → List A → S → S → Type 0
 SeesAll sees [] old new = new ≡ old
 SeesAll {A} {S} sees (a ∷ rest) old new = (mid : S) × sees a old mid × SeesAll sees rest mid new
 
--- an observer who has seen some of these lines, the first ones, and perhaps begins to see the next
+-- an observer that has seen some of these lines, the first ones, and perhaps a part of the next
 abbrev pub SeesSome : {S : Type 0} → (sees begins : ℕ × Line → S → S → Type 0) → List (ℕ × Line) → S → S → Type 0
 SeesSome sees begins [] old new = new ≡ old
 SeesSome {S} sees begins (line ∷ lines) old new = (new ≡ old) ⊎ (begins line old new ⊎ ((mid : S) × sees line old mid × SeesSome sees begins lines mid new))
 
--- whoever does the steps, before and after what these moments ask
+-- the stepper before and after it has done what these moments ask
 abbrev pub StepsAll : {S : Type 0} → (Asked → S → S → Type 0) → Catalogue → List Moment → S → S → Type 0
 StepsAll did catalogue moments old new = SeesAll (λ (m : Moment). DoesEvent did catalogue m.line.event m.before) moments old new
 
--- it may be asked for what each of these moments asks, once it has done what those before ask
+-- the stepper may be asked for what each of these moments asks, once it has done what those before ask
 abbrev pub IsReadyFor : {S : Type 0} → (may : Catalogue → Asked → S → Type 0) → (did : Asked → S → S → Type 0) → Catalogue → List Moment → S → Type 0
 IsReadyFor {S} may did catalogue moments old = (before rest : List Moment) (m : Moment) (now : S) → moments ≡ before ++ m ∷ rest → StepsAll did catalogue before old now → IsReady may catalogue m.line.event m.before now
 
--- The steps of the run are done, and the observer has seen the event's own lines and then theirs; or a limit ends them, and it has seen the
--- event's own lines and those of the steps before; or there is no memory, and it has seen some of these.
+-- The steps of the run are done, and the observer has seen the event's own lines and then theirs; or a limit ends them, and it has seen
+-- the event's own lines and those of the steps before; or memory runs out, and it has seen some of these.
 abbrev pub Sees : {S : Type 0} → (sees begins : Catalogue → ℕ × Line → S → S → Type 0) → Catalogue → List (ℕ × Line) → Run → Result Known WorldEnd → S → S → Type 0
 Sees sees begins catalogue own run (Ok known) old new =
     (list_any (is_over world_limits) run.moments ≡ false)
@@ -55,8 +55,8 @@ Sees sees begins catalogue own run (Err (end.Limit what limit)) old new =
 Sees sees begins catalogue own run (Err end.NoMemory) old new =
     SeesSome (sees catalogue) (begins catalogue) (own ++ lines_in (before_first (is_over world_limits) run.moments)) old new
 
--- The whole schedule is played and the observer has seen its trace; or a limit ends it, and it has seen what that leaves of the trace; or there
--- is no memory, and it has seen some of that.
+-- The whole schedule is played and the observer has seen its trace; or a limit ends it, and it has seen what that leaves of the trace;
+-- or memory runs out, and it has seen some of that.
 abbrev pub Plays : {S : Type 0} → (sees begins : Catalogue → ℕ × Line → S → S → Type 0) → Schedule → Result Known WorldEnd → S → S → Type 0
 Plays sees begins s (Ok known) old new =
     (limit_reached world_limits s ≡ None)

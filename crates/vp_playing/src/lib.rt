@@ -1,4 +1,4 @@
-//! Playing the events of a schedule in a world, before an observer, who is shown each line.
+//! Playing the events of a schedule in a world, and showing each line to an observer.
 #![tactic(auto)]
 
 mod observer;

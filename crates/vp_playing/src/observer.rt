@@ -1,4 +1,4 @@
-//! Who is shown the lines of a run, step by step.
+//! Observers: who is shown the lines of a run.
 
 ghost use Rattle.std.specs.Prelude.{◌≡◌, ◌++◌, ℕ, OnErr, OnOk, length, take, true};
 
@@ -7,24 +7,25 @@ use vp_base::{CopyOf, Line, NoMemory, Replies, Shown};
 use vp_catalog::Catalog;
 use vp_trace::print_line;
 
-/// What is done with each line of a run.
+/// Who is shown each line of a run, one after the other.
 pub trait Observer {
     ghost use Rattle.vp_base.specs.declared.event.Line.{Line};
     ghost use Rattle.vp_model.specs.Catalogue.{Catalogue};
 
-    /// What it makes of a line, under the number of its event: the observer before and after.
+    /// What it makes of a line, with the number of its event: the observer before and after.
     ghost sees: { Catalogue → ℕ × Line → Self → Self → Type 0 };
 
-    /// What it may have made of a line for which there was not memory enough.
+    /// What it may have made of a line where there was not enough memory.
     ghost begins: { Catalogue → ℕ × Line → Self → Self → Type 0 };
 
-    /// Shows it the next line.
+    /// Sees the next line. `number` is that of the event, from 1 on; lines of one flow have the same. After an error the observer has
+    /// what `begins` says.
     fn see(&mut self, number: u32, line: &Line, catalog: &Catalog) -> Result<(), NoMemory>
         ensures seen { OnOk result (sees catalog.now (number, line.now) self.old self.new) }
         ensures begun { OnErr result (begins catalog.now (number, line.now) self.old self.new) };
 }
 
-/// The text of a trace.
+/// An observer that keeps the text of the trace.
 #[derive(Drop)]
 pub struct TraceText {
     pub bytes: Vec<u8>,

@@ -1,4 +1,4 @@
-//! Playing the events of a schedule in a world, before an observer.
+//! Playing the events of a schedule in a world.
 
 ghost use Rattle.std.specs.Prelude.{◌≤◌, [], OnErr, OnOk, length};
 ghost use Rattle.vp_model.specs.World.{one_step, flow, one_event, moments_of};
@@ -54,7 +54,7 @@ fn play_flow<S: Stepper, O: Observer>(
     Ok(world)
 }
 
-/// The line of a flow itself stands before those of its deliveries.
+/// Shows the line of a flow itself, which comes before those of its deliveries.
 fn show_own_line<O: Observer>(
     number: u32,
     event: &Event,
@@ -95,8 +95,8 @@ pub fn play_event<S: Stepper, O: Observer>(
     }
 }
 
-/// Plays the events one after the other, from the start of the world on. Where a limit ends them, the observer has seen the lines of
-/// the steps before; without memory, some of these.
+/// Plays the events one after the other in a new world. If a limit ends them, the observer has seen the lines of the steps before; if
+/// memory runs out, some of these.
 pub fn play<S: Stepper, O: Observer>(
     catalog: Catalog,
     events: &[Event],

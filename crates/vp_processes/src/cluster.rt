@@ -6,10 +6,10 @@ use std::io::Read;
 use std::process::Child;
 use std::{fs, io};
 
-/// The ports of the sites, and then that of clients, where no other program has one of them.
+/// The ports of the sites, and then that of clients, unless another program has one of them.
 const PORTS: [u16; 4] = [7001, 7002, 7003, 7100];
 
-/// The sites, the logs of their nodes, and the files that these write their statuses into.
+/// The sites, the logs of their nodes, and the files to which these write their statuses.
 const SITES: [(&str, &str, &str); 3] = [
     ("1", "cluster1", "cluster1.status"),
     ("2", "cluster2", "cluster2.status"),
@@ -19,7 +19,7 @@ const SITES: [(&str, &str, &str); 3] = [
 /// The status of a process whose disk failed.
 const DISK_FAULT: u8 = 7;
 
-/// The file that every other process writes its status into.
+/// The file to which every other process writes its status.
 const SAID: &str = "cluster.status";
 
 /// The files of the logs.
@@ -32,7 +32,7 @@ const LOGS: [&str; 6] = [
     "cluster3.1",
 ];
 
-/// Sites and calls at them, one after the other, and what each is answered.
+/// Sites and calls at them, one after the other, and the answer to each.
 const CALLS: [(&str, &str, &str); 5] = [
     ("1", "begin", "begun 1.1.1 0@0\n"),
     ("1", "1.1.1 1 write x 11", "written 1.1.1 1\n"),
@@ -41,7 +41,7 @@ const CALLS: [(&str, &str, &str); 5] = [
     ("2", "2.1.1 1 read x", "value 2.1.1 1 11\n"),
 ];
 
-/// Three sites with a copy of x each.
+/// The catalogue of three sites with a copy of x each, at these ports.
 fn three_sites(rt: HostRuntime, ports: &[u16; 4]) -> io::Result<String> {
     let [one, two, three, _] = ports;
     Ok(format!(in rt.alloc();
@@ -49,7 +49,7 @@ fn three_sites(rt: HostRuntime, ports: &[u16; 4]) -> io::Result<String> {
     )?)
 }
 
-/// Ends nodes that aren't told to stop.
+/// Ends nodes that get no stop.
 fn kill(nodes: &mut [Child]) {
     for node in nodes.iter_mut() {
         let _ = node.kill();
@@ -66,7 +66,7 @@ fn prints(node: &mut Child, line: &[u8; 8]) -> bool {
     }
 }
 
-/// What a node prints until it ends.
+/// Reads what a node prints until it ends.
 fn rest(rt: HostRuntime, node: &mut Child) -> io::Result<Vec<u8>> {
     let mut rest = Vec::new(rt.alloc());
     if let Some(stdout) = &mut node.stdout {
@@ -78,7 +78,7 @@ fn rest(rt: HostRuntime, node: &mut Child) -> io::Result<Vec<u8>> {
 /// A cluster whose nodes and clients are processes of this program.
 pub struct Cluster {
     program: Program,
-    /// What each process reads.
+    /// The text of the catalogue, which each process reads.
     catalogue: String,
     /// The clients' port.
     port: u16,
@@ -109,18 +109,18 @@ impl Cluster {
         self.program.start(said, words, &self.catalogue)
     }
 
-    /// How a process with these words ends.
+    /// Runs a process with these words: its status, and what it prints.
     fn run(&self, words: &[&str]) -> io::Result<(Option<u8>, Vec<u8>)> {
         self.program.end(SAID, self.start(SAID, words)?)
     }
 
-    /// How a client of a call at a site ends.
+    /// Runs a client of a call at a site: its status, and what it prints.
     fn client(&self, port: u16, site: &str, call: &str) -> io::Result<(Option<u8>, Vec<u8>)> {
         let port = format!(in self.program.rt.alloc(); "{port}")?;
         self.run(&["client", &port, "16", site, call])
     }
 
-    /// Whether a client's call at a site is answered so. Where the clients' port is taken, it has another one.
+    /// Whether a client's call at a site gets this answer. If the clients' port is taken, it has another one.
     fn answers(&self, site: &str, call: &str, answer: &str) -> io::Result<bool> {
         let mut port = self.port;
         for _ in 0..TRIES {
@@ -133,7 +133,7 @@ impl Cluster {
         Ok(false)
     }
 
-    /// Starts the node of a site, which has to print this line first. Its port is bound before that.
+    /// Starts the node of a site, which must print this line first. Its port is bound before that.
     fn node(&self, site: &(&str, &str, &str), line: &[u8; 8]) -> io::Result<Child> {
         let (number, log, said) = site;
         let mut node = self.start(said, &["node", number, log, "100"])?;
@@ -147,7 +147,7 @@ impl Cluster {
         }
     }
 
-    /// Starts a node for each site on an empty log. Where one can't be started those before it are ended.
+    /// Starts a node for each site on an empty log. If one can't be started, those before it are ended.
     fn nodes(&self) -> io::Result<Vec<Child>> {
         self.remove_logs();
         let mut nodes = Vec::new(self.program.rt.alloc());
@@ -167,7 +167,7 @@ impl Cluster {
         Ok(())
     }
 
-    /// Whether the node of a site can be told to stop.
+    /// Sends the node of a site a stop, and says whether that could be sent.
     fn tells(&self, site: &str) -> io::Result<bool> {
         let (status, printed) = self.run(&["stop", site])?;
         Ok(status == Some(0) && own(&printed).is_empty())
@@ -180,7 +180,7 @@ impl Cluster {
         Ok(self.program.said(said)? == Some(0) && own(&rest).ends_with(b"\nend\n"))
     }
 
-    /// The site and the first call at it that isn't answered as it should be.
+    /// Makes the calls, and returns the site and the call of the first that isn't answered as it should be.
     pub fn first_unanswered(&self) -> io::Result<Option<(&'static str, &'static str)>> {
         for (site, call, answer) in &CALLS {
             if !self.answers(site, call, answer)? {
@@ -190,7 +190,7 @@ impl Cluster {
         Ok(None)
     }
 
-    /// The site of the first node that can't be told to stop or, once all are told, doesn't end well.
+    /// Stops the nodes, and returns the site of the first one that gets no stop or, once all got it, doesn't end well.
     pub fn first_lasting(&self, nodes: &mut [Child]) -> io::Result<Option<&'static str>> {
         for (site, _, _) in &SITES {
             if !self.tells(site)? {
@@ -209,7 +209,7 @@ impl Cluster {
         Ok(None)
     }
 
-    /// Starts the node of site 1 on its log again. Where its port was taken meanwhile, its next life starts at another one.
+    /// Starts the node of site 1 on its log again. If its port was taken meanwhile, its next life starts at another one.
     fn starts_again(&mut self) -> io::Result<Child> {
         for line in [b"start 2\n", b"start 3\n", b"start 4\n"] {
             match self.node(&SITES[0], line) {
@@ -223,7 +223,7 @@ impl Cluster {
         Err(io::Error::from(io::ErrorKind::AddrInUse))
     }
 
-    /// The files of the log of site 1.
+    /// Reads the files of the log of site 1.
     fn log(&self) -> io::Result<[Vec<u8>; 2]> {
         let rt = self.program.rt;
         Ok([fs::read(&rt, LOGS[0])?, fs::read(&rt, LOGS[1])?])
@@ -239,8 +239,8 @@ impl Cluster {
         Ok(status == Some(DISK_FAULT) && own(&printed) == b"disk fault\n".as_slice() && is_kept)
     }
 
-    /// What goes wrong first where the node of site 1 starts again, alone: another process on its log, a call of a client, which the node has
-    /// no view for, or its end.
+    /// What goes wrong first when the node of site 1 starts again, alone: another process on its log, a call of a client, for which the
+    /// node holds no view, or its end.
     pub fn first_wrong_again(&mut self) -> io::Result<Option<&'static str>> {
         let mut node = self.starts_again()?;
         if !self.refuses_another()? {
@@ -263,9 +263,9 @@ impl Cluster {
     }
 }
 
-/// A cluster of three sites, each of whose nodes has printed the line of its first life: at the ports 7001 to 7003, and 7100 for clients, or at
-/// free ones where another program has one of these.
-/// `by_words` is the test of this program, started again, that does what the words behind its name say.
+/// Starts a cluster of three sites, each of whose nodes has printed the line of its first life: at the ports 7001 to 7003, and 7100 for
+/// clients, or at free ones if another program has one of these. `by_words` is the test of this program, started again, that does what
+/// the words after its name say.
 pub fn started(rt: HostRuntime, by_words: &'static str) -> io::Result<(Cluster, Vec<Child>)> {
     let program = Program { rt, by_words };
     let mut ports = if are_free(rt, &PORTS) {

@@ -3,7 +3,7 @@
 use std::io;
 use std::net::{Ipv4Addr, UdpSocket};
 
-/// How often ports are chosen again, where another program takes one that was free.
+/// How often ports are chosen again, if another program takes one that was free.
 pub const TRIES: usize = 20;
 
 /// The status of a process that doesn't get its port.
@@ -19,7 +19,7 @@ pub fn free_port(rt: HostRuntime) -> io::Result<u16> {
     Ok(address?.port())
 }
 
-/// Ports that no socket has now. Where two are the same no node starts, and others are chosen.
+/// Ports that no socket has now. If two are the same, no node starts, and others are chosen.
 pub fn free_ports(rt: HostRuntime) -> io::Result<[u16; 4]> {
     Ok([
         free_port(rt)?,

@@ -4,10 +4,10 @@ use std::io::Write;
 use std::process::{Child, Command, Stdio};
 use std::{env, fs, io};
 
-/// What a test's process prints behind all that the test itself prints.
+/// What a test's process prints after all that the test itself prints.
 const BEHIND: &str = "\ntest result: ok\n";
 
-/// Writes the status into the file that the first word behind the test's name names: what runs a test hands on no status of its own.
+/// Writes the status to the file that the first word after the test's name names: what runs a test passes on no status of its own.
 pub fn say_status(rt: HostRuntime, status: u8) -> io::Result<()> {
     match env::args(&rt)?.nth(2) {
         Some(said) => fs::write(&rt, said, &[status]),
@@ -15,7 +15,7 @@ pub fn say_status(rt: HostRuntime, status: u8) -> io::Result<()> {
     }
 }
 
-/// What a process printed, but for what is printed behind all that the test itself prints.
+/// What a process printed, but for what is printed after all that the test itself prints.
 pub fn own(printed: &[u8]) -> &[u8] {
     match printed.strip_suffix(BEHIND.as_bytes()) {
         Some(own) => own,
@@ -27,12 +27,12 @@ pub fn own(printed: &[u8]) -> &[u8] {
 #[derive(Clone, Copy)]
 pub struct Program {
     pub rt: HostRuntime,
-    /// The test that does what the words behind the next one say. The next one names the file that its status is written into.
+    /// The test that does what the words after the next one say. The next one names the file to which its status is written.
     pub by_words: &'static str,
 }
 
 impl Program {
-    /// Starts a process by a command, with these words behind the test's name.
+    /// Starts a process by a command, with these words after the test's name.
     fn spawn(&self, command: &mut Command, said: &str, words: &[&str]) -> io::Result<Child> {
         let _ = fs::remove_file(&self.rt, said);
         command
@@ -82,14 +82,14 @@ impl Program {
         Ok(process)
     }
 
-    /// The status that a process has written into the file, which is removed.
+    /// Reads the status that a process has written to the file, which is removed.
     pub fn said(&self, said: &str) -> io::Result<Option<u8>> {
         let status = fs::read(&self.rt, said)?;
         fs::remove_file(&self.rt, said)?;
         Ok(status.first().copied())
     }
 
-    /// The status with which a process ends, and all that it prints.
+    /// Waits for the end of a process: its status, and all that it prints.
     pub fn end(&self, said: &str, process: Child) -> io::Result<(Option<u8>, Vec<u8>)> {
         let output = process.wait_with_output(self.rt.alloc())?;
         Ok((self.said(said)?, output.stdout))

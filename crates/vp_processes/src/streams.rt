@@ -4,7 +4,7 @@ use crate::ports::{LINK_FAULT, TRIES, free_port};
 use crate::program::{Program, own};
 use std::{fs, io};
 
-/// The file that a process writes its status into.
+/// The file to which a process writes its status.
 const SAID: &str = "closed.status";
 
 /// The files of the node's log.
@@ -18,7 +18,7 @@ const STARTED: &[u8] = b"\x01\0\0\0\0\0\0\0\x05\x01\0\0\0\x01\0";
 /// A log that isn't there, or is empty.
 const NO_LOG: &[u8] = b"";
 
-/// Words, and what is read behind a catalogue; and where only the standard error is closed, the status, what is printed and the log that is
+/// Words, and what is read after a catalogue; and, if only the standard error is closed, the status, what is printed and the log that is
 /// left.
 const RUNS: [(&str, &str, u8, &str, &[u8]); 3] = [
     ("node 1 closed 0", "", 0, "start 1\nend\n", STARTED),
@@ -32,7 +32,7 @@ const RUNS: [(&str, &str, u8, &str, &[u8]); 3] = [
     ),
 ];
 
-/// How a process of the words ends whose streams a shell closes so. Where its port was taken meanwhile, another one is chosen.
+/// Runs a process of the words, some of whose streams a shell closes. If its port was taken meanwhile, another one is chosen.
 fn run_closed(
     program: Program,
     words: &str,
@@ -67,9 +67,9 @@ fn has(rt: HostRuntime, file: &str, bytes: &[u8]) -> bool {
     }
 }
 
-/// The first words and streams, closed as a shell says it, with which a process doesn't end as it must: with a closed input by status 4, with
-/// a closed output by status 5, and nothing printed or written into a log, one that is there or none; with a closed standard error as ever.
-/// `by_words` is the word behind which this program, started again, does what the others say.
+/// The first words and streams, closed as a shell says it, with which a process doesn't end as it must: with a closed input by status 4,
+/// with a closed output by status 5, and nothing printed or written to a log, one that is there or none; with a closed standard error as
+/// ever. `by_words` is the word after which this program, started again, does what the others say.
 pub fn first_unheld(
     rt: HostRuntime,
     by_words: &'static str,

@@ -189,7 +189,7 @@ record Counting (catalogue : Catalogue) (run : Run) : Type 0 where
   known : Known catalogue (scene_of run.world)
   counted : Counted (length run.moments) (scene_of run.world)
 
-stepped_scene : (catalogue : Catalogue) (s : ℕ) (x : SiteState) (given : Input) (v : WorldState) → scene_of (site_step catalogue s x given v).world ≡ acted (scene_of v) s x (step catalogue x given)
+pub stepped_scene : (catalogue : Catalogue) (s : ℕ) (x : SiteState) (given : Input) (v : WorldState) → scene_of (site_step catalogue s x given v).world ≡ acted (scene_of v) s x (step catalogue x given)
 unfolding site_step
 stepped_scene catalogue s x given v = refl
 

@@ -20,6 +20,7 @@ use Rattle.vp_laws.proofs.Moves.Table.{next_view}
 use Rattle.vp_laws.proofs.Moves.LocalViews.{letter}
 use Rattle.vp_laws.proofs.Worlds.Scenes.{scene_of, kept_in, promise_at}
 use Rattle.vp_progress.specs.Whole.{promised_number}
+use Rattle.vp_progress.proofs.Calm.{calms}
 use Rattle.vp_progress.proofs.Can.{Can, can_now, can_then, Each, one_by_one}
 use Rattle.vp_progress.proofs.Acts.{by_regroup, by_letter}
 use Rattle.vp_progress.proofs.Started.{Started}
@@ -52,7 +53,7 @@ pub record Ready (id : ViewId) (q : ℕ) (w : WorldState) : Type 0 where
   pub up : site_of w q ≡ Some at
   pub low : at.promise.number < id.number
 
--- it has accepted the view, and the site r, which invites, knows
+-- it has accepted the view, and the site r, which invites, knows that
 pub record Accepted (id : ViewId) (r q : ℕ) (w : WorldState) : Type 0 where
   pub at : SiteState
   pub up : site_of w q ≡ Some at
@@ -60,7 +61,7 @@ pub record Accepted (id : ViewId) (r q : ℕ) (w : WorldState) : Type 0 where
   pub counted : (x : SiteState) → site_of w r ≡ Some x → Has (acceptors x.inviting) q
 
 module _ (catalogue : Catalogue) (ns : List ℕ) (journal : List Commit) where
-  -- the site r invites to the view: those that have accepted are of these sites, and each other one has, or may
+  -- the site r invites to the view: those that have accepted are among these sites, and each other one has accepted too, or may
   pub record Invited (id : ViewId) (r : ℕ) (w : WorldState) : Type 0 where
     pub base : Based catalogue ns journal w
     pub sent : (q : ℕ) → Has ns q → q ≢ r → Has w.sent (letter r q (message.Invite id))
@@ -74,7 +75,7 @@ module _ (catalogue : Catalogue) (ns : List ℕ) (journal : List Commit) where
 
   -- ---- the invitation
 
-  regroups : (w : WorldState) (r : ℕ) → ((q : ℕ) → Has ns q → Has (sites_of catalogue) q) → Started catalogue ns journal w → Has ns r → ((q : ℕ) → Has ns q → (promise_at (scene_of w) q).number ≤ (promise_at (scene_of w) r).number) → Can catalogue ns w (λ new. (id : ViewId) × Invited id r new)
+  regroups : (w : WorldState) (r : ℕ) → ((q : ℕ) → Has ns q → Has (sites_of catalogue) q) → Started catalogue ns journal w → Has ns r → ((q : ℕ) → Has ns q → (promise_at (scene_of w) q).number ≤ (promise_at (scene_of w) r).number) → Can catalogue (calms ns) w (λ new. (id : ViewId) × Invited id r new)
   regroups w r sub f here top =
       let known = f.fit.known in
       let u = f.up r here in
@@ -84,7 +85,7 @@ module _ (catalogue : Catalogue) (ns : List ℕ) (journal : List Commit) where
       let low : x.promise.number < 2 ^ 64 - 1 = rw (ap (λ (i : ViewId). i.number) mine, ← (promised_is (place_of r w.places))) (f.fit.unspent.promised r (has_test ns r here)) in
       let free : is_spent x.views ≡ false = not_spent x.promise.number x.seen (2 ^ 64 - 1) low (f.fit.unspent.seen r x (has_test ns r here) u.1) in
       by_regroup catalogue ns _ w r x known here u.1
-      λ new k d. can_now catalogue ns _ new (
+      λ new k d. can_now catalogue (calms ns) _ new (
         next_view x,
         record {
           base = moves_on catalogue ns journal w new r x _ (record { known = known; joined = f.joined; same = f.fit.same }) k d (regroup_commits catalogue x 0 free);
@@ -105,12 +106,12 @@ module _ (catalogue : Catalogue) (ns : List ℕ) (journal : List Commit) where
         },
       )
 
-  pub invites_all : (w : WorldState) (first : ℕ) (rest : List ℕ) → ns ≡ first ∷ rest → ((q : ℕ) → Has ns q → Has (sites_of catalogue) q) → Started catalogue ns journal w → Can catalogue ns w (λ new. (id : ViewId) × (r : ℕ) × Has ns r × Invited id r new)
+  pub invites_all : (w : WorldState) (first : ℕ) (rest : List ℕ) → ns ≡ first ∷ rest → ((q : ℕ) → Has ns q → Has (sites_of catalogue) q) → Started catalogue ns journal w → Can catalogue (calms ns) w (λ new. (id : ViewId) × (r : ℕ) × Has ns r × Invited id r new)
   invites_all w first rest is sub f =
       let g = greatest (λ q. (promise_at (scene_of w) q).number) first rest in
       let here : Has ns g.0 = subst (λ (l : List ℕ). Has l g.0) (sym is) g.1 in
-      can_then catalogue ns (λ new. (id : ViewId) × Invited id g.0 new) _ w (regroups w g.0 sub f here (λ q h. g.2 q (subst (λ (l : List ℕ). Has l q) is h)))
-      λ new n. can_now catalogue ns _ new (n.0, g.0, here, n.1)
+      can_then catalogue (calms ns) (λ new. (id : ViewId) × Invited id g.0 new) _ w (regroups w g.0 sub f here (λ q h. g.2 q (subst (λ (l : List ℕ). Has l q) is h)))
+      λ new n. can_now catalogue (calms ns) _ new (n.0, g.0, here, n.1)
 
   -- ---- the acceptances
 
@@ -119,17 +120,17 @@ module _ (catalogue : Catalogue) (ns : List ℕ) (journal : List Commit) where
     Has_accepted q w = q ≢ r → Accepted id r q w
 
     -- the invitation comes to a site that may accept, and its acceptance comes back
-    takes : (q : ℕ) (w : WorldState) → Has ns q → q ≢ r → (f : Invited id r w) → Ready id q w → Can catalogue ns w (Each catalogue ns (Invited id r) Has_accepted (q ∷ []) w)
+    takes : (q : ℕ) (w : WorldState) → Has ns q → q ≢ r → (f : Invited id r w) → Ready id q w → Can catalogue (calms ns) w (Each (Invited id r) Has_accepted (q ∷ []) w)
     takes q w here n f a =
         let ok = f.base.known.views.site q a.at a.up in
         let b = below a.at.promise id a.low in
         let turned : r ≢ q = λ (same : r ≡ q). n (sym same) in
-        by_letter catalogue ns _ w q a.at f.base.known here a.up r (message.Invite id) (f.sent q here n) lead (f.base.joined r q lead here)
+        by_letter catalogue ns _ w q a.at f.base.known here a.up r (message.Invite id) refl (f.sent q here n) lead (f.base.joined r q lead here)
         λ mid k d.
         let base = moves_on catalogue ns journal w mid q a.at _ f.base k d (awaits_commits catalogue a.at r id b) in
         let up_r = other_as d r turned ∙ f.up in
         let answer = d.acted.sends _ (subst (λ (s : ℕ). Has (step catalogue a.at (input.Message r (message.Invite id))).effects.messages (letter s r (message.Accept id))) ok.id (accepts catalogue a.at r id b)) in
-        by_letter catalogue ns _ mid r f.leader k lead up_r q (message.Accept id) answer here (base.joined q r here lead)
+        by_letter catalogue ns _ mid r f.leader k lead up_r q (message.Accept id) refl answer here (base.joined q r here lead)
         λ new k2 e.
         let now : (step catalogue f.leader (input.Message q (message.Accept id))).site.inviting ≡ Some (id, put_number q f.accepted) = counts catalogue f.leader q id f.accepted f.inviting in
         let grown : (c : ℕ) → Has f.accepted c → (x : SiteState) → site_of new r ≡ Some x → Has (acceptors x.inviting) c = λ c h x u. let same : (step catalogue f.leader (input.Message q (message.Accept id))).site ≡ x = (let z = sym e.acted.now ∙ u in grind (arith, z)) in rw (← same, now) (put_keeps q f.accepted c h) in
@@ -145,7 +146,7 @@ module _ (catalogue : Catalogue) (ns : List ℕ) (journal : List Commit) where
           waiting = g.waiting;
           counted = grown c (rw f.inviting at (g.counted f.leader f.up));
         } in
-        can_now catalogue ns _ new (record {
+        can_now catalogue (calms ns) _ new (record {
           still = record {
             base = moves_on catalogue ns journal mid new r f.leader _ base k2 e (counts_commits catalogue f.leader q id);
             sent = λ c h p. e.acted.moved.sent _ (d.acted.moved.sent _ (f.sent c h p));
@@ -161,12 +162,12 @@ module _ (catalogue : Catalogue) (ns : List ℕ) (journal : List Commit) where
           stays = λ c g p. ⊎_elim (λ (same : c ≡ q). rw same mine) (λ (other : c ≢ q). old c other p (g p)) (same_site c q);
         })
 
-    accepts_one : (q : ℕ) (w : WorldState) → Has ns q → Invited id r w → Can catalogue ns w (Each catalogue ns (Invited id r) Has_accepted (q ∷ []) w)
+    accepts_one : (q : ℕ) (w : WorldState) → Has ns q → Invited id r w → Can catalogue (calms ns) w (Each (Invited id r) Has_accepted (q ∷ []) w)
     accepts_one q w here f =
         ⊎_elim
-        (λ (same : q ≡ r). can_now catalogue ns _ w (record { still = f; done = λ c h p. ⊎_elim (λ (one : q ≡ c). absurd (p (sym one ∙ same))) (λ more. absurd (has_none c more)) (has_cons q [] c h); stays = λ c g. g }))
-        (λ (n : q ≢ r). ⊎_elim (λ (a : Ready id q w). takes q w here n f a) (λ (a : Accepted id r q w). can_now catalogue ns _ w (record { still = f; done = λ c h p. ⊎_elim (λ (one : q ≡ c). subst (λ (c : ℕ). Accepted id r c w) one a) (λ more. absurd (has_none c more)) (has_cons q [] c h); stays = λ c g. g })) (f.site q here n))
+        (λ (same : q ≡ r). can_now catalogue (calms ns) _ w (record { still = f; done = λ c h p. ⊎_elim (λ (one : q ≡ c). absurd (p (sym one ∙ same))) (λ more. absurd (has_none c more)) (has_cons q [] c h); stays = λ c g. g }))
+        (λ (n : q ≢ r). ⊎_elim (λ (a : Ready id q w). takes q w here n f a) (λ (a : Accepted id r q w). can_now catalogue (calms ns) _ w (record { still = f; done = λ c h p. ⊎_elim (λ (one : q ≡ c). subst (λ (c : ℕ). Accepted id r c w) one a) (λ more. absurd (has_none c more)) (has_cons q [] c h); stays = λ c g. g })) (f.site q here n))
         (same_site q r)
 
-    pub accepts_all : (w : WorldState) → Invited id r w → Can catalogue ns w (Each catalogue ns (Invited id r) Has_accepted ns w)
-    accepts_all w f = one_by_one catalogue ns (Invited id r) Has_accepted ns accepts_one ns (λ a h. h) w f
+    pub accepts_all : (w : WorldState) → Invited id r w → Can catalogue (calms ns) w (Each (Invited id r) Has_accepted ns w)
+    accepts_all w f = one_by_one catalogue (calms ns) (Invited id r) Has_accepted ns accepts_one ns (λ a h. h) w f

@@ -1,4 +1,5 @@
 pub mod Going
+pub mod Calm
 pub mod Can
 pub mod Acts
 pub mod Started
@@ -13,3 +14,11 @@ pub mod OneDoubt
 pub mod Current
 pub mod Mended
 pub mod Counted
+pub mod Asked
+pub mod Doubts
+pub mod Passing
+pub mod Serving
+pub mod Marks
+pub mod Marked
+pub mod Elsewhere
+pub mod Meetings

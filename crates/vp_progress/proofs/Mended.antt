@@ -20,7 +20,8 @@ use Rattle.vp_laws.proofs.Worlds.Events.{Lasts, in_last}
 use Rattle.vp_laws.proofs.Invariant.Known.{Known}
 use Rattle.vp_progress.specs.Whole.{AreUnspent, IsWhole}
 use Rattle.vp_progress.specs.Progress.{world_of, CanBeWhole}
-use Rattle.vp_progress.proofs.Going.{world_goes_on, mending_flows_not}
+use Rattle.vp_progress.proofs.Going.{world_goes_on, passing_flows_not}
+use Rattle.vp_progress.proofs.Calm.{calms, each_mends}
 use Rattle.vp_progress.proofs.Can.{Can, can_now, can_then}
 use Rattle.vp_progress.proofs.Started.{Fit, Started, starts_all}
 use Rattle.vp_progress.proofs.Based.{Based, OneEach}
@@ -28,11 +29,11 @@ use Rattle.vp_progress.proofs.Invited.{Invited, invites_all, accepts_all}
 use Rattle.vp_progress.proofs.Held.{Holds, Fixed, fixes_view, joins_all, Quiet, empty_from}
 use Rattle.vp_progress.proofs.Certain.{doubts_at, Fewer, ends_all, coordinator_stands}
 use Rattle.vp_progress.proofs.OneDoubt.{InvOne, one_last, can_with}
-use Rattle.vp_progress.proofs.Current.{Sure, Ready, refresh_at, refreshes_all}
+use Rattle.vp_progress.proofs.Current.{any_writes, Ready, refresh_at, refreshes_all}
 
 -- ---- each site of the catalogue has its place
 
-abbrev Places : Catalogue → Scene → Type 0
+abbrev pub Places : Catalogue → Scene → Type 0
 Places catalogue w = (q : ℕ) → Has (sites_of catalogue) q → (p : Place) × (place_of q w.places ≡ Some p)
 
 still_there : (s : ℕ) (f : Place → Place) (places : List Place) → ((p : Place) → (f p).id ≡ p.id) → (q : ℕ) → (p : Place) × (place_of q places ≡ Some p) → (p : Place) × (place_of q (change_place s f places) ≡ Some p)
@@ -51,7 +52,7 @@ starts_there : (catalogue : Catalogue) → Places catalogue (scene_of (start_wor
 unfolding start_world
 starts_there catalogue q h = first_there catalogue (sites_of catalogue) q h
 
-places_last : (catalogue : Catalogue) → Lasts catalogue (Places catalogue)
+pub places_last : (catalogue : Catalogue) → Lasts catalogue (Places catalogue)
 places_last catalogue = record {
   starts = starts_there catalogue;
   acts = λ w s x given up r h q k. still_there s (after_step (step catalogue x given)) w.places (λ p. refl) q (h q k);
@@ -63,23 +64,23 @@ places_last catalogue = record {
 
 module _ (catalogue : Catalogue) (ns : List ℕ) (journal : List Commit) where
   -- all hold one view of their own
-  record Joined (w : WorldState) : Type 0 where
-    view : View
-    base : Based catalogue ns journal w
-    all : (q : ℕ) → Has ns q → Has view.members q
-    among : (q : ℕ) → Has view.members q → Has ns q
-    holds : (q : ℕ) → Has ns q → Holds catalogue view q w
+  pub record Joined (w : WorldState) : Type 0 where
+    pub view : View
+    pub base : Based catalogue ns journal w
+    pub all : (q : ℕ) → Has ns q → Has view.members q
+    pub among : (q : ℕ) → Has view.members q → Has ns q
+    pub holds : (q : ℕ) → Has ns q → Holds catalogue view q w
 
-  joins : (first : ℕ) (rest : List ℕ) → ns ≡ first ∷ rest → ((q : ℕ) → Has ns q → Has (sites_of catalogue) q) → (w : WorldState) → Fit catalogue ns journal w → Can catalogue ns w Joined
+  pub joins : (first : ℕ) (rest : List ℕ) → ns ≡ first ∷ rest → ((q : ℕ) → Has ns q → Has (sites_of catalogue) q) → (w : WorldState) → Fit catalogue ns journal w → Can catalogue (calms ns) w Joined
   joins first rest is sub w f =
-      can_then catalogue ns (Started catalogue ns journal) Joined w (starts_all catalogue ns journal w f)
-      λ w1 s. can_then catalogue ns (λ new. (id : ViewId) × (r : ℕ) × Has ns r × Invited catalogue ns journal id r new) Joined w1 (invites_all catalogue ns journal w1 first rest is sub s)
-      λ w2 i. can_then catalogue ns _ Joined w2 (accepts_all catalogue ns journal i.0 i.1 i.2 w2 i.3)
-      λ w3 a. can_then catalogue ns (λ new. (v : View) × Fixed catalogue ns journal v i.1 new) Joined w3 (fixes_view catalogue ns journal i.0 i.1 w3 i.2 a.still (λ q h n. a.done q h n))
-      λ w4 v. can_then catalogue ns _ Joined w4 (joins_all catalogue ns journal v.0 i.1 i.2 w4 v.1)
-      λ w5 h. can_now catalogue ns Joined w5 (record { view = v.0; base = h.still.base; all = h.still.all; among = h.still.among; holds = h.done })
+      can_then catalogue (calms ns) (Started catalogue ns journal) Joined w (starts_all catalogue ns journal w f)
+      λ w1 s. can_then catalogue (calms ns) (λ new. (id : ViewId) × (r : ℕ) × Has ns r × Invited catalogue ns journal id r new) Joined w1 (invites_all catalogue ns journal w1 first rest is sub s)
+      λ w2 i. can_then catalogue (calms ns) _ Joined w2 (accepts_all catalogue ns journal i.0 i.1 i.2 w2 i.3)
+      λ w3 a. can_then catalogue (calms ns) (λ new. (v : View) × Fixed catalogue ns journal v i.1 new) Joined w3 (fixes_view catalogue ns journal i.0 i.1 w3 i.2 a.still (λ q h n. a.done q h n))
+      λ w4 v. can_then catalogue (calms ns) _ Joined w4 (joins_all catalogue ns journal v.0 i.1 i.2 w4 v.1)
+      λ w5 h. can_now catalogue (calms ns) Joined w5 (record { view = v.0; base = h.still.base; all = h.still.all; among = h.still.among; holds = h.done })
 
-  quiet_from : (w : WorldState) (j : Joined w) → InvOne (scene_of w) → Quiet catalogue ns journal j.view w
+  pub quiet_from : (w : WorldState) (j : Joined w) → InvOne (scene_of w) → Quiet catalogue ns journal j.view w
   quiet_from w j one = record {
     base = j.base;
     all = j.all;
@@ -104,7 +105,7 @@ none_listed : (rs : List Refreshing) → ((rec : ℕ) → refreshing_of rec rs �
 none_listed [] h = refl
 none_listed (r ∷ rs) h = absurd (let e = h r.rec in let t = eq_self r.rec in let z : refreshing_of r.rec (r ∷ rs) ≡ Some r = rw t refl in let y = sym z ∙ e in cc)
 
-same_has : (xs ys : List ℕ) → ((q : ℕ) → Has xs q → Has ys q) → ((q : ℕ) → Has ys q → Has xs q) → (q : ℕ) → has xs q ≡ has ys q
+pub same_has : (xs ys : List ℕ) → ((q : ℕ) → Has xs q → Has ys q) → ((q : ℕ) → Has ys q → Has xs q) → (q : ℕ) → has xs q ≡ has ys q
 same_has xs ys f g q = go (has xs q) (has ys q) refl refl
   where
     go : (a b : Bool) → has xs q ≡ a → has ys q ≡ b → a ≡ b
@@ -113,8 +114,12 @@ same_has xs ys f g q = go (has xs q) (has ys q) refl refl
     go true false p r = let z = has_test ys q (f q (has_from_test xs q p)) in let y = sym z ∙ r in cc
     go false true p r = let z = has_test xs q (g q (has_from_test ys q r)) in let y = sym z ∙ p in cc
 
-whole_from : (catalogue : Catalogue) (journal : List Commit) (v : View) (w : WorldState) → Ready catalogue (sites_of catalogue) journal v w → IsWhole catalogue w
-whole_from catalogue journal v w f =
+-- where no site is in doubt, every record is wanted
+abbrev every : ℕ → Bool
+every rec = true
+
+whole_from : (catalogue : Catalogue) (journal : List Commit) (v : View) (doubts : ℕ → List Doubt) (none : (q : ℕ) → Has (sites_of catalogue) q → doubts q ≡ []) (w : WorldState) → Ready catalogue (sites_of catalogue) journal v doubts every (λ q rec here want. ap (any_writes rec) (none q here)) w → IsWhole catalogue w
+whole_from catalogue journal v doubts none w f =
     let quiet = f.sure.quiet in
     record {
       view = v;
@@ -123,9 +128,9 @@ whole_from catalogue journal v w f =
       sites = λ q h.
           let here = has_from_test (sites_of catalogue) q h in
           let g = quiet.holds q here in
-          let doubts = f.sure.sure q g.at here g.up in
-          let refresh = none_listed g.at.refresh (λ rec. ap (λ (o : Option SiteState). refreshing_of rec (refresh_at o)) (sym g.up) ∙ f.fresh q here rec) in
-          (g.at, g.up, record { held = g.held; locks = no_locks catalogue g.at (quiet.base.known.guards.site q g.at g.up) g.live g.parts doubts refresh; refresh = refresh; live = g.live; parts = g.parts; doubts = doubts });
+          let no_doubts : g.at.doubts ≡ [] = ap doubts_at (sym g.up) ∙ f.sure.same q ∙ none q here in
+          let refresh = none_listed g.at.refresh (λ rec. ap (λ (o : Option SiteState). refreshing_of rec (refresh_at o)) (sym g.up) ∙ f.fresh q here rec refl) in
+          (g.at, g.up, record { held = g.held; locks = no_locks catalogue g.at (quiet.base.known.guards.site q g.at g.up) g.live g.parts no_doubts refresh; refresh = refresh; live = g.live; parts = g.parts; doubts = no_doubts });
     }
 
 -- ---- from every schedule
@@ -138,25 +143,28 @@ module _ (catalogue : Catalogue) (journal : List Commit) where
   abbrev ns : List ℕ
   ns = sites_of catalogue
 
-  sure_from : (v : View) (w : WorldState) → Quiet catalogue ns journal v w → ((q : ℕ) → Has ns q → (c : Doubt) → Has (doubts_at (site_of w q)) c → Has ns c.txn.site → ⊥) → Sure catalogue ns journal v w
-  sure_from v w f clear = record {
-    quiet = f;
-    sure = λ q x h up. empty_from x.doubts (λ c there. clear q h c (subst (λ (o : Option SiteState). Has (doubts_at o) c) (sym up) there) (coordinator_stands catalogue w f.base.known q x c up there));
-  }
+  -- each doubt is of a site of the catalogue, and of those there is none
+  no_doubt : (v : View) (w : WorldState) → Quiet catalogue ns journal v w → ((q : ℕ) → Has ns q → (c : Doubt) → Has (doubts_at (site_of w q)) c → Has ns c.txn.site → ⊥) → (q : ℕ) → Has ns q → doubts_at (site_of w q) ≡ []
+  no_doubt v w f clear q h =
+      let g = f.holds q h in
+      empty_from (doubts_at (site_of w q)) (λ c there. clear q h c there (coordinator_stands catalogue w f.base.known q g.at c g.up (subst (λ (o : Option SiteState). Has (doubts_at o) c) g.up there)))
 
-  mended : (first : ℕ) (rest : List ℕ) → ns ≡ first ∷ rest → (w : WorldState) → Fit catalogue ns journal w → With (Known catalogue) InvOne (scene_of w) → Can catalogue ns w (Mended catalogue journal)
+  mended : (first : ℕ) (rest : List ℕ) → ns ≡ first ∷ rest → (w : WorldState) → Fit catalogue ns journal w → With (Known catalogue) InvOne (scene_of w) → Can catalogue (calms ns) w (Mended catalogue journal)
   mended first rest is w f good =
-      can_then catalogue ns (λ new. Joined catalogue ns journal new × With (Known catalogue) InvOne (scene_of new)) (Mended catalogue journal) w
-      (can_with catalogue ns (With (Known catalogue) InvOne) (one_last catalogue) (Joined catalogue ns journal) w good (joins catalogue ns journal first rest is (λ q h. h) w f))
+      can_then catalogue (calms ns) (λ new. Joined catalogue ns journal new × With (Known catalogue) InvOne (scene_of new)) (Mended catalogue journal) w
+      (can_with catalogue (calms ns) (With (Known catalogue) InvOne) (one_last catalogue) (Joined catalogue ns journal) w good (joins catalogue ns journal first rest is (λ q h. h) w f))
       λ w1 j.
       let v = j.0.view in
-      can_then catalogue ns (λ new. Quiet catalogue ns journal v new × Fewer w1 new × ((q : ℕ) → Has ns q → (c : Doubt) → Has (doubts_at (site_of new q)) c → Has ns c.txn.site → ⊥)) (Mended catalogue journal) w1
+      can_then catalogue (calms ns) (λ new. Quiet catalogue ns journal v new × Fewer w1 new × ((q : ℕ) → Has ns q → (c : Doubt) → Has (doubts_at (site_of new q)) c → Has ns c.txn.site → ⊥)) (Mended catalogue journal) w1
       (ends_all catalogue ns journal v ns (λ q h. h) w1 (quiet_from catalogue ns journal w1 j.0 j.1.more))
-      λ w2 c. can_then catalogue ns (Ready catalogue ns journal v) (Mended catalogue journal) w2 (refreshes_all catalogue ns journal v w2 (sure_from v w2 c.0 c.2))
-      λ w3 g. can_now catalogue ns (Mended catalogue journal) w3 (record { whole = whole_from catalogue journal v w3 g; same = g.sure.quiet.base.same })
+      λ w2 c.
+      let doubts : ℕ → List Doubt = (λ k. doubts_at (site_of w2 k)) in
+      let none = no_doubt v w2 c.0 c.2 in
+      can_then catalogue (calms ns) (Ready catalogue ns journal v doubts every (λ q rec here want. ap (any_writes rec) (none q here))) (Mended catalogue journal) w2 (refreshes_all catalogue ns journal v doubts every (λ q rec here want. ap (any_writes rec) (none q here)) w2 (record { quiet = c.0; same = λ k. refl }))
+      λ w3 g. can_now catalogue (calms ns) (Mended catalogue journal) w3 (record { whole = whole_from catalogue journal v doubts none w3 g; same = g.sure.quiet.base.same })
 
-  mended_none : ns ≡ [] → (w : WorldState) → w.journal ≡ journal → Can catalogue ns w (Mended catalogue journal)
-  mended_none is w same = can_now catalogue ns (Mended catalogue journal) w (record {
+  mended_none : ns ≡ [] → (w : WorldState) → w.journal ≡ journal → Can catalogue (calms ns) w (Mended catalogue journal)
+  mended_none is w same = can_now catalogue (calms ns) (Mended catalogue journal) w (record {
     whole = record {
       view = record { id = opening; members = [] };
       members = λ q. ap (λ (ms : List ℕ). has ms q) (sym is);
@@ -169,10 +177,10 @@ module _ (catalogue : Catalogue) (journal : List Commit) where
       none : (q : ℕ) → has ns q ≡ true → ⊥
       none q p = has_none q (subst (λ (ms : List ℕ). Has ms q) is (has_from_test ns q p))
 
-can_mend : (s : Schedule) → AreUnspent (sites_of s.catalogue) (world_of s) → Can s.catalogue (sites_of s.catalogue) (world_of s) (Mended s.catalogue (world_of s).journal)
+can_mend : (s : Schedule) → AreUnspent (sites_of s.catalogue) (world_of s) → Can s.catalogue (calms (sites_of s.catalogue)) (world_of s) (Mended s.catalogue (world_of s).journal)
 can_mend s u = go (sites_of s.catalogue) refl
   where
-    go : (sites : List ℕ) → sites_of s.catalogue ≡ sites → Can s.catalogue (sites_of s.catalogue) (world_of s) (Mended s.catalogue (world_of s).journal)
+    go : (sites : List ℕ) → sites_of s.catalogue ≡ sites → Can s.catalogue (calms (sites_of s.catalogue)) (world_of s) (Mended s.catalogue (world_of s).journal)
     go [] is = mended_none s.catalogue (world_of s).journal is (world_of s) refl
     go (first ∷ rest) is =
         let good = in_last s.catalogue (With (Known s.catalogue) InvOne) (one_last s.catalogue) s.events in
@@ -181,13 +189,13 @@ can_mend s u = go (sites_of s.catalogue) refl
         good
 
 -- every schedule that spends no number can be mended
-pub mends : (s : Schedule) → AreUnspent (sites_of s.catalogue) (world_of s) → CanBeWhole s
-mends s u =
+pub can_be_whole : (s : Schedule) → AreUnspent (sites_of s.catalogue) (world_of s) → CanBeWhole s
+can_be_whole s u =
     let c = can_mend s u in
-    let is = world_goes_on s c.events (mending_flows_not s.catalogue (sites_of s.catalogue) c.events (world_of s) c.mending) in
+    let is = world_goes_on s c.events (passing_flows_not s.catalogue (calms (sites_of s.catalogue)) (λ w count. refl) c.events (world_of s) c.passing) in
     record {
       more = c.events;
-      mending = c.mending;
+      mending = each_mends s.catalogue (sites_of s.catalogue) c.events (world_of s) c.passing;
       whole = subst (IsWhole s.catalogue) (sym is) c.so.whole;
       journal = ap (λ (w : WorldState). w.journal) is ∙ c.so.same;
     }

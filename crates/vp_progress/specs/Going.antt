@@ -1,5 +1,5 @@
--- How a schedule goes on, and which events mend it.
-use Rattle.std.specs.Prelude.{◌≡◌, ⊤, ℕ, Bool, true, false, ◌&&◌, List, [], ◌∷◌, ◌++◌, Option, Some, None}
+-- How a schedule goes on, and which events mend it or serve a client.
+use Rattle.std.specs.Prelude.{◌≡◌, ⊤, ℕ, Bool, true, false, not, ◌==◌, ◌&&◌, List, [], ◌∷◌, ◌++◌, Option, Some, None}
 use Rattle.vp_model.specs.Types.{Sent, Call, Event}
 use Rattle.vp_model.specs.Types.call
 use Rattle.vp_model.specs.Types.event
@@ -15,7 +15,7 @@ goes_on s more = record s { events = s.events ++ more }
 abbrev pub world_after : Catalogue → List Event → WorldState → WorldState
 world_after catalogue events w = for_each events (λ e w. (next catalogue e w).world) w
 
--- each of these events passes the test, in the world in which it comes
+-- each of these events passes the test in the world in which it comes
 abbrev pub EachPasses : Catalogue → (WorldState → Event → Bool) → WorldState → List Event → Type 0
 EachPasses catalogue test w [] = ⊤
 EachPasses catalogue test w (e ∷ more) = (test w e ≡ true) × EachPasses catalogue test (next catalogue e w).world more
@@ -29,8 +29,8 @@ abbrev pub is_regroup : Call → Bool
 is_regroup call.Regroup = true
 is_regroup words = false
 
--- what mends these sites: a pair of them is joined, one starts again, one invites to a view, time passes at one, a message comes
--- from one to another. No crash, no cut, no call of a client, no probe, and nothing at another site
+-- what mends these sites: a pair of them is healed, one starts again, one invites to a view, one gets a tick, or a message from one to
+-- another is delivered; but no crash, no cut, no call of a client, no probe, and nothing at another site
 abbrev pub mends : List ℕ → WorldState → Event → Bool
 mends sites w (event.Heal a b) = has sites a && has sites b
 mends sites w (event.Restart site) = has sites site
@@ -38,3 +38,9 @@ mends sites w (event.Call site words) = has sites site && is_regroup words
 mends sites w (event.Tick site) = has sites site
 mends sites w (event.Deliver k) = is_within sites (message_at w k)
 mends sites w e = false
+
+-- what serves a client at a site: its calls there, and messages between these sites. Nothing mends, and nothing fails
+abbrev pub serves : ℕ → List ℕ → WorldState → Event → Bool
+serves q sites w (event.Call site words) = (site == q) && not (is_regroup words)
+serves q sites w (event.Deliver k) = is_within sites (message_at w k)
+serves q sites w e = false

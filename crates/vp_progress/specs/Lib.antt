@@ -1,4 +1,9 @@
 pub mod Going
 pub mod Whole
 pub mod Progress
+pub mod Clients
+pub mod Doubts
+pub mod Together
+pub mod Meeting
+pub mod Recovery
 pub mod Worked

@@ -17,7 +17,7 @@ pub record CanBeWhole (s : Schedule) : Type 0 where
   pub whole : IsWhole s.catalogue (world_of (goes_on s more))
   pub journal : journal_of (goes_on s more) ≡ journal_of s
 
--- Every schedule that spends no number can be mended, over whatever catalogue.
+-- Every schedule that spends no number can be mended, over any catalogue.
 abbrev pub SchedulesCanMend : Type 0
 SchedulesCanMend = (s : Schedule) → AreUnspent (sites_of s.catalogue) (world_of s) → CanBeWhole s
 

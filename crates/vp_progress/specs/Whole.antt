@@ -14,13 +14,13 @@ abbrev pub promised_number : Option Place → ℕ
 promised_number None = 0
 promised_number (Some place) = place.durable.promise.number
 
--- No number that mending needs at these sites is spent: of lives where a site is down, of views where one has promised or was told of one.
+-- No number that mending needs at these sites is spent: of lives where a site is down, of views that one has promised or has seen.
 pub record AreUnspent (ns : List ℕ) (w : WorldState) : Type 0 where
   pub lives : (q : ℕ) → has ns q ≡ true → site_of w q ≡ None → life_in (place_of q w.places) ≢ 2 ^ 32 - 1
   pub promised : (q : ℕ) → has ns q ≡ true → promised_number (place_of q w.places) < 2 ^ 64 - 1
   pub seen : (q : ℕ) (x : SiteState) → has ns q ≡ true → site_of w q ≡ Some x → x.seen < 2 ^ 64 - 1
 
--- It holds the view, and nothing is left over: no lock, no refresh, no live transaction, no part, no doubt.
+-- It holds the view, and nothing is left: no lock, no refresh, no live transaction, no part, no doubt.
 pub record IsAtRest (v : View) (x : SiteState) : Type 0 where
   pub held : x.held ≡ Some v
   pub locks : x.locks ≡ []

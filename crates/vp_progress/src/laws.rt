@@ -1,11 +1,34 @@
-//! A function that does nothing, with the law as its contract.
+//! Functions that do nothing, with the laws as their contracts.
 
 ghost use Rattle.vp_progress.specs.Progress.{SchedulesCanMend, ShortSchedulesCanMend};
+ghost use Rattle.vp_progress.specs.Clients.{WholeWorldsServe};
+ghost use Rattle.vp_progress.specs.Doubts.{DoubtsStay};
+ghost use Rattle.vp_progress.specs.Meeting.{SitesCanMeet};
+ghost use Rattle.vp_progress.specs.Together.{SitesServe};
 
 /// Every schedule that spends no number can go on, by events that mend, to a world in which every site is up in one view of all sites
-/// and at rest: no lock, no refresh, no transaction, no part and no doubt is left. The journal is as it was. A run of fewer than 2^32 - 2
-/// steps spends no number.
+/// and at rest: no lock, no refresh, no transaction, no part and no doubt is left. The journal stays as it was. A run of fewer than
+/// 2^32 - 2 steps spends no number.
 pub fn schedules_can_mend()
     ensures unspent { SchedulesCanMend }
     ensures short { ShortSchedulesCanMend }
+{}
+
+/// In a whole world a client at any site gets any list of at most 64 reads and writes committed: by its own calls and messages alone its
+/// transaction enters the journal, with just what was asked, and the world is whole again. So does a client of any sites that are together,
+/// for the records that are free there, whatever other sites do.
+pub fn clients_are_served()
+    ensures whole { WholeWorldsServe }
+    ensures together { SitesServe }
+{}
+
+/// What mends some sites ends no doubt of a coordinator outside: its records stay locked there until that site is heard.
+pub fn doubts_stay()
+    ensures { DoubtsStay }
+{}
+
+/// Any sites at which no number is spent can be brought together, by events that mend them alone, whatever the others do: nothing happens at
+/// another site, doubts of coordinators elsewhere stay, and there is no new one. The journal is as it was.
+pub fn sites_can_meet()
+    ensures { SitesCanMeet }
 {}

@@ -1,8 +1,8 @@
-//! No schedule is stuck: what has happened can be mended.
+//! No schedule is stuck: what has happened can be mended, and what is mended serves each client.
 #![tactic(auto)]
 
 mod laws;
 mod worked;
 
-pub use laws::schedules_can_mend;
-pub use worked::a_doubt_is_mended;
+pub use laws::{clients_are_served, doubts_stay, schedules_can_mend, sites_can_meet};
+pub use worked::{a_doubt_is_mended, three_recover};

@@ -1,4 +1,4 @@
--- Decisions each of which waits for some site, ascending by transaction, where one of them changes.
+-- Decisions that each wait for some site, ascending by transaction, of which one changes.
 use Rattle.std.proofs.Common.{◌≡◌, ◌∙◌, ℕ, Bool, true, false, not, cond, ◌&&◌, ◌||◌, ◌==◌, if◌then◌else◌, List, [], ◌∷◌, ◌++◌, Some, None, filter, find, map, ap, sym, subst, refl, arith}
 use Rattle.std.specs.Prelude.{Result, Ok, Err, OnOk, OnErr}
 use Rattle.std.specs.List.{AllByRecursion}
@@ -29,7 +29,7 @@ awaited_put d (e ∷ ds) a w = go (same_txn d.txn e.txn) (txn_before d.txn e.txn
     go false true r = (w, a)
     go false false r = (a.0, r)
 
--- where there was memory for it or not
+-- whether there was memory for it or not
 pub awaited_by : {R E : Type 0} (r : Result R E) (d : Decision) (old new : List Decision) → AreAwaited old → is_empty d.waiting ≡ false → OnOk r (new ≡ put_decision d old) → OnErr r (new ≡ old) → AreAwaited new
 awaited_by (Ok v) d old new a w ok err = subst AreAwaited (sym ok) (awaited_put d old a w)
 awaited_by (Err e) d old new a w ok err = subst AreAwaited (sym err) a
@@ -55,18 +55,18 @@ module _ (txn : TxnId) where
   abbrev same : Decision → Bool
   same d = same_txn d.txn txn
 
-  -- what keeps the place of a decision that is changed
+  -- what keeps the place of a decision while it is changed
   abbrev empty : Decision
   empty = record { txn = txn; waiting = [] }
 
-  -- the changed decision in its place, if it waits for some site
+  -- the changed decision in its place, if it still waits for some site
   abbrev placed : Decision → List Decision → List Decision
   placed d ds = if is_empty d.waiting then filter (λ (e : Decision). not (same_txn e.txn txn)) ds else change_first (λ (e : Decision). same_txn e.txn txn) (λ e. d) ds
 
   placed_after : (e d : Decision) (ds : List Decision) → same_txn e.txn txn ≡ false → e ∷ placed d ds ≡ placed d (e ∷ ds)
   placed_after e d ds s = grind (arith, nat_tests, s)
 
-  -- those after it are of other transactions
+  -- those after it are on other transactions
   abbrev AreOthers : List Decision → Type 0
   AreOthers ds = AllByRecursion (λ (d : Decision). same_txn d.txn txn ≡ false) ds
 
@@ -103,7 +103,7 @@ module _ (txn : TxnId) where
     others_unchanged [] o = refl
     others_unchanged (d ∷ ds) o = rw (o.0) (ap (λ es. d ∷ es) (others_unchanged ds o.1))
 
-    -- the first one is the transaction's
+    -- the first one is on the transaction
     first_acked : (e : Decision) (ds : List Decision) → AreOthers ds → AreAwaited ds → filter awaited (dropped e ∷ changed ds) ≡ placed (dropped e) (empty ∷ ds)
     first_acked e ds o a =
         ap (λ es. filter awaited (dropped e ∷ es)) (others_unchanged ds o)
@@ -138,7 +138,7 @@ module _ (txn : TxnId) where
     acked_none [] a f = refl
     acked_none (e ∷ ds) a f = let waits = a.0 in let rest = acked_none ds a.1 in grind (arith, nat_tests, waits, f, rest)
 
-    -- ---- whether one waits
+    -- ---- whether a decision waits for the site
 
     none_waits : (ds : List Decision) → AreOthers ds → waits_for txn site ds ≡ false
     none_waits [] o = refl

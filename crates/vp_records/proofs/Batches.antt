@@ -1,4 +1,4 @@
--- Batches are read exactly, and each has one spelling.
+-- Batches are read exactly, and each has only one encoding.
 use Rattle.std.proofs.Common.{◌≡◌, ℕ, ◌<◌, ◌-◌, ◌≤◌, List, [], ◌∷◌, ◌++◌, length, Result, Ok, Err, refl, sym, ◌∙◌, arith}
 use Rattle.vp_text.specs.Meaning.{IsRefused, Answers}
 use Rattle.vp_base.specs.declared.entry.LogRecord.{LogRecord}
@@ -31,7 +31,7 @@ decoded_same batch (Ok b) a h = one_batch b batch (batch_bytes batch) h (record 
 decoded_same batch (Err (faults.BadRecord at)) a h = absurd (h.none batch (record { is = refl; allowed = a }))
 decoded_same batch (Err faults.NoMemory) a h = refl
 
--- ---- the loop over records
+-- ---- the loop over log records
 
 abbrev pub BatchTurn : List LogRecord → List ℕ → Result (List LogRecord × List ℕ) ℕ → Type 0
 BatchTurn = Turn record_bytes IsLogRecord record_at

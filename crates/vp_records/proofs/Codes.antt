@@ -1,4 +1,4 @@
--- The codes of records: which kind each one is found by.
+-- The codes of log records: the kind that is found by each one.
 use Rattle.std.proofs.Common.{◌≡◌, ℕ, Some, refl}
 use Rattle.vp_bytes.proofs.Codes.{Codes, found_only}
 use Rattle.vp_records.specs.Kinds.{record_kinds, record_kind}

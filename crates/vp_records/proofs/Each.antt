@@ -1,5 +1,5 @@
--- Items one behind the other, up to the end of the bytes, are read exactly: where no list of them has these bytes, the place
--- is that of the fault in the item that can't be read.
+-- Items one after the other, up to the end of the bytes, are read exactly: where no list of items has these bytes, the place of the
+-- fault is that of the fault in the item that can't be read.
 use Rattle.std.proofs.Common.{◌≡◌, ℕ, zero, suc, ◌+◌, ◌-◌, ◌≤◌, ◌<◌, List, [], ◌∷◌, ◌++◌, length, take, Result, Ok, Err, refl, sym, ap, subst, ◌∙◌, append_assoc, arith, inl, inr}
 use Rattle.std.proofs.lemmas.List.{append-nil, length-append}
 use Rattle.std.proofs.lemmas.Bool.{cases_lt}
@@ -13,7 +13,7 @@ use Rattle.vp_bytes.specs.Fields.{Spelled}
 use Rattle.vp_bytes.proofs.Free.{IsFree}
 use Rattle.vp_records.specs.Reading.{each_at}
 
--- ---- plain facts
+-- ---- facts on lists
 
 goes_on : (r more : List ℕ) → Parts r (r ++ more) → ⊥
 goes_on [] more h = h
@@ -32,7 +32,7 @@ module _ {X : Type 0} (f : X → List ℕ) (F : X → Type 0) (item : List ℕ �
   abbrev pub Each : List X → List ℕ → Type 0
   Each = Spelled (flat_map f) (AllByRecursion F)
 
-  -- what the items have to be like
+  -- what must hold of the items
   pub record Items : Type 0 where
     pub exact : Exact (Spelled f F) item
     pub free : IsFree (Spelled f F)
@@ -41,7 +41,7 @@ module _ {X : Type 0} (f : X → List ℕ) (F : X → Type 0) (item : List ℕ �
   one : (x : X) → F x → Spelled f F x (f x)
   one x a = record { is = refl; allowed = a }
 
-  -- what begins with an item begins with no other one
+  -- bytes that begin with an item begin with no other item
   first_same : Items → (x y : X) (s t : List ℕ) → F x → F y → f x ++ s ≡ f y ++ t → (x ≡ y) × (s ≡ t)
   first_same w x y s t a b e =
       elim (cut (f x) s (f y) t e) [
@@ -54,7 +54,7 @@ module _ {X : Type 0} (f : X → List ℕ) (F : X → Type 0) (item : List ℕ �
         | inr k ↦ absurd (w.free y x (f y) k.0 k.1 (one y b) (record { is = sym k.2; allowed = a }))
       ]
 
-  -- a list is the only one with its bytes
+  -- only one list has its bytes
   pub one_list : Items → (xs ys : List X) → AllByRecursion F xs → AllByRecursion F ys → flat_map f xs ≡ flat_map f ys → xs ≡ ys
   one_list w [] [] a b e = refl
   one_list w [] (y ∷ ys) a b e = absurd (omega (arith, w.some y, ap length e, length-append (f y) (flat_map f ys)))
@@ -63,7 +63,7 @@ module _ {X : Type 0} (f : X → List ℕ) (F : X → Type 0) (item : List ℕ �
       let k = first_same w x y (flat_map f xs) (flat_map f ys) a.0 b.0 e in
       rw (k.0, one_list w xs ys a.1 b.1 k.1) refl
 
-  -- an item takes some bytes
+  -- an item has at least one byte
   pub shorter : Items → (bytes : List ℕ) (x : X) (mid : List ℕ) → item bytes ≡ Ok (x, mid) → length mid < length bytes
   shorter w bytes x mid h =
       let p = w.exact.ok bytes x mid h in
@@ -71,7 +71,8 @@ module _ {X : Type 0} (f : X → List ℕ) (F : X → Type 0) (item : List ℕ �
 
   -- ---- a fault
 
-  -- The bytes before the rest begin a list of items, no list of which goes on as the rest does; and the bytes are none.
+  -- The bytes before the rest begin a list of items, and no such list goes on as the rest does; and the bytes as a whole are no
+  -- list of items.
   pub record Stops (bytes : List ℕ) (left : ℕ) : Type 0 where
     pub front : List ℕ
     pub rest : List ℕ
@@ -81,7 +82,7 @@ module _ {X : Type 0} (f : X → List ℕ) (F : X → Type 0) (item : List ℕ �
     pub apart : (xs : List X) (r : List ℕ) → Each xs (front ++ r) → Apart r rest
     pub none : (xs : List X) → Each xs bytes → ⊥
 
-  -- more bytes than the front begin no list
+  -- no longer beginning of the bytes begins a list
   longest : (bytes : List ℕ) (left : ℕ) (p : Stops bytes left) (n : ℕ) → n ≤ length bytes → Begins Each (take n bytes) → n ≤ length p.front
   longest bytes left p n le b =
       elim (cases_lt (length p.front) n) [
@@ -160,7 +161,7 @@ module _ {X : Type 0} (f : X → List ℕ) (F : X → Type 0) (item : List ℕ �
 
   -- ---- the reader
 
-  -- what its answer says of the bytes
+  -- what the result says of the bytes
   pub record Judged (bytes : List ℕ) (answer : Result (List X × List ℕ) ℕ) : Type 0 where
     pub ok : (xs : List X) (rest : List ℕ) → answer ≡ Ok (xs, rest) → Each xs bytes
     pub err : (left : ℕ) → answer ≡ Err left → Stops bytes left
@@ -200,9 +201,9 @@ module _ {X : Type 0} (f : X → List ℕ) (F : X → Type 0) (item : List ℕ �
   each_judged w zero (c ∷ cs) le = absurd (omega (arith, le))
   each_judged w (suc fuel) (c ∷ cs) le = next_item w (c ∷ cs) (each_at item fuel) (omega arith) (λ mid lt. each_judged w fuel mid (omega (arith, le, lt)))
 
-  -- ---- the loop, a turn at a time
+  -- ---- the loop, one turn at a time
 
-  -- what was read, and what is still read with fuel enough
+  -- what was read, and what is still to be read, with fuel enough
   pub record Turn (front : List X) (bytes : List ℕ) (total : Result (List X × List ℕ) ℕ) : Type 0 where
     pub fuel : ℕ
     pub enough : length bytes ≤ fuel

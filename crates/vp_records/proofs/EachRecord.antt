@@ -1,4 +1,4 @@
--- The fields of a record are read exactly, by its kind.
+-- The fields of a log record are read exactly, by its kind.
 use Rattle.std.proofs.Common.{◌≡◌, ℕ, ◌<◌, ◌^◌, Bool, List, [], ◌∷◌, refl, sym, subst, arith}
 use Rattle.vp_text.proofs.Exact.{Exact, Made, made_exact, one_value}
 use Rattle.vp_base.specs.Words.{IsValue}
@@ -23,7 +23,7 @@ use Rattle.vp_bytes.specs.Doubts.{doubts_bytes, IsDoubts}
 use Rattle.vp_bytes.specs.Decisions.{decisions_bytes, IsDecisions}
 use Rattle.vp_records.specs.Reading.{fields_at}
 
--- the fields of a record of this kind
+-- the fields of a log record of this kind
 abbrev pub RecordOf : RecordKind → LogRecord → List ℕ → Type 0
 RecordOf kinds.Start = Made (Spelled (λ (life : ℕ). number_bytes 4 life) (λ (life : ℕ). life < 2 ^ 32)) (λ p. log_record.Start p)
 RecordOf kinds.Promise = Made (Spelled view_bytes IsView) (λ p. log_record.Promise p)
@@ -50,7 +50,7 @@ fields_exact kinds.Checkpoint =
     then_field (λ generation p. log_record.Checkpoint generation p.0 p.1.0 p.1.1.0 p.1.1.1.0 p.1.1.1.1) number8_free number8_exact (λ generation. then_field (λ life p. log_record.Checkpoint generation life p.0 p.1.0 p.1.1.0 p.1.1.1) number4_free number4_exact (λ life. then_field (λ promise p. log_record.Checkpoint generation life promise p.0 p.1.0 p.1.1) view_free view_exact (λ promise.
     then_field (λ copies p. log_record.Checkpoint generation life promise copies p.0 p.1) copies_free copies_exact (λ copies. then_field (λ doubts p. log_record.Checkpoint generation life promise copies doubts p) doubts_free doubts_exact (λ doubts. made_exact (λ decisions. log_record.Checkpoint generation life promise copies doubts decisions) decisions_exact)))))
 
--- no fields go on to others
+-- fields never go on to longer ones
 pub fields_free : (kind : RecordKind) → IsFree (RecordOf kind)
 fields_free kinds.Start = made_free number4_free
 fields_free kinds.Promise = made_free view_free
@@ -62,7 +62,7 @@ fields_free kinds.Acked = made_free (pair_free (one_value txn_exact) txn_free si
 fields_free kinds.Checkpoint =
     made_free (pair_free (one_value number8_exact) number8_free (pair_free (one_value number4_exact) number4_free (pair_free (one_value view_exact) view_free (pair_free (one_value copies_exact) copies_free (pair_free (one_value doubts_exact) doubts_free decisions_free)))))
 
--- The record is one of this kind, with these fields.
+-- The log record is one of this kind, with these fields.
 abbrev pub IsRecordOf : RecordKind → LogRecord → List ℕ → Type 0
 IsRecordOf kind r text = (record_code r ≡ kind_code kind) × (text ≡ record_fields r) × IsLogRecord r
 

@@ -1,4 +1,4 @@
--- No record of the log changes which records have a copy.
+-- No log record changes which records have a copy.
 use Rattle.std.proofs.Common.{◌≡◌, ◌∙◌, ap, sym, ℕ, Bool, true, false, cond, List, [], ◌∷◌, Option, Some, None, is_some, Bor, refl, arith}
 use Rattle.std.specs.Prelude.{◌==◌, option_copied, Result, Ok, Err, OnOk, OnErr}
 use Rattle.std.proofs.lemmas.Bool.{eqb-true}
@@ -41,7 +41,7 @@ applied_keys (log_record.Copy rec stored) d = replaced_keys rec stored d.copies
 applied_keys (log_record.Acked txn site) d = refl
 applied_keys (log_record.Checkpoint generation life promise copies doubts decisions) d = restored_keys copies d.copies
 
--- a call changes nothing, or leaves what has the same copies
+-- a call changes nothing, or leaves the same records with copies
 pub held_by : {T E : Type 0} (x d n : DurableState) (result : Result T E) → keys x.copies ≡ keys d.copies → OnOk result (n ≡ x) → OnErr result (n ≡ d) → keys n.copies ≡ keys d.copies
 held_by x d n (Ok t) same ok err = ap (λ (a : DurableState). keys a.copies) ok ∙ same
 held_by x d n (Err e) same ok err = ap (λ (a : DurableState). keys a.copies) err

@@ -1,4 +1,4 @@
--- The transaction after which no decision comes, and a decision behind them.
+-- A transaction after which no decision comes, and a decision that comes after that one.
 use Rattle.std.proofs.Common.{◌≡◌, true, false, List, [], ◌∷◌, ◌++◌, ap, refl, arith}
 use Rattle.std.proofs.lemmas.Bool.Decides.{nat_tests}
 use Rattle.vp_model.specs.Types.{TxnId, Decision}
@@ -6,7 +6,7 @@ use Rattle.vp_model.specs.Words.{same_txn, txn_before}
 use Rattle.vp_model.specs.Durable.{put_decision}
 use Rattle.vp_records.specs.Decided.{IsHighest}
 
--- transactions up to one that comes before another
+-- a transaction that is not after h isn't one that is after h
 no_same : (h t u : TxnId) → txn_before h t ≡ true → txn_before h u ≡ false → same_txn t u ≡ false
 no_same h t u b n = grind (arith, nat_tests, b, n)
 
@@ -16,7 +16,7 @@ not_before h t u b n = grind (arith, nat_tests, b, n)
 not_itself : (t : TxnId) → txn_before t t ≡ false
 not_itself t = grind (arith, nat_tests)
 
--- a decision behind the others
+-- a decision that comes after all others
 pub put_last : (h : TxnId) (d : Decision) (ds : List Decision) → IsHighest h ds → txn_before h d.txn ≡ true → put_decision d ds ≡ ds ++ d ∷ []
 put_last h d [] a b = refl
 put_last h d (e ∷ ds) a b = rw (no_same h d.txn e.txn b a.0, not_before h d.txn e.txn b a.0) (ap (λ es. e ∷ es) (put_last h d ds a.1 b))

@@ -1,4 +1,4 @@
--- Records are read exactly.
+-- Log records are read exactly.
 use Rattle.std.proofs.Common.{ℕ, List, [], ◌∷◌, ◌++◌, sym, ap, ◌∙◌}
 use Rattle.vp_text.proofs.Exact.{Exact, Then, exact_as}
 use Rattle.vp_base.specs.declared.entry.LogRecord.{LogRecord}
@@ -32,6 +32,6 @@ pub record_exact : Exact IsRecordBytes record_at
 unfolding record_at
 record_exact = exact_as record_to record_from (free_then (code_free kind_code record_kind) (code_exact kind_code record_kind kind_codes) fields_exact)
 
--- no record's spelling goes on to another one
+-- no log record's encoding goes on to a longer one
 pub record_free : IsFree IsRecordBytes
 record_free = free_as record_from (then_free {M = RecordOf} (code_one kind_code record_kind kind_codes) (code_free kind_code record_kind) fields_free)

@@ -1,4 +1,4 @@
--- Which record stands in a batch, by its code.
+-- The kinds of log records, by their codes.
 use Rattle.std.specs.Prelude.{ℕ, List, [], ◌∷◌, Option}
 use Rattle.vp_bytes.specs.Codes.{find_code}
 use Rattle.vp_records.specs.declared.kind.RecordKind.{RecordKind}

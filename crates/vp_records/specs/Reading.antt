@@ -1,4 +1,4 @@
--- Reading records from left to right, and batches up to the end of the bytes.
+-- Reading log records from left to right, and batches up to the end of the bytes.
 use Rattle.std.specs.Prelude.{ℕ, zero, suc, List, [], ◌∷◌, length, Result, Ok, Err}
 use Rattle.vp_text.specs.Reading.{◌>>=◌}
 use Rattle.vp_base.specs.declared.entry.LogRecord.{LogRecord}
@@ -12,7 +12,7 @@ use Rattle.vp_records.specs.Kinds.{record_kind}
 use Rattle.vp_records.specs.declared.kind.RecordKind.{RecordKind}
 use Rattle.vp_records.specs.declared.kind.RecordKind.TheVariants as kinds
 
--- the fields of a record of the kind
+-- the fields of a log record of the kind
 unfoldable pub fields_at : RecordKind → List ℕ → Result (LogRecord × List ℕ) ℕ
 fields_at kinds.Start bytes = do
   life ← u32_at bytes
@@ -53,13 +53,13 @@ fields_at kinds.Checkpoint bytes = do
   decisions ← decisions_at doubts.1
   Ok (log_record.Checkpoint generation.0 life.0 promise.0 copies.0 doubts.0 decisions.0, decisions.1)
 
--- a record: its code, and the fields of that kind
+-- a log record: its code, and the fields of that kind
 unfoldable pub record_at : List ℕ → Result (LogRecord × List ℕ) ℕ
 record_at bytes = do
   kind ← code_at record_kind bytes
   fields_at kind.0 kind.1
 
--- items up to the end of the bytes, of which each one has some
+-- items up to the end of the bytes, each of at least one byte
 unfoldable pub each_at : {X : Type 0} → (List ℕ → Result (X × List ℕ) ℕ) → ℕ → List ℕ → Result (List X × List ℕ) ℕ
 each_at item fuel [] = Ok ([], [])
 each_at item zero (c ∷ cs) = Err (length (c ∷ cs))

@@ -1,4 +1,4 @@
--- Records of the log: what bytes each one is.
+-- Log records: the bytes of each one.
 use Rattle.std.specs.Prelude.{ℕ, ◌<◌, ◌^◌, List, [], ◌∷◌, ◌++◌, length}
 use Rattle.vp_base.specs.Identifiers.{IsView, IsTxn}
 use Rattle.vp_base.specs.declared.entry.LogRecord.{LogRecord}
@@ -20,7 +20,7 @@ record_code (log_record.Copy rec stored) = 6
 record_code (log_record.Acked txn site) = 7
 record_code (log_record.Checkpoint generation life promise copies doubts decisions) = 8
 
--- the bytes behind it
+-- the bytes after it
 abbrev pub record_fields : LogRecord → List ℕ
 record_fields (log_record.Start life) = number_bytes 4 life
 record_fields (log_record.Promise view) = view_bytes view
@@ -35,7 +35,7 @@ record_fields (log_record.Checkpoint generation life promise copies doubts decis
 abbrev pub record_bytes : LogRecord → List ℕ
 record_bytes r = record_code r ∷ record_fields r
 
--- what values records have
+-- which values log records have
 abbrev pub IsLogRecord : LogRecord → Type 0
 IsLogRecord (log_record.Start life) = life < 2 ^ 32
 IsLogRecord (log_record.Promise view) = IsView view
@@ -47,7 +47,7 @@ IsLogRecord (log_record.Acked txn site) = IsTxn txn × IsSite site
 IsLogRecord (log_record.Checkpoint generation life promise copies doubts decisions) =
     (generation < 2 ^ 64) × (life < 2 ^ 32) × IsView promise × IsCopies copies × IsDoubts doubts × IsDecisions decisions
 
--- A checkpoint of this durable part has a spelling, where its lists fit into a memory.
+-- A checkpoint of this durable part has an encoding: its lists are short enough to be counted.
 pub record CanBeSaved (d : DurableState) : Type 0 where
   pub life : d.life < 2 ^ 32
   pub promise : IsView d.promise
@@ -55,6 +55,6 @@ pub record CanBeSaved (d : DurableState) : Type 0 where
   pub doubts : length d.doubts < 2 ^ 64 → IsDoubts d.doubts
   pub decisions : length d.decisions < 2 ^ 64 → IsDecisions d.decisions
 
--- The bytes are the spelling of the record.
+-- The bytes are the encoding of the log record.
 abbrev pub IsRecordBytes : LogRecord → List ℕ → Type 0
 IsRecordBytes = Spelled record_bytes IsLogRecord

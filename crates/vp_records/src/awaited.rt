@@ -1,4 +1,4 @@
-//! Decisions in a table, each of which waits for some site.
+//! Decisions in a table, each of which waits for at least one site.
 
 ghost use Rattle.std.specs.Prelude.{◌≡◌, ◌&&◌, IfOk, IfSome, not};
 ghost use Rattle.vp_model.specs.Answers.{waits_for};
@@ -12,7 +12,7 @@ use vp_base::{CopyOf, Decision, NoMemory, SiteId, Sites, TxnId};
 use vp_lists::txn_comes_before;
 use vp_tables::Table;
 
-/// A transaction after which all others come.
+/// A transaction that comes before all others.
 fn lowest() -> TxnId {
     TxnId {
         site: SiteId::of(1),
@@ -21,14 +21,14 @@ fn lowest() -> TxnId {
     }
 }
 
-/// Whether the decision waits for some site and comes after this transaction.
+/// Whether the decision waits for some site and its transaction comes after `highest`.
 fn follows(highest: &TxnId, decision: &Decision) -> bool
     ensures { result ≡ (not (is_empty decision.now.waiting) && txn_before highest.now decision.now.txn) }
 {
     is_awaited(decision) && txn_comes_before(highest, &decision.txn)
 }
 
-/// Copies of the decisions in a table, where each waits for some site and comes after those before it.
+/// Copies the decisions to a table; `None` unless each waits for some site and comes after the ones before it.
 pub(crate) fn table_of(
     alloc: Global,
     decisions: &[Decision],
@@ -58,7 +58,7 @@ pub(crate) fn waits_for(table: &Table<Decision>, txn: &TxnId, site: SiteId) -> b
     }
 }
 
-/// The decision goes back into its place, which one of its transaction has kept for it, if it waits for a site.
+/// Replaces the decision on the same transaction by this one, or removes that one where this one waits for no site.
 fn put_back(table: &mut Table<Decision>, decision: Decision)
     ensures { table.new ≡ with_changed decision table.old }
 {
@@ -69,7 +69,7 @@ fn put_back(table: &mut Table<Decision>, decision: Decision)
     }
 }
 
-/// The site has acknowledged the transaction's decision. One that waits for no site goes.
+/// Notes that the site has acknowledged the decision on the transaction. A decision that waits for no site any more is removed.
 pub(crate) fn acknowledge(table: &mut Table<Decision>, txn: &TxnId, site: SiteId)
     requires { AreAwaited table.old }
     ensures { table.new ≡ acknowledged txn.now site table.old }

@@ -1,4 +1,4 @@
-//! The decisions that some site has not acknowledged.
+//! Decisions that some site has not acknowledged.
 
 ghost use Rattle.std.specs.Prelude.{◌≡◌, [], IfOk, OnOk, OnErr};
 ghost use Rattle.vp_model.specs.Answers.{is_decided, waits_for};
@@ -10,15 +10,15 @@ use std::marker::Model;
 use vp_base::{CopyOf, Decision, Decisions, NoMemory, SiteId, Sites, TxnId};
 use vp_tables::Table;
 
-/// Where the decisions are.
+/// How the decisions are kept.
 #[derive(Drop)]
 enum Form {
     ByTxn(Table<Decision>),
     Listed(Decisions),
 }
 
-/// Decisions, as a list. Where each comes after those before it and waits for some site, as log records make them, a table has them,
-/// in which one is found without a walk over the others. A checkpoint may hold any list, which is kept as it is.
+/// Decisions, as a list. Where each comes after those before it and waits for some site, as log records make them, they are in a
+/// table, in which one is found without a walk over the others. A checkpoint may hold any list; that is kept as it is.
 pub struct Decided {
     form: Form,
 }
@@ -52,7 +52,7 @@ impl CopyOf for Decided {
 }
 
 impl Decided {
-    /// No decisions. It takes no memory.
+    /// No decisions. Takes no memory.
     pub fn new(alloc: Global) -> Decided
         ensures { result ≡ [] }
     {
@@ -61,7 +61,7 @@ impl Decided {
         }
     }
 
-    /// These decisions, as the list that they are. It takes no memory.
+    /// The decisions of this list, kept as it is. Takes no memory.
     pub fn listed(items: Decisions) -> Decided
         ensures { result ≡ items }
     {
@@ -70,7 +70,7 @@ impl Decided {
         }
     }
 
-    /// Copies of these decisions, which are found by their transactions where that can be.
+    /// Copies of these decisions, in a table where that can be.
     pub fn copied(items: &Decisions) -> Result<Decided, NoMemory>
         ensures { IfOk result (λ d. d ≡ items.now) }
     {
@@ -81,7 +81,7 @@ impl Decided {
         Ok(Decided { form })
     }
 
-    /// Copies of the decisions, as a list.
+    /// Copies the decisions to a list.
     pub fn list(&self) -> Result<Decisions, NoMemory>
         ensures { IfOk result (λ list. list ≡ self.now) }
     {
@@ -111,7 +111,8 @@ impl Decided {
         }
     }
 
-    /// The decision on the transaction is kept while a site is waited for. Without memory the decisions stay as they are.
+    /// Keeps the decision on the transaction until each of the sites has acknowledged it; where there are none, keeps nothing.
+    /// Where memory is lacking, the decisions stay as they are.
     pub fn keep(&mut self, txn: &TxnId, waiting: Sites) -> Result<(), NoMemory>
         ensures ok { OnOk result (self.new ≡ with_decision txn.now waiting self.old) }
         ensures err { OnErr result (self.new ≡ self.old) }
@@ -126,7 +127,7 @@ impl Decided {
         }
     }
 
-    /// The site has acknowledged the transaction's decision. One that waits for no site goes.
+    /// Notes that the site has acknowledged the decision on the transaction. A decision that waits for no site any more is removed.
     pub fn acknowledge(&mut self, txn: &TxnId, site: SiteId)
         ensures { self.new ≡ acknowledged txn.now site self.old }
     {

@@ -20,7 +20,7 @@ pub(crate) fn waits_for_site(decision: &Decision, site: SiteId) -> bool
     decision.waiting.as_slice().contains(&site)
 }
 
-/// The site is waited for no longer.
+/// Removes the site from those that are waited for.
 pub(crate) fn drop_site(sites: &mut Sites, site: SiteId)
     ensures { sites.new ≡ filter (λ q. not (q == site)) sites.old }
 {

@@ -7,7 +7,8 @@ use std::mem;
 use vp_base::{CopyOf, Doubt, InDoubt, NoMemory, TxnId, ViewId, Writes};
 use vp_lists::{is_same_txn, put};
 
-/// The doubt takes its place, where one of the same transaction goes. Without memory the doubts stay as they are.
+/// Puts the doubt in its place, where it replaces one of the same transaction. Where memory is lacking, the doubts stay as they
+/// are.
 pub fn keep_doubt(
     doubts: &mut InDoubt,
     txn: &TxnId,
@@ -29,7 +30,7 @@ pub fn keep_doubt(
     done
 }
 
-/// The transaction is no longer in doubt.
+/// Removes the transaction from those in doubt.
 pub fn drop_doubt(doubts: &mut InDoubt, txn: &TxnId)
     ensures { doubts.new ≡ without_doubt txn.now doubts.old }
 {

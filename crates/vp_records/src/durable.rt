@@ -17,8 +17,8 @@ use vp_base::{
 };
 use vp_lists::{copy_all, find_txn, replace_at, value_at, write_copies};
 
-/// What a site has after a crash: its promise, its life, its copies, the transactions in doubt, and the decisions that
-/// some site has not acknowledged.
+/// What a site still has after a crash: its promise, its life, its copies, the transactions in doubt, and the decisions that some
+/// site has not acknowledged.
 pub struct Durable {
     promise: ViewId,
     life: u32,
@@ -60,7 +60,7 @@ impl CopyOf for Durable {
 }
 
 impl Durable {
-    /// The durable part of a site that never ran, with these copies. It takes no memory.
+    /// The durable part of a site that never ran, with these copies. Takes no memory.
     pub fn empty(copies: Copies) -> Durable
         ensures { result ≡ empty_durable copies }
     {
@@ -74,7 +74,7 @@ impl Durable {
         }
     }
 
-    /// The durable part of these.
+    /// Makes a durable part of these. Takes no memory.
     pub fn new(
         promise: ViewId,
         life: u32,
@@ -93,7 +93,7 @@ impl Durable {
         }
     }
 
-    /// The copies alone.
+    /// Gives the copies, and drops the rest.
     pub fn into_copies(self) -> Copies
         ensures { result ≡ self.copies }
     {
@@ -107,21 +107,21 @@ impl Durable {
         Copies::from_vec(copies)
     }
 
-    /// The highest view that the site has promised to.
+    /// The highest identifier of a view that the site has accepted or made.
     pub fn promise(&self) -> ViewId
         ensures { result ≡ self.now.promise }
     {
         self.promise
     }
 
-    /// The number of the site's last life, 0 where it never ran.
+    /// The number of the site's latest life; 0 where it never ran.
     pub fn life(&self) -> u32
         ensures { result ≡ self.now.life }
     {
         self.life
     }
 
-    /// The copy of the record; none exactly where the site has no copy of it.
+    /// Its copy of the record, or `None` where it has no copy.
     #[tactic(auto, using(crate::proofs::Held::found_there))]
     pub fn stored(&self, rec: RecId) -> Option<&Stored>
         ensures copy { option_copied result ≡ value_at rec self.now.copies }
@@ -130,7 +130,7 @@ impl Durable {
         value_at(&self.copies, rec)
     }
 
-    /// The transactions that the site voted yes on and knows no outcome of.
+    /// The transactions that the site voted yes on and whose outcome it doesn't know, ascending.
     pub fn doubts(&self) -> &InDoubt
         ensures { result.now ≡ self.now.doubts }
     {
@@ -144,7 +144,7 @@ impl Durable {
         &self.decisions
     }
 
-    /// The record that saves all of it.
+    /// Makes the log record that saves all of it. `generation` is the number of the checkpoint, from 1.
     pub fn checkpoint(&self, generation: u64) -> Result<LogRecord, NoMemory>
         ensures record { IfOk result (λ r. r ≡ log_record.Checkpoint generation self.now.life self.now.promise self.now.copies self.now.doubts self.now.decisions) }
         ensures spelled { CanBeSaved self.now → IfOk result IsLogRecord }
@@ -177,7 +177,7 @@ impl Durable {
         self.promise = view;
     }
 
-    /// The site voted yes.
+    /// Adds the transaction to those in doubt.
     #[tactic(auto, unfolding(vp_model::specs::Durable::apply))]
     fn vote(&mut self, txn: &TxnId, view: &ViewId, writes: &Writes) -> Result<(), NoMemory>
         ensures ok { OnOk result (self.new ≡ apply (log_record.Yes txn.now view.now writes.now) self.old) }
@@ -186,26 +186,38 @@ impl Durable {
         keep_doubt(&mut self.doubts, txn, view, writes)
     }
 
-    /// What the transaction in doubt writes becomes copies, with its view as their date.
-    fn write_doubt(&mut self, txn: &TxnId)
-        ensures { self.new ≡ record self.old { copies = with_outcome (doubt_of txn.now self.old.doubts) true self.old.copies } }
+    /// The copies as a list of its own, which is changed and then takes their place: so nothing is half done without memory.
+    fn own_copies(&self) -> Result<Vec<(RecId, Stored)>, NoMemory>
+        ensures { IfOk result (λ copies. copies.items ≡ self.now.copies) }
     {
-        let doubt = find_txn(self.doubts.as_slice(), txn);
-        commit_doubt(&mut self.copies, doubt);
+        copy_all(*self.copies.allocator(), &self.copies)
     }
 
-    /// The doubt ends: only a commit makes its writes copies.
+    /// Makes the writes of the transaction in doubt the copies, with its view as their date.
+    fn write_doubt(&mut self, txn: &TxnId) -> Result<(), NoMemory>
+        ensures ok { OnOk result (self.new ≡ record self.old { copies = with_outcome (doubt_of txn.now self.old.doubts) true self.old.copies }) }
+        ensures err { OnErr result (self.new ≡ self.old) }
+    {
+        let mut copies = self.own_copies()?;
+        commit_doubt(&mut copies, find_txn(self.doubts.as_slice(), txn))?;
+        self.copies = copies;
+        Ok(())
+    }
+
+    /// Ends the doubt; where the outcome is commit, the writes become the copies.
     #[tactic(auto, unfolding(vp_model::specs::Durable::apply))]
-    fn end_doubt(&mut self, txn: &TxnId, commit: bool)
-        ensures { self.new ≡ apply (log_record.Outcome txn.now commit) self.old }
+    fn end_doubt(&mut self, txn: &TxnId, commit: bool) -> Result<(), NoMemory>
+        ensures ok { OnOk result (self.new ≡ apply (log_record.Outcome txn.now commit) self.old) }
+        ensures err { OnErr result (self.new ≡ self.old) }
     {
         if commit {
-            self.write_doubt(txn);
+            self.write_doubt(txn)?;
         }
         drop_doubt(&mut self.doubts, txn);
+        Ok(())
     }
 
-    /// The decision on the transaction is kept while a site is waited for.
+    /// Keeps the decision on the transaction until each of the sites has acknowledged it.
     fn keep(&mut self, txn: &TxnId, waiting: &Sites) -> Result<(), NoMemory>
         ensures ok { OnOk result (self.new ≡ record self.old { decisions = with_decision txn.now waiting.now self.old.decisions }) }
         ensures err { OnErr result (self.new ≡ self.old) }
@@ -213,7 +225,7 @@ impl Durable {
         self.decisions.keep(txn, waiting.copy_of()?)
     }
 
-    /// The site committed a transaction of its own.
+    /// Makes the writes of a transaction that the site committed its copies, and keeps the decision.
     #[tactic(auto, unfolding(vp_model::specs::Durable::apply))]
     fn commit(
         &mut self,
@@ -225,16 +237,22 @@ impl Durable {
         ensures ok { OnOk result (self.new ≡ apply (log_record.Commit txn.now view.now writes.now waiting.now) self.old) }
         ensures err { OnErr result (self.new ≡ self.old) }
     {
+        let mut copies = self.own_copies()?;
+        write_copies(&mut copies, view, writes.as_slice())?;
         self.keep(txn, waiting)?;
-        write_copies(&mut self.copies, view, writes.as_slice());
+        self.copies = copies;
         Ok(())
     }
 
     #[tactic(auto, unfolding(vp_model::specs::Durable::apply))]
-    fn set_copy(&mut self, rec: RecId, stored: &Stored)
-        ensures { self.new ≡ apply (log_record.Copy rec stored.now) self.old }
+    fn set_copy(&mut self, rec: RecId, stored: &Stored) -> Result<(), NoMemory>
+        ensures ok { OnOk result (self.new ≡ apply (log_record.Copy rec stored.now) self.old) }
+        ensures err { OnErr result (self.new ≡ self.old) }
     {
-        replace_at(&mut self.copies, rec, stored);
+        let mut copies = self.own_copies()?;
+        replace_at(&mut copies, rec, stored)?;
+        self.copies = copies;
+        Ok(())
     }
 
     #[tactic(auto, unfolding(vp_model::specs::Durable::apply))]
@@ -244,7 +262,7 @@ impl Durable {
         self.decisions.acknowledge(txn, site);
     }
 
-    /// All is as it was saved, but for the copies that were not.
+    /// Restores everything as it was saved, except copies that were not saved.
     fn restore(
         &mut self,
         life: u32,
@@ -262,16 +280,18 @@ impl Durable {
         }) }
         ensures err { OnErr result (self.new ≡ self.old) }
     {
+        let mut restored = self.own_copies()?;
+        restore(&mut restored, copies.as_slice())?;
         let doubts = doubts.copy_of()?;
         self.decisions = Decided::copied(decisions)?;
+        self.copies = restored;
         self.doubts = doubts;
         self.promise = *promise;
         self.life = life;
-        restore(&mut self.copies, copies.as_slice());
         Ok(())
     }
 
-    /// What one record of the log does. Without memory nothing changes.
+    /// Does what one log record says. Where memory is lacking, nothing changes.
     #[tactic(auto, unfolding(vp_model::specs::Durable::apply))]
     pub fn apply(&mut self, entry: &LogRecord) -> Result<(), NoMemory>
         ensures applied { OnOk result (self.new ≡ apply entry.now self.old) }
@@ -288,20 +308,14 @@ impl Durable {
                 Ok(())
             }
             LogRecord::Yes { txn, view, writes } => self.vote(txn, view, writes),
-            LogRecord::Outcome { txn, commit } => {
-                self.end_doubt(txn, *commit);
-                Ok(())
-            }
+            LogRecord::Outcome { txn, commit } => self.end_doubt(txn, *commit),
             LogRecord::Commit {
                 txn,
                 view,
                 writes,
                 waiting,
             } => self.commit(txn, view, writes, waiting),
-            LogRecord::Copy { rec, stored } => {
-                self.set_copy(*rec, stored);
-                Ok(())
-            }
+            LogRecord::Copy { rec, stored } => self.set_copy(*rec, stored),
             LogRecord::Acked { txn, site } => {
                 self.acknowledge(txn, *site);
                 Ok(())
@@ -317,7 +331,7 @@ impl Durable {
         }
     }
 
-    /// What the records of a batch do, one behind another.
+    /// Does what the log records say, in their order. After want of memory the first ones are done, and no other.
     pub fn apply_all(&mut self, records: &[LogRecord]) -> Result<(), NoMemory>
         ensures applied { OnOk result (self.new ≡ apply_all records.now self.old) }
         ensures some { OnErr result (AppliesSome records.now self.old self.new) }

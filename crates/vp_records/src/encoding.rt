@@ -17,7 +17,7 @@ use vp_bytes::{
     put_txn, put_u32, put_u64, put_view,
 };
 
-/// Appends the one spelling of the batch. Without memory it has appended a beginning of it, and changed nothing else.
+/// Appends the batch in its only encoding. After want of memory a beginning of it has been appended, and nothing else changed.
 #[tactic(auto, using(vp_bytes::proofs::Writing::writing))]
 pub fn encode_batch(batch: &Batch, out: &mut Vec<u8>) -> Result<(), NoMemory>
     requires { IsBatch batch.now }
@@ -116,7 +116,7 @@ fn put_acked(out: &mut Vec<u8>, txn: &TxnId, site: SiteId) -> Result<(), NoMemor
     put_byte(out, site.get())
 }
 
-/// What a checkpoint has behind its promise.
+/// Appends what a checkpoint has after its promise.
 #[tactic(auto, using(vp_bytes::proofs::Writing::writing))]
 fn put_saved(
     out: &mut Vec<u8>,

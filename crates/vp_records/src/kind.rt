@@ -1,10 +1,10 @@
-//! Which record stands in a batch.
+//! The kinds of log records.
 
 ghost use Rattle.vp_records.specs.Kinds.{record_kind};
 
 use vp_bytes::Coded;
 
-/// Which record.
+/// A kind of log record. What each says is at the variant of `LogRecord` with its name.
 #[derive(Clone, Copy, Drop)]
 pub enum RecordKind {
     Start,

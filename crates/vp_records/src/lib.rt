@@ -1,7 +1,7 @@
-//! The durable part of a site: what its log records make of the catalogue's copies.
+//! The durable part of a site: what its log records make of the copies that the catalogue starts with.
 //!
-//! A record of the log is applied by one call, which does all that the record says, or finds no memory and does nothing.
-//! What it needs memory for is made before anything changes, and then goes to its place in the lists, which grow where they are.
+//! A call applies one log record: it does all that the record says, or lacks memory and does nothing. Whatever needs memory is made
+//! before anything changes, and then goes to its place in the lists, which grow in place.
 #![tactic(auto)]
 
 mod awaited;

@@ -1,4 +1,4 @@
-//! Decisions in any list, which are sought one by one.
+//! Decisions in any list, in which one is sought by a walk.
 
 ghost use Rattle.std.specs.Prelude.{◌≡◌, ◌==◌, ◌&&◌, OnOk, OnErr, filter, map, not, if◌then◌else◌};
 ghost use Rattle.vp_base.specs.declared.entry.Decision.{Decision};
@@ -11,7 +11,8 @@ use std::mem;
 use vp_base::{Decision, Decisions, NoMemory, SiteId, TxnId};
 use vp_lists::{OfTxn, put};
 
-/// The decision takes its place, where one of the same transaction goes. Without memory the decisions stay as they are.
+/// Puts the decision in its place, where it replaces one of the same transaction. Where memory is lacking, the decisions stay as
+/// they are.
 pub(crate) fn put_among(decisions: &mut Decisions, decision: Decision) -> Result<(), NoMemory>
     ensures ok { OnOk result (decisions.new ≡ put_decision decision decisions.old) }
     ensures err { OnErr result (decisions.new ≡ decisions.old) }
@@ -66,7 +67,7 @@ fn drop_ended(decisions: &mut Vec<Decision>)
     decisions.retain(|decision| is_awaited(decision));
 }
 
-/// The site has acknowledged the transaction's decision. One that waits for no site goes.
+/// Notes that the site has acknowledged the decision on the transaction. Decisions that wait for no site any more are removed.
 pub(crate) fn acknowledge(decisions: &mut Decisions, txn: &TxnId, site: SiteId)
     ensures { decisions.new ≡ acknowledged txn.now site decisions.old }
 {

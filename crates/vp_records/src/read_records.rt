@@ -1,4 +1,4 @@
-//! Reading the fields of records.
+//! Reading the fields of log records.
 
 ghost use Rattle.vp_text.specs.Reading.{Tries};
 ghost use Rattle.vp_base.specs.Faults.{line_left};
@@ -9,14 +9,14 @@ use crate::kind::RecordKind;
 use std::alloc::Global;
 use vp_base::{LineFault, LogRecord, Stored};
 use vp_bytes::{
-    take_copies, take_decisions, take_doubts, take_outcome, take_rec, take_site, take_sites,
-    take_txn, take_u32, take_u64, take_value, take_view, take_writes,
+    read_copies, read_decisions, read_doubts, read_outcome, read_rec, read_site, read_sites,
+    read_txn, read_u32, read_u64, read_value, read_view, read_writes,
 };
 use vp_text::Cursor;
 
-/// Takes the fields of a record of this kind.
+/// Reads the fields of a log record of this kind.
 #[tactic(auto, unfolding(crate::specs::Reading::fields_at))]
-pub fn take_fields(
+pub fn read_fields(
     alloc: Global,
     cursor: &mut Cursor,
     kind: RecordKind,
@@ -24,60 +24,60 @@ pub fn take_fields(
     ensures { Tries (λ r. r) line_left result cursor.new (fields_at kind cursor.old) }
 {
     match kind {
-        RecordKind::Start => take_start(cursor),
-        RecordKind::Promise => take_promise(cursor),
-        RecordKind::Yes => take_yes(alloc, cursor),
-        RecordKind::Outcome => take_end(cursor),
-        RecordKind::Commit => take_commit(alloc, cursor),
-        RecordKind::Copy => take_copy(alloc, cursor),
-        RecordKind::Acked => take_acked(cursor),
-        RecordKind::Checkpoint => take_checkpoint(alloc, cursor),
+        RecordKind::Start => read_start(cursor),
+        RecordKind::Promise => read_promise(cursor),
+        RecordKind::Yes => read_yes(alloc, cursor),
+        RecordKind::Outcome => read_end(cursor),
+        RecordKind::Commit => read_commit(alloc, cursor),
+        RecordKind::Copy => read_copy(alloc, cursor),
+        RecordKind::Acked => read_acked(cursor),
+        RecordKind::Checkpoint => read_checkpoint(alloc, cursor),
     }
 }
 
 #[tactic(auto, unfolding(crate::specs::Reading::fields_at))]
-fn take_start(cursor: &mut Cursor) -> Result<LogRecord, LineFault>
+fn read_start(cursor: &mut Cursor) -> Result<LogRecord, LineFault>
     ensures { Tries (λ r. r) line_left result cursor.new (fields_at kinds.Start cursor.old) }
 {
-    let life = take_u32(cursor)?;
+    let life = read_u32(cursor)?;
     Ok(LogRecord::Start { life })
 }
 
 #[tactic(auto, unfolding(crate::specs::Reading::fields_at))]
-fn take_promise(cursor: &mut Cursor) -> Result<LogRecord, LineFault>
+fn read_promise(cursor: &mut Cursor) -> Result<LogRecord, LineFault>
     ensures { Tries (λ r. r) line_left result cursor.new (fields_at kinds.Promise cursor.old) }
 {
-    let view = take_view(cursor)?;
+    let view = read_view(cursor)?;
     Ok(LogRecord::Promise { view })
 }
 
 #[tactic(auto, unfolding(crate::specs::Reading::fields_at))]
-fn take_yes(alloc: Global, cursor: &mut Cursor) -> Result<LogRecord, LineFault>
+fn read_yes(alloc: Global, cursor: &mut Cursor) -> Result<LogRecord, LineFault>
     ensures { Tries (λ r. r) line_left result cursor.new (fields_at kinds.Yes cursor.old) }
 {
-    let txn = take_txn(cursor)?;
-    let view = take_view(cursor)?;
-    let writes = take_writes(alloc, cursor)?;
+    let txn = read_txn(cursor)?;
+    let view = read_view(cursor)?;
+    let writes = read_writes(alloc, cursor)?;
     Ok(LogRecord::Yes { txn, view, writes })
 }
 
 #[tactic(auto, unfolding(crate::specs::Reading::fields_at))]
-fn take_end(cursor: &mut Cursor) -> Result<LogRecord, LineFault>
+fn read_end(cursor: &mut Cursor) -> Result<LogRecord, LineFault>
     ensures { Tries (λ r. r) line_left result cursor.new (fields_at kinds.Outcome cursor.old) }
 {
-    let txn = take_txn(cursor)?;
-    let commit = take_outcome(cursor)?;
+    let txn = read_txn(cursor)?;
+    let commit = read_outcome(cursor)?;
     Ok(LogRecord::Outcome { txn, commit })
 }
 
 #[tactic(auto, unfolding(crate::specs::Reading::fields_at))]
-fn take_commit(alloc: Global, cursor: &mut Cursor) -> Result<LogRecord, LineFault>
+fn read_commit(alloc: Global, cursor: &mut Cursor) -> Result<LogRecord, LineFault>
     ensures { Tries (λ r. r) line_left result cursor.new (fields_at kinds.Commit cursor.old) }
 {
-    let txn = take_txn(cursor)?;
-    let view = take_view(cursor)?;
-    let writes = take_writes(alloc, cursor)?;
-    let waiting = take_sites(alloc, cursor, 0)?;
+    let txn = read_txn(cursor)?;
+    let view = read_view(cursor)?;
+    let writes = read_writes(alloc, cursor)?;
+    let waiting = read_sites(alloc, cursor, 0)?;
     Ok(LogRecord::Commit {
         txn,
         view,
@@ -87,12 +87,12 @@ fn take_commit(alloc: Global, cursor: &mut Cursor) -> Result<LogRecord, LineFaul
 }
 
 #[tactic(auto, unfolding(crate::specs::Reading::fields_at))]
-fn take_copy(alloc: Global, cursor: &mut Cursor) -> Result<LogRecord, LineFault>
+fn read_copy(alloc: Global, cursor: &mut Cursor) -> Result<LogRecord, LineFault>
     ensures { Tries (λ r. r) line_left result cursor.new (fields_at kinds.Copy cursor.old) }
 {
-    let rec = take_rec(cursor)?;
-    let value = take_value(alloc, cursor)?;
-    let date = take_view(cursor)?;
+    let rec = read_rec(cursor)?;
+    let value = read_value(alloc, cursor)?;
+    let date = read_view(cursor)?;
     Ok(LogRecord::Copy {
         rec,
         stored: Stored { value, date },
@@ -100,24 +100,24 @@ fn take_copy(alloc: Global, cursor: &mut Cursor) -> Result<LogRecord, LineFault>
 }
 
 #[tactic(auto, unfolding(crate::specs::Reading::fields_at))]
-fn take_acked(cursor: &mut Cursor) -> Result<LogRecord, LineFault>
+fn read_acked(cursor: &mut Cursor) -> Result<LogRecord, LineFault>
     ensures { Tries (λ r. r) line_left result cursor.new (fields_at kinds.Acked cursor.old) }
 {
-    let txn = take_txn(cursor)?;
-    let site = take_site(cursor)?;
+    let txn = read_txn(cursor)?;
+    let site = read_site(cursor)?;
     Ok(LogRecord::Acked { txn, site })
 }
 
 #[tactic(auto, unfolding(crate::specs::Reading::fields_at))]
-fn take_checkpoint(alloc: Global, cursor: &mut Cursor) -> Result<LogRecord, LineFault>
+fn read_checkpoint(alloc: Global, cursor: &mut Cursor) -> Result<LogRecord, LineFault>
     ensures { Tries (λ r. r) line_left result cursor.new (fields_at kinds.Checkpoint cursor.old) }
 {
-    let generation = take_u64(cursor)?;
-    let life = take_u32(cursor)?;
-    let promise = take_view(cursor)?;
-    let copies = take_copies(alloc, cursor)?;
-    let doubts = take_doubts(alloc, cursor)?;
-    let decisions = take_decisions(alloc, cursor)?;
+    let generation = read_u64(cursor)?;
+    let life = read_u32(cursor)?;
+    let promise = read_view(cursor)?;
+    let copies = read_copies(alloc, cursor)?;
+    let doubts = read_doubts(alloc, cursor)?;
+    let decisions = read_decisions(alloc, cursor)?;
     Ok(LogRecord::Checkpoint {
         generation,
         life,

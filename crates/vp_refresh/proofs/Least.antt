@@ -1,4 +1,4 @@
--- The newest copy: the own one on a tie, else that of the least site.
+-- The newest copy: where dates are equal, the own one, and else that of the lowest site.
 use Rattle.std.proofs.Common.{◌≡◌, ◌<◌, ◌≤◌, ℕ, suc, Bool, true, false, if◌then◌else◌, List, [], ◌∷◌, refl, sym, ap, ◌∙◌, arith}
 use Rattle.std.proofs.lemmas.Bool.{false≢true}
 use Rattle.std.proofs.lemmas.Bool.Decides.{nat_tests}

@@ -9,13 +9,13 @@ use Rattle.vp_model.specs.Refresh.{refreshing_of}
 abbrev pub Ascends : List (ℕ × Stored) → Type 0
 Ascends answers = AllPairs (λ (a b : ℕ × Stored). a.0 < b.0) answers
 
--- the copy is the answer of the least site of those with its date
+-- the copy is the answer of the lowest site among those with its date
 pub record IsLeastAnswer (answers : List (ℕ × Stored)) (copy : Stored) : Type 0 where
   pub site : ℕ
   pub answered : Contains answers (site, copy)
   pub least : All (λ (a : ℕ × Stored). same_view a.1.date copy.date ≡ true → site ≤ a.0) answers
 
--- no copy is newer, the own one is taken where it is as new, and else the answer of the least site
+-- no copy is newer; the own one is taken where it is as new, and else the answer of the lowest site
 pub record IsNewest (own : Stored) (answers : List (ℕ × Stored)) (copy : Stored) : Type 0 where
   pub own_is_older : view_before copy.date own.date ≡ false
   pub none_is_newer : All (λ (a : ℕ × Stored). view_before copy.date a.1.date ≡ false) answers

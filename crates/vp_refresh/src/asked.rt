@@ -1,4 +1,4 @@
-//! A copy under refresh, with what has come for it.
+//! A copy under refresh, with the copies that have come for it.
 
 ghost use Rattle.std.specs.Prelude.{◌≡◌, ◌==◌, [], OnOk, IfOk, option_copied};
 ghost use Rattle.vp_model.specs.Words.{has, keys};
@@ -15,7 +15,7 @@ use vp_base::{CopyOf, NoMemory, RecId, Refreshing, Seq, SiteId, Sites, Stored, V
 use vp_catalog::Catalog;
 use vp_lists::{Keyed, put_in};
 
-/// A copy under refresh, with the copies of other sites that have come, ascending by site.
+/// A copy under refresh, with the copies that other sites have sent, ascending by site.
 #[derive(Drop)]
 pub struct Asked {
     refreshing: Refreshing,
@@ -57,7 +57,7 @@ impl Keyed for Asked {
 }
 
 impl Asked {
-    /// A copy for which nothing has come.
+    /// Begins with no copies of other sites.
     pub(crate) fn new(alloc: Global, rec: RecId) -> Asked
         ensures { result ≡ record { rec = rec; answers = [] } }
     {
@@ -69,6 +69,7 @@ impl Asked {
         }
     }
 
+    /// The record.
     pub fn rec(&self) -> RecId
         ensures { result ≡ self.now.rec }
     {
@@ -111,7 +112,7 @@ impl Asked {
         Ok(Sites::from_vec(sites))
     }
 
-    /// The copy of the site is kept where the record is this one. Without memory those that have come may be lost.
+    /// Keeps the copy of the site, where the record is this one. After want of memory the copies that had come may be lost.
     pub(crate) fn keep(&mut self, from: SiteId, rec: RecId, stored: &Stored) -> Result<(), NoMemory>
         ensures { OnOk result (self.new ≡ with_answer rec from stored.now self.old) }
     {

@@ -17,7 +17,7 @@ fn newer<'a>(best: &'a Stored, next: &'a Stored) -> &'a Stored
     }
 }
 
-/// The newest of the own copy and the answers: the own one on a tie, else that of the least site.
+/// The newest of the own copy and the answers: where dates are equal, the own one, and else that of the lowest site.
 pub fn newest<'a>(own: &'a Stored, answers: &'a [(SiteId, Stored)]) -> &'a Stored
     requires { Ascends answers.now }
     ensures copy { result.now ≡ newest own.now answers.now }

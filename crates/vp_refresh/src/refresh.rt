@@ -14,7 +14,7 @@ use vp_base::{CopyOf, NoMemory, RecId, SiteId, Sites, Stored, View};
 use vp_catalog::Catalog;
 use vp_lists::{copy_all, put};
 
-/// The copies of a site that are refreshed, ascending by record.
+/// The copies of a site that are under refresh, ascending by record.
 pub struct Refresh {
     listed: Vec<Asked>,
 }
@@ -42,7 +42,7 @@ impl CopyOf for Refresh {
 }
 
 impl Refresh {
-    /// No copy is under refresh; takes no memory.
+    /// Makes an empty list, with no copy under refresh. Takes no memory.
     pub fn none(alloc: Global) -> Refresh
         ensures { result ≡ [] }
     {
@@ -51,7 +51,7 @@ impl Refresh {
         }
     }
 
-    /// The refresh of the record's copy begins, and what came for it before goes. Without memory nothing changes.
+    /// Begins the refresh of the record's copy, and forgets what came for it before. Where memory is lacking, nothing changes.
     pub fn begin(&mut self, rec: RecId) -> Result<(), NoMemory>
         ensures ok { OnOk result (self.new ≡ put (λ a b. a.rec == b.rec) (λ a b. nat_lt a.rec b.rec) (record { rec = rec; answers = [] }) self.old) }
         ensures err { OnErr result (self.new ≡ self.old) }
@@ -73,8 +73,7 @@ impl Refresh {
         self.listed.iter().find(|asked| asked.is_of(rec))
     }
 
-    /// The other holders in the view that have not answered for the record, ascending; None where its copy is not under
-    /// refresh.
+    /// The other holders in the view that have not answered for the record, ascending; `None` where its copy is not under refresh.
     pub fn missing(
         &self,
         catalog: &Catalog,
@@ -90,14 +89,14 @@ impl Refresh {
         }
     }
 
-    /// Keeps the copy that the site answered with. Without memory the list may only be dropped.
+    /// Keeps the copy that the site has answered with. After want of memory the list may be changed in part: drop it.
     pub fn on_answer(&mut self, from: SiteId, rec: RecId, stored: &Stored) -> Result<(), NoMemory>
         ensures { OnOk result (self.new ≡ map (with_answer rec from stored.now) self.old) }
     {
         keep(&mut self.listed, from, rec, stored)
     }
 
-    /// The newest of the own copy and those that have come for the record; None where its copy is not under refresh.
+    /// The newest of the own copy and those that have come for the record; `None` where its copy is not under refresh.
     pub fn newest(&self, rec: RecId, own: &Stored) -> Result<Option<Stored>, NoMemory>
         ensures copy { IfOk result (λ copy. copy ≡ option_map (λ r. newest own.now r.answers) (refreshing_of rec self.now)) }
         ensures newest { IfOk result (λ copy. IfSome copy (IsNewestIn rec own.now self.now)) }
@@ -108,14 +107,14 @@ impl Refresh {
         }
     }
 
-    /// No copy is under refresh any more.
+    /// Ends all refreshes; nothing is copied.
     pub fn clear(&mut self)
         ensures { self.new ≡ [] }
     {
         self.listed.clear();
     }
 
-    /// The record's copy is no longer under refresh.
+    /// Ends the refresh of the record's copy; nothing is copied.
     pub fn unlist(&mut self, rec: RecId)
         ensures { self.new ≡ filter (λ r. not (r.rec == rec)) self.old }
     {
@@ -123,7 +122,7 @@ impl Refresh {
     }
 }
 
-/// The copy of the site is kept with each item of the record.
+/// Keeps the copy of the site with each item of the record.
 fn keep(listed: &mut [Asked], from: SiteId, rec: RecId, stored: &Stored) -> Result<(), NoMemory>
     ensures { OnOk result (listed.new ≡ map (with_answer rec from stored.now) listed.old) }
 {

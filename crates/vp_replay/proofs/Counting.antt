@@ -15,7 +15,7 @@ count_first test r rs = go (test r.answer)
     go true = omega arith
     go false = omega arith
 
--- those that are still to come are the next one and the rest
+-- the replies that are still to come are the next one and the rest
 pub count_next : (test : Answer → Bool) (rs : List Reply) (i : ℕ) (r : Reply) → i < length rs → r ≡ get_or rs i r → count_of test (drop i rs) ≡ one_if (test r.answer) + count_of test (drop (i + 1) rs)
 count_next test [] i r lt e = absurd (omega (arith, lt))
 count_next test (x ∷ rs) zero r lt e = ap (λ (y : Reply). count_of test (y ∷ rs)) (sym e) ∙ count_first test r rs

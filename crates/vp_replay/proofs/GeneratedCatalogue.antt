@@ -1,4 +1,4 @@
--- The generator's catalogue is one, and its names and values are some.
+-- The generator's catalogue is a catalogue, and its names and values are in their grammar.
 use Rattle.std.proofs.Common.{◌≡◌, ◌∙◌, ap, sym, subst, refl, arith, ℕ, zero, suc, ◌+◌, ◌<◌, ◌≤◌, ◌/◌, ◌%◌, true, List, [], ◌∷◌, ◌++◌, length, map, ⊎_elim}
 use Rattle.std.specs.Prelude.{codes, get_or, Result, Ok, Err, ◌≢◌}
 use Rattle.std.proofs.Math.ListN.{get_or-append, length-append}
@@ -72,7 +72,7 @@ numbers_length : (n : ℕ) → length (numbers_below n) ≡ n
 numbers_length zero = refl
 numbers_length (suc n) = length-append (numbers_below n) (n ∷ []) ∙ ap (λ k. k + 1) (numbers_length n) ∙ omega arith
 
--- what is made of the numbers below n is made of i at the place i
+-- what is made of the numbers below n is made of i at the index i
 pub made_at : {A : Type 0} (f : ℕ → A) (n i : ℕ) (d : A) → i < n → get_or (map f (numbers_below n)) i d ≡ f i
 made_at f zero i d lt = absurd (omega (arith, lt))
 made_at {A} f (suc n) i d lt =
@@ -168,7 +168,7 @@ unfolding digits
 generated_text text e = sym e
 
 module _ (text : List ℕ) (result : Result Catalogue CatalogFault) (is : catalogue_text generated_catalogue ≡ text) (only : IsOnly text result) where
-  -- what is answered of its text is the catalogue, and no fault is
+  -- the result of reading its text is the catalogue, and no fault
   pub read_so : (c : Catalogue) → result ≡ Ok c → c ≡ generated_catalogue
   read_so c e = let same = only (Ok generated_catalogue) (generated_is, is) (λ bad. cc) (λ bad. cc) in cc
 

@@ -1,4 +1,4 @@
--- How the generator goes on, round by round.
+-- What the generator does, round by round.
 use Rattle.std.proofs.Common.{◌≡◌, ◌∙◌, ap, sym, subst, refl, arith, ℕ, zero, suc, ◌+◌, ◌<◌, ◌≤◌, true, List, [], ◌∷◌, ◌++◌, length, append_assoc, append-nil}
 use Rattle.std.specs.Prelude.{Option, Some, None, Result, Ok, Err, option_and_then, ◌-◌, take, get_or}
 use Rattle.std.specs.Option.{option_map_or}
@@ -186,7 +186,7 @@ module _ (seed count i : ℕ) (lt : i < count) where
 abbrev pub Collects : Catalogue → ℕ × Line → List Reply → List Reply → Type 0
 Collects catalogue line old new = new ≡ old ++ replies_in line.1.shown
 
--- some of the replies, without memory
+-- some of the replies, if memory ran out
 abbrev pub Begins : Catalogue → ℕ × Line → List Reply → List Reply → Type 0
 Begins catalogue line old new = (count : ℕ) × (new ≡ old ++ take count (replies_in line.1.shown))
 

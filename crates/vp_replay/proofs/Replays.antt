@@ -1,4 +1,4 @@
--- What a replay comes to.
+-- What a replay prints.
 use Rattle.std.proofs.Common.{◌≡◌, ◌∙◌, ap, ℕ, List, [], ◌++◌, map}
 use Rattle.std.specs.Prelude.{Ok}
 use Rattle.vp_model.specs.Types.{Commit}

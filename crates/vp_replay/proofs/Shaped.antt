@@ -1,4 +1,4 @@
--- The calls of the generator have numbers that fit, and the records that its transactions use are records.
+-- The calls of the generator have numbers that fit, and the records that its transactions use are records of its catalogue.
 use Rattle.std.proofs.Common.{◌≡◌, ◌∙◌, ap, sym, subst, refl, arith, ℕ, zero, suc, ◌+◌, ◌*◌, ◌<◌, ◌≤◌, ◌^◌, ◌/◌, ◌%◌, Bool, true, false, cond, List, [], ◌∷◌, length}
 use Rattle.std.specs.Prelude.{Option, Some, None, IfSome, option_and_then, nat_lt, nat_le, slice_get, get_or, is_some, ◌==◌, sum_by}
 use Rattle.std.specs.List.{AllByRecursion}
@@ -53,7 +53,7 @@ site_next catalogue w id t h e = go (site_of w id) refl e
     go None is q = cc
     go (Some x) is q = newest_next x.live t (site_shaped catalogue w id x h is).coordinator_is.live_are q
 
--- ---- the events are some
+-- ---- the events have their form
 
 drawn_below : (s n : ℕ) → 0 < n → drawn s n < n
 drawn_below s n some = mod-lt (s / 65536) some

@@ -1,4 +1,4 @@
--- What a soak comes to.
+-- What a soak prints.
 use Rattle.std.proofs.Common.{◌≡◌, ◌∙◌, ap, sym, subst, ℕ, List, length}
 use Rattle.std.specs.Prelude.{Ok, IsSome}
 use Rattle.vp_model.specs.Types.{Event, Reply}

@@ -26,7 +26,7 @@ values_text (name ∷ names) (value ∷ values) = value_text name value ++ value
 abbrev pub serial_text : ℕ → List (List ℕ) → Values → List ℕ
 serial_text count names values = codes "serial " ++ (decimal count ++ 10 ∷ values_text names values)
 
--- the transaction, the place of its operation, the record, and both values
+-- the transaction, the index of its operation, the record, and both values
 abbrev pub difference_text : TxnId → ℕ → List ℕ → List ℕ → List ℕ → List ℕ
 difference_text txn place name kept read =
     codes "differs "
@@ -51,20 +51,20 @@ pub record IsChecked (bytes : List ℕ) (end : Status) (text : List ℕ) : Type 
   pub only : IsOnly bytes (Ok history)
   pub verdict : IsVerdict history end text
 
--- how a fault is told
+-- the status and the text of a fault
 abbrev pub Finds : HistoryFault → Status → List ℕ → Type 0
 Finds (faults.BadLine line at) status.BadLine text = text ≡ bad_line_text line at
 Finds (faults.Twice line) status.BadLine text = text ≡ twice_text line
 Finds _ _ text = ⊥
 
--- the bytes are no such text: this is their one fault, at the first line where one stands
+-- the bytes are no such text: this is their one fault, in the first line that has one
 pub record IsMisspelled (bytes : List ℕ) (end : Status) (text : List ℕ) : Type 0 where
   pub fault : HistoryFault
   pub answered : AnsweredAll bytes (Err fault)
   pub only : IsOnly bytes (Err fault)
   pub told : Finds fault end text
 
--- The text that is defined for an input of `check` at each status; other statuses are none of its.
+-- The text that is defined for an input of `check` at each status; no other status is possible.
 abbrev pub IsCheckAnswer : List ℕ → Status → List ℕ → Type 0
 IsCheckAnswer bytes status.Done text = IsChecked bytes status.Done text
 IsCheckAnswer bytes status.Differs text = IsChecked bytes status.Differs text

@@ -1,4 +1,4 @@
--- What is told of a schedule that the generator makes.
+-- What is printed of a schedule that the generator makes.
 use Rattle.std.specs.Prelude.{◌≡◌, ℕ, ⊤, List, ◌++◌, Option, Some, None, Result, Ok, Err, true}
 use Rattle.vp_base.specs.declared.memory.NoMemory.{NoMemory}
 use Rattle.vp_model.specs.Types.{Counted}
@@ -29,7 +29,8 @@ Makes seed count (Err (end.Limit what limit)) m =
     (limit_made world_limits seed count ≡ Some what) × (limit ≡ limit_of what) × (m.events ≡ (made_within world_limits seed count).events)
 Makes seed count (Err end.NoMemory) m = ⊤
 
--- Its text is appended; where a limit ends it, the text of the events before the one that was refused; without memory a beginning of that.
+-- Its text is appended; if a limit ends it, the text of the events before the one that was refused; if memory runs out, a beginning of
+-- that.
 abbrev pub Generates : ℕ → ℕ → Result (Option WorldEnd) NoMemory → List ℕ → List ℕ → Type 0
 Generates seed count (Ok None) old new = (limit_made world_limits seed count ≡ None) × (new ≡ old ++ schedule_text (made seed count))
 Generates seed count (Ok (Some (end.Limit what limit))) old new =
@@ -46,7 +47,7 @@ IsGenerated seed count status.Limit text =
     × (text ≡ schedule_text (made_within world_limits seed count) ++ limit_text (limit_of counted))
 IsGenerated seed count _ text = ⊥
 
--- what is printed of its run: the commits that are counted are a serial run
+-- what is printed of its run: the commits that are counted are serial
 abbrev pub IsSoaked : ℕ → ℕ → Status → List ℕ → Type 0
 IsSoaked seed count status.Done text =
     (limit_made world_limits seed count ≡ None) × IsSerial (made seed count) × (text ≡ summary_text (made seed count))

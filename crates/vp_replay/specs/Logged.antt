@@ -42,12 +42,12 @@ pub record IsStopped (s : Schedule) (text : List ℕ) : Type 0 where
   pub reached : limit_reached world_limits s ≡ Some counted
   pub printed : text ≡ limit_text (limit_of counted)
 
--- what a schedule leaves
+-- the text of `logs` for a schedule, at each status
 abbrev pub Leaves : Schedule → Status → List ℕ → Type 0
 Leaves s status.Done text = IsLogged s text
 Leaves s status.Limit text = IsStopped s text
 Leaves s _ text = ⊥
 
--- The text that is defined for an input of `logs` at each status; other statuses are none of its.
+-- The text that is defined for an input of `logs` at each status; no other status is possible.
 abbrev pub IsLogsAnswer : List ℕ → Status → List ℕ → Type 0
 IsLogsAnswer bytes end text = IsPlayAnswer Leaves bytes end text

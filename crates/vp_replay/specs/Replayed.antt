@@ -17,11 +17,11 @@ use Rattle.vp_status.specs.declared.status.Status.{Status}
 use Rattle.vp_status.specs.declared.status.Status.TheVariants as status
 pub use Rattle.vp_world.specs.Limits.{limit_of}
 
--- At each moment of the schedule.
+-- This holds at each moment of the schedule.
 pub record SitesAgree (s : Schedule) : Type 0 where
   -- the views agree before the step and after it
   pub views : (m : Moment) → Contains (moments_of s) m → ViewsAgree m.before × ViewsAgree m.after
-  -- nothing of them goes back, over the step and from there to the end
+  -- none of them goes back, in the step and from there to the end
   pub onward : (m : Moment) → Contains (moments_of s) m → ViewsGoOn m.before m.after × ViewsGoOn m.after (run_of s).world
   -- whatever comes next to a site, it ends its doubts as the journal says
   pub decisions : (m : Moment) → Contains (moments_of s) m → DecisionsAgree s.catalogue (journal_of s) m.before
@@ -39,41 +39,41 @@ pub record IsLimited (s : Schedule) (text : List ℕ) : Type 0 where
   pub reached : limit_reached world_limits s ≡ Some counted
   pub printed : text ≡ trace_text_within world_limits s ++ limit_text (limit_of counted)
 
--- what a schedule gives
+-- the text of `replay` for a schedule, at each status
 abbrev pub Gives : Schedule → Status → List ℕ → Type 0
 Gives s status.Done text = IsDone s text
 Gives s status.Limit text = IsLimited s text
 Gives s _ text = ⊥
 
--- the bytes are the text of this schedule and of no other, and this is what it gives
+-- the bytes are the text of this schedule and of no other, and this is printed for it
 pub record IsPlayed (prints : Schedule → Status → List ℕ → Type 0) (bytes : List ℕ) (end : Status) (text : List ℕ) : Type 0 where
   pub schedule : Schedule
   pub spelled : Answered bytes (Ok schedule)
   pub only : IsOnly bytes (Ok schedule)
   pub gives : prints schedule end text
 
--- how a fault is told
+-- the status and the text of a fault
 abbrev pub Tells : ScheduleFault → Status → List ℕ → Type 0
 Tells (faults.BadLine line at) status.BadLine text = text ≡ bad_line_text line at
 Tells (faults.Twice line) status.BadLine text = text ≡ twice_text line
 Tells (faults.TooMany line limit) status.Limit text = text ≡ limit_text limit
 Tells _ _ text = ⊥
 
--- the bytes are no such text: this is their one fault, at the first line where one stands
+-- the bytes are no such text: this is their one fault, in the first line that has one
 pub record IsRefused (bytes : List ℕ) (end : Status) (text : List ℕ) : Type 0 where
   pub fault : ScheduleFault
   pub answered : Answered bytes (Err fault)
   pub only : IsOnly bytes (Err fault)
   pub told : Tells fault end text
 
--- The text that is defined at each status for the input of a command that plays a schedule, by what a schedule gives; other statuses are
--- none of the command's.
+-- The text that is defined at each status for the input of a command that plays a schedule, by what it prints for a schedule; no other
+-- status is possible.
 abbrev pub IsPlayAnswer : (Schedule → Status → List ℕ → Type 0) → List ℕ → Status → List ℕ → Type 0
 IsPlayAnswer prints bytes status.Done text = IsPlayed prints bytes status.Done text
 IsPlayAnswer prints bytes status.BadLine text = IsRefused bytes status.BadLine text
 IsPlayAnswer prints bytes status.Limit text = IsPlayed prints bytes status.Limit text ⊎ IsRefused bytes status.Limit text
 IsPlayAnswer prints bytes _ text = ⊥
 
--- the same of `replay`
+-- the same for `replay`
 abbrev pub IsReplayAnswer : List ℕ → Status → List ℕ → Type 0
 IsReplayAnswer bytes end text = IsPlayAnswer Gives bytes end text

@@ -1,4 +1,4 @@
--- What a run of the generator comes to.
+-- The summary of a run of the generator.
 use Rattle.std.specs.Prelude.{ℕ, Bool, true, false, not, List, [], ◌∷◌, ◌++◌, length, filter, flat_map, codes}
 use Rattle.std.specs.Fmt.{decimal}
 use Rattle.vp_model.specs.Types.{Answer, Reply, Line}
@@ -33,7 +33,7 @@ grants _ = false
 abbrev pub refuses : Answer → Bool
 refuses answer = not (grants answer)
 
--- how many of the replies are such
+-- how many of the replies pass this test
 abbrev pub count_of : (Answer → Bool) → List Reply → ℕ
 count_of test replies = length (filter (λ (reply : Reply). test reply.answer) replies)
 

@@ -12,7 +12,7 @@ use vp_onecopy::{History, HistoryFault, Verdict, check, print_name, read_history
 use vp_status::{Defined, Status, print_bad_line, print_twice};
 use vp_text::print_number;
 
-/// The status and the text that are defined for an input of `check`.
+/// Checks the history that ends the input: the status and the text that `check` prints for it.
 pub fn checked(alloc: Global, input: &[u8]) -> Result<Defined, NoMemory>
     ensures { IfOk result (λ defined. IsCheckAnswer input.now defined.status defined.text.items) }
 {
@@ -22,7 +22,7 @@ pub fn checked(alloc: Global, input: &[u8]) -> Result<Defined, NoMemory>
     }
 }
 
-/// What is told of an input that has no history.
+/// Makes the status and the line for an input that has no history.
 fn refuse(alloc: Global, fault: HistoryFault) -> Result<Defined, NoMemory>
     ensures { IfOk result (λ defined. Finds fault defined.status defined.text.items) }
 {
@@ -46,7 +46,8 @@ fn refuse(alloc: Global, fault: HistoryFault) -> Result<Defined, NoMemory>
     }
 }
 
-/// The verdict on a history, and its text.
+/// Checks a history, and makes the text of the verdict: serial with the values that are left, or its first read of another value
+/// (Bernstein, Hadzilacos and Goodman 1987, chapter 8).
 fn judge(alloc: Global, history: &History) -> Result<Defined, NoMemory>
     requires { IsWhole history.now }
     ensures { IfOk result (λ defined. IsVerdict history.now defined.status defined.text.items) }

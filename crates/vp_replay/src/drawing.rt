@@ -50,13 +50,14 @@ fn number_value(alloc: Global, number: u32) -> Result<Value, NoMemory>
 }
 
 impl Draws {
+    /// Makes a source whose first draw follows this seed, which is below 2^31.
     pub fn from_seed(seed: u32) -> Draws
         ensures { result ≡ seed }
     {
         Draws { state: seed }
     }
 
-    /// A number below `n`.
+    /// Draws a number below `n`.
     fn draw(&mut self, n: u32) -> u32
         requires { 0 < n }
         ensures state { self.new ≡ next_draw self.old }
@@ -68,7 +69,7 @@ impl Draws {
         self.state / 65_536 % n
     }
 
-    /// One of the five sites.
+    /// Draws one of the five sites.
     fn site(&mut self) -> SiteId
         ensures state { self.new ≡ next_draw self.old }
         ensures drawn { result ≡ drawn (next_draw self.old) 5 + 1 }
@@ -76,7 +77,7 @@ impl Draws {
         SiteId::of(self.draw(5) as u8 + 1)
     }
 
-    /// The name of one of the forty records.
+    /// Draws one of the forty records, and returns its name.
     fn name(&mut self, world: &World) -> Result<Name, NoMemory>
         requires { world.now.catalogue ≡ generated_catalogue }
         ensures state { self.new ≡ next_draw self.old }
@@ -86,7 +87,7 @@ impl Draws {
         world.catalog().records()[record].name().copy_of()
     }
 
-    /// The next call of a transaction at the site: two reads, two writes, and the commit.
+    /// Draws the next call of a transaction at the site: two reads, two writes, and the commit.
     fn call(
         &mut self,
         alloc: Global,
@@ -117,7 +118,7 @@ impl Draws {
         Ok(Event::Call { site, call })
     }
 
-    /// What a client of the site does.
+    /// Draws what a client of the site does.
     fn work(&mut self, alloc: Global, world: &World, site: SiteId) -> Result<Event, NoMemory>
         requires catalogue { world.now.catalogue ≡ generated_catalogue }
         requires numbers { IfSome (option_and_then (λ site. newest site.live) (site_of world.now.world site)) (λ t. t.next < 2 ^ 32) }
@@ -133,7 +134,7 @@ impl Draws {
         }
     }
 
-    /// The site's pair with another is cut, or healed where it is cut.
+    /// Cuts the pair of the site with another one that is drawn, or heals it if it is cut.
     fn cut_or_heal(&mut self, world: &World, site: SiteId) -> Event
         requires { site ≤ 5 }
         ensures { (result, self.new) ≡ generated_cut world.now.world site self.old }
@@ -146,7 +147,7 @@ impl Draws {
         }
     }
 
-    /// The event of the next round.
+    /// Draws the event of the next round.
     pub fn event(&mut self, alloc: Global, world: &World) -> Result<Event, NoMemory>
         requires catalogue { world.now.catalogue ≡ generated_catalogue }
         requires numbers { (site : ℕ) → IfSome (option_and_then (λ site. newest site.live) (site_of world.now.world site)) (λ t. t.next < 2 ^ 32) }

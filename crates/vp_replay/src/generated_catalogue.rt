@@ -55,7 +55,7 @@ record r37 100 3:1 4:1 5:1\n\
 record r38 100 1:1 4:1 5:1\n\
 record r39 100 1:1 2:1 5:1\n";
 
-/// The catalogue of each schedule that the generator makes.
+/// Reads the catalogue of each schedule that the generator makes.
 pub fn generated_catalogue(alloc: Global) -> Result<Catalog, NoMemory>
     ensures { IfOk result (λ catalog. catalog ≡ generated_catalogue) }
 {

@@ -1,4 +1,4 @@
-//! The generator: schedules that are drawn from a seed, each event by the world that those before it left.
+//! The generator: schedules that are drawn from a seed, each event by the world that those before it have left.
 
 ghost use Rattle.std.specs.Prelude.{◌≡◌, ◌≤◌, [], IfOk, Some, None};
 ghost use Rattle.vp_text.specs.Printing.{Appends};
@@ -16,7 +16,7 @@ use vp_schedule::{Schedule, print};
 use vp_status::{Defined, Status, print_limit};
 use vp_world::{ByThemselves, World, WorldEnd};
 
-/// A schedule that was made: its events, and what their steps replied.
+/// A schedule that was made: its events, and the replies to its steps.
 #[derive(Drop)]
 pub struct Made {
     pub events: Events,
@@ -24,6 +24,7 @@ pub struct Made {
 }
 
 impl Made {
+    /// Begins with no events and no replies.
     pub fn nothing(alloc: Global) -> Made
         ensures { result ≡ record { events = []; replies = [] } }
     {
@@ -33,8 +34,8 @@ impl Made {
         }
     }
 
-    /// Makes `count` events from the seed, which is below 2^31, and plays each at once. Where a limit ends them, the events before the
-    /// one that was refused are there.
+    /// Makes `count` events from the seed, which is below 2^31, and plays each at once. If a limit ends them, the events before the one
+    /// that was refused are there.
     pub fn make(&mut self, alloc: Global, seed: u32, count: u32) -> Result<World, WorldEnd>
         requires few { count ≤ 2400 }
         requires fresh { self.old ≡ record { events = []; replies = [] } }
@@ -53,8 +54,9 @@ impl Made {
     }
 }
 
-/// Appends the text of the schedule that the generator makes from the seed with `count` events. Where a limit of the world ends it, that
-/// is answered, and the events before the one that was refused are there. Without memory a beginning of that text was appended.
+/// Appends the text of the schedule that the generator makes from the seed, which is below 2^31, with `count` events. If a limit of the
+/// world ends it, that is returned, and the text has the events before the one that was refused; if memory runs out, a beginning of
+/// that.
 pub fn generate(seed: u32, count: u32, out: &mut Vec<u8>) -> Result<Option<WorldEnd>, NoMemory>
     requires seed { seed ≤ 2147483647 }
     requires few { count ≤ 2400 }
@@ -84,7 +86,7 @@ fn print_events(events: Events, out: &mut Vec<u8>) -> Result<(), NoMemory>
     print(&Schedule { catalog, events }, out)
 }
 
-/// The status and the text that are defined for `generate`.
+/// Generates a schedule: the status and the text that `generate` prints.
 pub fn generated(alloc: Global, seed: u32, count: u32) -> Result<Defined, NoMemory>
     requires seed { seed ≤ 2147483647 }
     requires few { count ≤ 2400 }

@@ -1,5 +1,5 @@
-//! What is done with schedules and histories: `replay`, `logs`, `check`, `generate` and `soak`, each from its input or its numbers to a
-//! status and a text.
+//! The commands on schedules and histories, `replay`, `logs`, `check`, `generate` and `soak`: each makes a status and a text from its
+//! input or its numbers.
 #![tactic(auto)]
 
 mod check;

@@ -1,4 +1,4 @@
-//! What a schedule leaves in the logs of its sites.
+//! The logs that a schedule leaves at its sites.
 
 ghost use Rattle.std.specs.Prelude.{◌≡◌, ◌++◌, IfOk, OnOk};
 ghost use Rattle.std.specs.List.{flat_map};
@@ -13,7 +13,7 @@ use vp_schedule::{Schedule, read};
 use vp_status::{Defined, Status, print_limit};
 use vp_world::WorldEnd;
 
-/// The status and the text that are defined for an input of `logs`.
+/// Runs the schedule in the input through nodes: the status and the text that `logs` prints for it.
 pub fn logged(alloc: Global, input: &[u8]) -> Result<Defined, NoMemory>
     ensures { IfOk result (λ defined. IsLogsAnswer input.now defined.status defined.text.items) }
 {
@@ -23,7 +23,7 @@ pub fn logged(alloc: Global, input: &[u8]) -> Result<Defined, NoMemory>
     }
 }
 
-/// What a schedule leaves: the line of each log, or the limit of the world that ends the run.
+/// Runs the schedule through nodes, and makes the line of each log that it leaves, or of the limit of the world that ends the run.
 fn tell(alloc: Global, schedule: &Schedule) -> Result<Defined, NoMemory>
     requires { IsSchedule schedule.now }
     ensures { IfOk result (λ defined. Leaves schedule.now defined.status defined.text.items) }

@@ -16,7 +16,7 @@ use vp_schedule::{Schedule, ScheduleFault, read};
 use vp_status::{Defined, Status, print_bad_line, print_limit, print_twice};
 use vp_world::WorldEnd;
 
-/// The status and the text that are defined for an input of `replay`.
+/// Replays the schedule in the input: the status and the text that `replay` prints for it.
 pub fn replayed(alloc: Global, input: &[u8]) -> Result<Defined, NoMemory>
     ensures { IfOk result (λ defined. IsReplayAnswer input.now defined.status defined.text.items) }
 {
@@ -26,7 +26,7 @@ pub fn replayed(alloc: Global, input: &[u8]) -> Result<Defined, NoMemory>
     }
 }
 
-/// What a schedule gives: its trace and its history, or what a limit of the world leaves of its trace.
+/// Plays a schedule, and makes the text of its trace and its history, or of what a limit of the world leaves of its trace.
 fn serve(alloc: Global, schedule: &Schedule) -> Result<Defined, NoMemory>
     requires { IsSchedule schedule.now }
     ensures { IfOk result (λ defined. Gives schedule.now defined.status defined.text.items) }
@@ -51,7 +51,7 @@ fn serve(alloc: Global, schedule: &Schedule) -> Result<Defined, NoMemory>
     }
 }
 
-/// What is told of an input that is no schedule.
+/// Makes the status and the line for an input that is no schedule.
 pub fn refuse(alloc: Global, fault: ScheduleFault) -> Result<Defined, NoMemory>
     ensures { IfOk result (λ defined. Tells fault defined.status defined.text.items) }
 {
@@ -82,7 +82,7 @@ pub fn refuse(alloc: Global, fault: ScheduleFault) -> Result<Defined, NoMemory>
     }
 }
 
-/// Appends the history of a run over this catalogue, with the commits in the order of the steps.
+/// Appends the history of a run over this catalogue, by its commits in the order of the steps.
 fn print_end(
     alloc: Global,
     catalog: &Catalog,

@@ -15,7 +15,7 @@ use vp_status::{Defined, Status, print_limit};
 use vp_text::print_number;
 use vp_world::{World, WorldEnd};
 
-/// The status and the text that are defined for `soak`.
+/// Plays the schedule that is generated from these numbers: the status and the text that `soak` prints for it.
 pub fn soaked(alloc: Global, seed: u32, count: u32) -> Result<Defined, NoMemory>
     requires seed { seed ≤ 2147483647 }
     requires few { count ≤ 2400 }
@@ -43,7 +43,7 @@ pub fn soaked(alloc: Global, seed: u32, count: u32) -> Result<Defined, NoMemory>
     }
 }
 
-/// How many transactions the run committed, which the check finds serial.
+/// Counts the transactions that the run committed, which the check finds serial.
 fn serial_commits(alloc: Global, world: &World) -> Result<usize, NoMemory>
     requires within { CommitsWithin (length (start_values world.now.catalogue)) (order world.now.world.journal) }
     requires serial { IsSome (serial (start_values world.now.catalogue) (order world.now.world.journal)) }
@@ -57,7 +57,7 @@ fn serial_commits(alloc: Global, world: &World) -> Result<usize, NoMemory>
     }
 }
 
-/// How many of some replies are of three kinds.
+/// How many of some replies are of each of three kinds.
 #[derive(Drop)]
 struct Counts {
     begun: usize,
@@ -65,7 +65,7 @@ struct Counts {
     refused: usize,
 }
 
-/// Whether what the client asked for is not done.
+/// Whether the answer refuses what the client asked for.
 fn is_refusal(answer: &Answer) -> bool
     ensures { result ≡ refuses answer.now }
 {

@@ -1,4 +1,4 @@
-//! The schedules of docs/examples, and what is kept there of their replays, byte for byte.
+//! The schedules of docs/examples, and the replays of them that are there, byte for byte.
 
 use vp_top_tests::is_printed;
 
@@ -475,7 +475,7 @@ commit 3.1.3 2@3 r north 60 r south 130
 end 3
 ";
 
-/// Each example, and what is printed of it.
+/// Each example, and what is printed for it.
 const EXAMPLES: [(&str, &str, &str); 3] = [
     ("a partition", PARTITION, PARTITION_PRINTED),
     ("a coordinator that stops in doubt", DOUBT, DOUBT_PRINTED),

@@ -616,7 +616,7 @@ commit 1.1.1 0@0 r y 5
 end 1
 ";
 
-/// The worked schedules of transactions, and what is printed of each.
+/// The worked schedules of transactions, and what is printed for each.
 const WORKED: [(&str, &str, &str); 10] = [
     (
         "a held lock is named",

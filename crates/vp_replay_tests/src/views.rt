@@ -362,7 +362,7 @@ start x 10
 end 0
 ";
 
-/// The worked schedules of views, and what is printed of each.
+/// The worked schedules of views, and what is printed for each.
 const WORKED: [(&str, &str, &str); 7] = [
     (
         "two of three sites go on",

@@ -1,4 +1,4 @@
--- What nodes and clients hand over is what comes to the other one.
+-- What nodes and clients hand over is read as the same at the other one.
 use Rattle.std.proofs.Common.{◌≡◌, ℕ, Bool, true, false, List, [], ◌∷◌, map, refl, ap, arith, Result, Ok, Err, find, ◌==◌, nat_eq}
 use Rattle.std.specs.Prelude.{Some}
 use Rattle.std.specs.List.{AllByRecursion, IsDistinct}
@@ -8,16 +8,16 @@ use Rattle.vp_text.specs.Meaning.{Answers}
 use Rattle.vp_model.specs.Words.{value_at}
 use Rattle.vp_laws.specs.ShapeLaws.{message_frame, reply_frame}
 use Rattle.vp_wire.specs.declared.frame.Frame.{Frame}
-use Rattle.vp_decoding.specs.Decoded.{read_frame}
+use Rattle.vp_wire.specs.Decoded.{read_frame}
 use Rattle.vp_wire.specs.Grammar.{IsFrame, IsSpelling, frame_bytes}
-use Rattle.vp_decoding.proofs.Decoded.{bytes_are_read}
-use Rattle.vp_decoding.proofs.Told.{one_frame}
+use Rattle.vp_wire.proofs.Decoded.{bytes_are_read}
+use Rattle.vp_wire.proofs.Told.{one_frame}
 use Rattle.vp_runs.specs.Arrivals.{arrival}
 use Rattle.vp_runs.specs.Asking.{answer_of, call_frame}
 use Rattle.vp_runs.specs.Laws.{MessagesArrive, CallsArrive, RepliesArrive}
 use Rattle.vp_laws.proofs.Lists.Numbers.{eq_self}
 
--- what was encoded is read
+-- what was encoded is read back
 pub reads_again : (f : Frame) → IsFrame f → read_frame (frame_bytes f) ≡ Ok f
 reads_again f h = go (read_frame (frame_bytes f)) (bytes_are_read (frame_bytes f))
   where
@@ -30,7 +30,7 @@ reads_again f h = go (read_frame (frame_bytes f)) (bytes_are_read (frame_bytes f
 abbrev at_port : ℕ → List (ℕ × ℕ) → ℕ
 at_port port sites = option_map_or (λ (site : ℕ × ℕ). site.0) (find (λ (site : ℕ × ℕ). site.1 == port) sites) 0
 
--- a port that is found behind a site is another one than that site's
+-- the port of a later site in the list differs from this site's
 other_port : (own from port : ℕ) (sites : List (ℕ × ℕ)) → AllByRecursion (λ p. nat_eq own p ≡ false) (map (λ (site : ℕ × ℕ). site.1) sites) → value_at from sites ≡ Some port → (own == port) ≡ false
 other_port own from port [] h e = absurd cc
 other_port own from port (s ∷ sites) h e = go (s.0 == from) refl (λ f. other_port own from port sites h.1 f)
@@ -39,7 +39,7 @@ other_port own from port (s ∷ sites) h e = go (s.0 == from) refl (λ f. other_
     go true f more = let same : s.1 ≡ port = cc in rw (← same) h.0
     go false f more = more cc
 
--- where ports differ, the site whose port it is is the one that has it
+-- if the ports differ, the site with that port is the one that is found for it
 owner_of : (from port : ℕ) (sites : List (ℕ × ℕ)) → IsDistinct nat_eq (map (λ (site : ℕ × ℕ). site.1) sites) → value_at from sites ≡ Some port → at_port port sites ≡ from
 unfolding IsDistinct
 owner_of from port [] h e = absurd cc

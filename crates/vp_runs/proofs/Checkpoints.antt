@@ -45,7 +45,7 @@ copies_ascend place site (r ∷ records) = at (has (keys r.weights) site) refl (
 abbrev set_copy : Pair → List Pair → List Pair
 set_copy c copies = replace_at c.0 c.1 copies
 
--- none of them is that record's
+-- none of them is of that record
 set_none : (c : Pair) (ys : List Pair) → Above c.0 (keys ys) → set_copy c ys ≡ ys
 set_none c [] h = refl
 set_none c (y ∷ ys) h = rw (not_above y.0 c.0 h.0) (ap (λ (l : List Pair). y ∷ l) (set_none c ys h.1))
@@ -55,7 +55,7 @@ stays : (x : Pair) (xs ys : List Pair) → Above x.0 (keys xs) → for_each xs s
 stays x [] ys h = refl
 stays x (c ∷ xs) ys h = rw (not_below x.0 c.0 h.0) (stays x xs (set_copy c ys) h.1)
 
--- copies of the same records become these
+-- copies of the same records become these copies
 filled : (xs ys : List Pair) → keys ys ≡ keys xs → Ascends (keys xs) → for_each xs set_copy ys ≡ xs
 filled [] [] e h = refl
 filled [] (y ∷ ys) e h = absurd cc

@@ -1,3 +1,12 @@
+pub mod Delivered
+pub mod Behind
+pub mod StoppedRuns
+pub mod Happened
+pub mod Through
+pub mod Folds
+pub mod Steps
+pub mod Datagrams
+pub mod Nodes
 pub mod Checkpoints
 pub mod Runs
 pub mod Shaped

@@ -1,4 +1,4 @@
--- Runs of a node go on turn by turn, and their logs fold to the durable part of the site.
+-- Runs of a node grow turn by turn, and their logs fold to the durable part of the site.
 use Rattle.std.proofs.Common.{◌≡◌, ◌∙◌, ℕ, Bool, true, false, List, [], ◌∷◌, refl, sym, ap}
 use Rattle.std.proofs.lemmas.List.Sums.{fold-append}
 use Rattle.vp_model.specs.Types.{LogRecord}

@@ -22,9 +22,9 @@ use Rattle.vp_outside.specs.declared.datagram.Datagram.{Datagram}
 use Rattle.vp_wire.specs.declared.frame.Frame.{Frame}
 use Rattle.vp_wire.specs.declared.frame.Body.{Body}
 use Rattle.vp_wire.specs.declared.frame.Body.TheVariants as body
-use Rattle.vp_decoding.specs.Decoded.{read_frame}
+use Rattle.vp_wire.specs.Decoded.{read_frame}
 use Rattle.vp_wire.specs.Grammar.{IsBody, IsFrame, IsSpelling}
-use Rattle.vp_decoding.proofs.Decoded.{bytes_are_read}
+use Rattle.vp_wire.proofs.Decoded.{bytes_are_read}
 use Rattle.vp_stable.specs.Halves.{folded}
 use Rattle.vp_runs.specs.declared.arrival.Arrival.{Arrival}
 use Rattle.vp_runs.specs.declared.arrival.Arrival.TheVariants.{Bad, Stray, Stops, Gives}

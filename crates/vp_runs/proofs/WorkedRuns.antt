@@ -4,11 +4,11 @@ use Rattle.hex.specs.Hex.{encode_with}
 use Rattle.vp_bytes.specs.Fields.{number_bytes, view_bytes, txn_bytes}
 use Rattle.vp_bytes.specs.Reading.{some_u32_at, txn_at, numbered_at, counted_at, run_at, name_at, value_at}
 use Rattle.vp_stable.specs.Log.{measured}
-use Rattle.vp_decoding.specs.Messages.{message_at}
-use Rattle.vp_decoding.specs.Calls.{call_at}
-use Rattle.vp_decoding.specs.Answers.{answer_at}
-use Rattle.vp_decoding.specs.Frames.{coded_call_at, coded_answer_at, body_at, frame_at}
-use Rattle.vp_decoding.specs.Decoded.{read_frame}
+use Rattle.vp_wire.specs.Messages.{message_at}
+use Rattle.vp_wire.specs.Calls.{call_at}
+use Rattle.vp_wire.specs.Answers.{answer_at}
+use Rattle.vp_wire.specs.Frames.{coded_call_at, coded_answer_at, body_at, frame_at}
+use Rattle.vp_wire.specs.Decoded.{read_frame}
 use Rattle.vp_runs.specs.Arrivals.{arrival}
 use Rattle.vp_runs.specs.Turns.{datagrams_of, turn_on}
 use Rattle.vp_runs.specs.Runs.{one_turn, node_run}

@@ -9,7 +9,7 @@ use Rattle.vp_stable.specs.Halves.{folded, due, saved}
 abbrev pub durable_in : Catalogue → ℕ → List (List LogRecord) → DurableState
 durable_in catalogue id batches = folded batches (empty_durable (start_copies catalogue id))
 
--- a checkpoint of this durable part is made where one is due
+-- a checkpoint of this durable part is made if one is due
 abbrev pub saved_if_due : DurableState → List (List LogRecord) → List (List LogRecord)
 saved_if_due d batches = if due batches then saved d batches else batches
 

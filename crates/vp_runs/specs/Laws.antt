@@ -33,12 +33,12 @@ RunsGoOn = (catalogue : Catalogue) (id : ℕ) (batches : List (List LogRecord)) 
 
 -- ---- what a log keeps
 
--- One checkpoint of the durable part stands for all batches that fold to it: it sets just the copies that the site has.
+-- One checkpoint of the durable part replaces all batches that fold to it: it sets just the copies that the site has.
 abbrev pub CheckpointsFold : Type 0
 CheckpointsFold = (catalogue : Catalogue) (id : ℕ) (batches : List (List LogRecord)) →
     durable_in catalogue id (saved (durable_in catalogue id batches) batches) ≡ durable_in catalogue id batches
 
--- where records bring the durable part that a log keeps to this one, the log keeps this one after them
+-- if records take the durable part that a log keeps to this one, the log keeps this one after them
 abbrev pub StepsFold : Type 0
 StepsFold = (catalogue : Catalogue) (id : ℕ) (d : DurableState) (records : List LogRecord) (batches : List (List LogRecord)) →
     apply_all records (durable_in catalogue id batches) ≡ d → durable_in catalogue id (kept_with d records batches) ≡ d
@@ -50,7 +50,7 @@ RunsKeepTheDurablePart = (catalogue : Catalogue) (id : ℕ) (batches : List (Lis
 
 -- ---- what can be encoded
 
--- It has the spelling of a frame and goes to a port.
+-- It is an encoded frame, and goes to a port.
 abbrev pub IsFramed : Datagram → Type 0
 IsFramed d = (d.port < 2 ^ 16) × ((frame : Frame) × IsSpelling frame d.bytes)
 
@@ -60,12 +60,12 @@ pub record IsTurn (catalogue : Catalogue) (turn : Turn) : Type 0 where
   pub batch_is : IsBatch turn.batch
   pub datagrams_are : AllByRecursion IsFramed turn.datagrams
 
--- whatever comes to a site of its form
+-- the same, whatever comes to a site of its form
 abbrev pub TurnsAreShaped : Type 0
 TurnsAreShaped = (catalogue : Catalogue) (site : SiteState) (d : Datagram) → IsCatalogue catalogue → IsShaped catalogue site → d.port < 2 ^ 16 →
     IsTurn catalogue (turn_on catalogue site (arrival catalogue site.id d))
 
--- From batches of their form, where a life is left, the site has its form after each turn, and all that was handed over is frames.
+-- From batches of the right form, where a life is left, the site has its form after each turn, and all that was handed over is frames.
 abbrev pub RunsAreShaped : Type 0
 RunsAreShaped = (catalogue : Catalogue) (id : ℕ) (batches : List (List LogRecord)) (arrived : List Datagram) →
     IsCatalogue catalogue → has (sites_of catalogue) id ≡ true → AllByRecursion IsBatch batches → (durable_in catalogue id batches).life + 1 < 2 ^ 32 → AllByRecursion (λ (d : Datagram). d.port < 2 ^ 16) arrived →
@@ -73,17 +73,17 @@ RunsAreShaped = (catalogue : Catalogue) (id : ℕ) (batches : List (List LogReco
 
 -- ---- between nodes and clients
 
--- a message that a site sends from its port is, where it comes to its receiver, that message from that site
+-- a message that a site sends from its port is read by its receiver as that message from that site
 abbrev pub MessagesArrive : Type 0
 MessagesArrive = (catalogue : Catalogue) (sent : Sent) (port : ℕ) → IsCatalogue catalogue → IsFrame (message_frame sent) → value_at sent.from catalogue.sites ≡ Some port →
     arrival catalogue sent.to (datagram_to port (message_frame sent)) ≡ Gives (input.Message sent.from sent.message)
 
--- a client's call is that call at its site, from the client's port
+-- a client's call is read by its site as that call, from the client's port
 abbrev pub CallsArrive : Type 0
 CallsArrive = (catalogue : Catalogue) (site own : ℕ) (words : Call) → IsSite site → IsCall words → site_at catalogue own ≡ 0 →
     arrival catalogue site (datagram_to own (call_frame site words)) ≡ Gives (input.Call own words)
 
--- a site's reply to a call is its answer where it comes from the site's port
+-- a site's reply to a call is read as its answer, if it comes from the site's port
 abbrev pub RepliesArrive : Type 0
 RepliesArrive = (port site : ℕ) (words : Call) (reply : Reply) → IsSite site → IsAnswer reply.answer → answers words reply.answer ≡ true →
     answer_of port site words (datagram_to port (reply_frame site reply)) ≡ Some reply.answer

@@ -1,3 +1,10 @@
+pub mod Stopped
+pub mod StopLaws
+pub mod WorkedStops
+pub mod Kept
+pub mod Lives
+pub mod WorkedLogs
+pub mod LogLaws
 pub mod Arrivals
 pub mod Keeping
 pub mod Turns

@@ -1,4 +1,4 @@
--- The run of a node: a start from what its log has, and then a turn for each datagram, up to one that ends it.
+-- The run of a node: a start from what its log has, and then a turn for each datagram, until one ends it.
 use Rattle.std.specs.Prelude.{ℕ, Bool, false, if◌then◌else◌, List, [], ◌∷◌, ◌++◌}
 use Rattle.std.specs.List.{concat}
 use Rattle.vp_model.specs.Types.{LogRecord, Commit}
@@ -47,7 +47,7 @@ with_turn d what turn run =
       stopped = turn.stop;
     }
 
--- a datagram comes; after the end of the run nothing does anything
+-- a datagram comes; after the end of the run none has an effect
 unfoldable pub one_turn : Catalogue → Datagram → NodeRun → NodeRun
 one_turn catalogue d run =
     let what = arrival catalogue run.node.site.id d in

@@ -20,7 +20,7 @@ use Rattle.vp_runs.specs.declared.arrival.Arrival.TheVariants.{Bad, Stray, Stops
 abbrev pub datagram_to : ℕ → Frame → Datagram
 datagram_to port frame = record { port = port; bytes = frame_bytes frame }
 
--- a message goes to its receiver's port; to a site that the catalogue lacks nothing goes
+-- a message goes to its receiver's port; nothing goes to a site that the catalogue lacks
 abbrev pub message_datagram : Catalogue → Sent → List Datagram
 message_datagram catalogue sent = option_map_or (λ port. datagram_to port (message_frame sent) ∷ []) (value_at sent.to catalogue.sites) []
 
@@ -66,7 +66,7 @@ turn_on catalogue site (Gives given) = step_turn catalogue site.id (step catalog
 abbrev pub worded : List ℕ → List ℕ → List ℕ
 worded word text = word ++ (text ++ 10 ∷ [])
 
--- the line of the bytes that came, and of what they are
+-- the line with the bytes that came, and with what they are
 abbrev pub arrival_line : List ℕ → Arrival → List ℕ
 arrival_line bytes (Bad at) = worded (codes "bad ") (decimal at)
 arrival_line bytes Stray = worded (codes "stray ") (encode_lower bytes)

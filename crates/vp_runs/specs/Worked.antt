@@ -1,4 +1,4 @@
--- Worked runs: what comes to a node or a client, and what is to come of it.
+-- Worked runs: what comes to a node or a client, and what the result is.
 use Rattle.std.specs.Prelude.{ℕ, List, [], ◌∷◌, codes}
 use Rattle.vp_model.specs.Types.{LogRecord, TxnId, Call, Answer}
 use Rattle.vp_model.specs.Types.answer
@@ -25,7 +25,7 @@ both = record { sites = (1, 7001) ∷ (2, 7002) ∷ []; records = x ((1, 1) ∷ 
 abbrev pub txn : ℕ → TxnId
 txn seq = record { site = 1; life = 1; seq = seq }
 
--- from a client
+-- a call from a client
 abbrev pub called : Call → Datagram
 called words = datagram_to 7100 (call_frame 1 words)
 
@@ -66,6 +66,6 @@ committed = (log_record.Start 1 ∷ []) ∷ (log_record.Commit (txn 1) opening (
 abbrev pub replied : ℕ → Answer → Datagram
 replied port answer = datagram_to port (frame_of 1 0 (body.Reply answer))
 
--- none of these is the answer to the commit: of another transaction, under another number, from another port
+-- none of these is the answer to the commit: they are of another transaction, with another number, or from another port
 abbrev pub others : List Datagram
 others = replied 7001 (answer.Committed (txn 2) 2) ∷ replied 7001 (answer.Written (txn 1) 1) ∷ replied 7002 (answer.Committed (txn 1) 2) ∷ []

@@ -2,12 +2,12 @@
 
 use vp_base::Input;
 
-/// What comes to a node.
+/// What a datagram that comes is to a node.
 #[derive(Drop)]
 pub enum Arrival {
-    /// Bytes that are no frame: so many of them begin one.
+    /// Bytes that are no frame: the first `at` of them can begin one.
     Bad { at: usize },
-    /// A frame that is passed over: it isn't for this site, or doesn't come from the one whose port sent it.
+    /// A frame that is ignored: it is for another site, or its sender's port isn't the one that it came from.
     Stray,
     /// The frame that ends the run.
     Stops,

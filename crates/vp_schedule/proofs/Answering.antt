@@ -1,4 +1,4 @@
--- What the loop over the lines answers.
+-- The results of the loop over the lines.
 use Rattle.std.proofs.Common.{ltb, ◌≡◌, ℕ, ◌+◌, ◌-◌, ◌≤◌, List, ◌++◌, length, refl, sym, ap, subst, ◌∙◌, arith, Ok, Err, true, false, not, [], ◌∷◌}
 use Rattle.std.proofs.lemmas.Bool.{false≢true, ltb-false, or_parts, not-false, not-true}
 use Rattle.std.proofs.lemmas.List.{length-append, append-nil, nil_from_length}
@@ -34,7 +34,7 @@ owed_none rest d owed =
     let neither = or_parts (ltb 0 (length rest)) (not d.opened) owed in
     (omega (arith, ltb-false 0 (length rest) neither.0), not-false d.opened neither.1)
 
--- ---- a line that can't be read: the text is no schedule's
+-- ---- a line that can't be read: the text is not that of a schedule
 
 abbrev standing : (text rest : List ℕ) (d : Draft) (line : ℕ) (s : Stands text rest d line) → Divided blank after LineText Onward text
 standing text rest d line s = record { lines = s.lines; front = s.front; rest = rest; lines_are = s.lines_are; parts = s.parts }
@@ -54,7 +54,7 @@ no_schedule text rest d line left stands read owed s h =
     let here : d ≡ record { schedule = s; opened = true } = sym stands.state_is ∙ ap said same.lines ∙ whole.says in
     false≢true (sym (owed_more rest d owed (ap length same.rest)) ∙ ap (λ (d : Draft). d.opened) here)
 
--- ---- the answers
+-- ---- the results
 
 pub answered_next : (text rest new : List ℕ) (d : Draft) (line : ℕ) (e : ScheduleFault) → Stands text rest d line → is_owed rest d ≡ true → NextLine d line rest new (Err e) → Answered text (Err e)
 answered_next text rest new d line (faults.BadLine l at) s owed n =

@@ -1,4 +1,4 @@
--- What the lines of a catalogue say, for the lines of a schedule.
+-- Laws of the lines of a catalogue, for the lines of a schedule.
 use Rattle.std.proofs.Common.{◌≡◌, ℕ, ◌+◌, ◌≤◌, ◌<◌, eqb, List, [], ◌∷◌, length, refl, sym, arith, inl, inr}
 use Rattle.std.proofs.lemmas.Bool.{eq-eqb, cases_eq}
 use Rattle.std.proofs.Math.Bool.{or-true}

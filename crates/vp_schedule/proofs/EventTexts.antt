@@ -1,4 +1,4 @@
--- Events are read exactly, and none goes on to another with a newline.
+-- Events are read exactly, and none goes on to a longer one by a newline.
 use Rattle.std.proofs.Common.{◌≡◌, ℕ, ◌≤◌, ◌<◌, Bool, true, false, cond, eqb, List, [], ◌∷◌, ◌++◌, length, Result, refl, sym, ap, subst, ◌∙◌, arith, inl, inr}
 use Rattle.std.specs.Fmt.{decimal}
 use Rattle.std.specs.List.{AllByRecursion}
@@ -25,7 +25,7 @@ use Rattle.vp_schedule.proofs.Exact.{call_exact}
 use Rattle.vp_schedule.proofs.KindWords.{Among, IsKind, all_apart, kinds_end, kinds_exact}
 use Rattle.vp_schedule.proofs.OtherSites.{others_all, other_listed, listed_other}
 
--- ---- what stands behind the words
+-- ---- what follows the words
 
 abbrev Pair : List ℕ → ℕ × ℕ → List ℕ → Type 0
 Pair sites = Then (IsSiteIn sites 0) (λ a. Then (IsLiteral (32 ∷ [])) (λ _. Made (IsSiteIn (other_sites sites a) 0) (λ b. (a, b))))
@@ -55,7 +55,7 @@ Fields sites Heal = Paired sites (λ a b. event.Heal a b)
 
 -- ---- they are read exactly
 
--- There is a site; and where there are two in the list, there is another than any one.
+-- There is a site; and where the list has two, each one has another.
 pub record IsSites (sites : List ℕ) : Type 0 where
   pub all : AllSites sites
   pub some : (s : ℕ) × IsListed sites s
@@ -96,7 +96,7 @@ fields_exact sites h two Restart = made_exact (λ site. event.Restart site) (lis
 fields_exact sites h two Cut = made_exact (λ p. event.Cut p.0 p.1) (pair_exact sites h two)
 fields_exact sites h two Heal = made_exact (λ p. event.Heal p.0 p.1) (pair_exact sites h two)
 
--- ---- the same without two sites: what stands behind the word of a pair is never asked
+-- ---- the same without two sites: what follows the word of a pair is never reached
 
 abbrev names_pair : EventKind → Bool
 names_pair Call = false
@@ -216,7 +216,7 @@ kind_of (event.Heal a b) = Heal
 kind_of (event.Crash site) = Crash
 kind_of (event.Restart site) = Restart
 
--- what stands behind the word of an event
+-- what follows the word of an event
 record Behind (sites : List ℕ) (e : Event) : Type 0 where
   back : List ℕ
   fields : Fields sites (kind_of e) e back

@@ -1,4 +1,4 @@
--- Calls are read exactly, and none goes on to another with a newline.
+-- Calls are read exactly, and none goes on to a longer one by a newline.
 use Rattle.std.proofs.Common.{◌≡◌, ℕ, ◌-◌, ◌^◌, ◌<◌, Bool, true, false, not, eqb, List, [], ◌∷◌, ◌++◌, length, refl, sym, subst, ◌∙◌, append_assoc, arith, inl, inr}
 use Rattle.std.specs.Prelude.{codes}
 use Rattle.std.specs.List.{AllByRecursion}
@@ -62,7 +62,7 @@ NumberedParts = Then IsTxnText (λ txn. Then (IsLiteral (32 ∷ [])) (λ _. Then
 abbrev CallParts : Call → List ℕ → Type 0
 CallParts = Either BareParts NumberedParts
 
--- ---- they open differently
+-- ---- they begin differently
 
 opens_begin : Opens (codes "begin") BeginParts
 opens_begin = made_opens (codes "begin")

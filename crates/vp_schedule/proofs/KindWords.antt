@@ -23,12 +23,12 @@ still_first size (Err m) (Err n) e =
     let less : min size n ≡ n = err_left (min size n) n e in
     ap (λ (k : ℕ). Err k) (omega (arith, less))
 
--- no fault lies before the place
+-- no fault comes before the place
 pub kinds_start : (kinds : List EventKind) (bytes : List ℕ) → either (Err (length bytes)) (kind_at kinds bytes) ≡ kind_at kinds bytes
 kinds_start [] bytes = ap (λ (k : ℕ). Err k) (omega arith)
 kinds_start (kind ∷ kinds) bytes = still_first (length bytes) (literal_at (word kind) bytes >>= λ u. Ok (kind, u.1)) (kind_at kinds bytes) (kinds_start kinds bytes)
 
--- ---- which words stand there
+-- ---- which words are there
 
 abbrev pub Among : List EventKind → EventKind → Type 0
 Among [] kind = ⊥
@@ -39,7 +39,7 @@ pub record IsKind (kinds : List EventKind) (kind : EventKind) (text : List ℕ) 
   pub is : text ≡ word kind
   pub among : Among kinds kind
 
--- no word of the kinds begins as the key does, nor the key as one of them
+-- no word of the kinds begins as the key does, nor the key as one of the words
 abbrev apart_from : List ℕ → List EventKind → Bool
 apart_from key [] = true
 apart_from key (k ∷ kinds) = (differ key (word k) && differ (word k) key) && apart_from key kinds
@@ -80,7 +80,7 @@ clear_back kind (k ∷ kinds) e a b t r l m =
       | inr more ↦ clear_back kind kinds both.1 a b t r (record { is = l.is; among = more }) m
     ]
 
--- the word of a kind doesn't go on to another
+-- the word of a kind doesn't go on to a longer one
 pub kinds_end : (kinds : List EventKind) → all_apart kinds ≡ true → (a b : EventKind) (t : List ℕ) (x : ℕ) (r : List ℕ) → IsKind kinds a t → IsKind kinds b (t ++ x ∷ r) → ⊥
 kinds_end [] e a b t x r l m = l.among
 kinds_end (k ∷ kinds) e a b t x r l m =

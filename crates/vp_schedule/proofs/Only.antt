@@ -1,4 +1,4 @@
--- Of a text one answer is right, but for want of memory.
+-- Only one result is right for a text, apart from want of memory.
 use Rattle.std.proofs.Common.{◌≡◌, ◌≢◌, ℕ, ◌+◌, List, length, Result, Ok, Err, refl, sym, ap, subst, ◌∙◌, arith}
 use Rattle.std.proofs.lemmas.Bool.{false≢true}
 use Rattle.vp_text.specs.Documents.{IsFaultyLine}

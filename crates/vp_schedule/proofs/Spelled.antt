@@ -1,4 +1,4 @@
--- The lines to the end of a text spell one schedule, and each schedule has lines that spell it.
+-- The lines to the end of a text say only one schedule, and each schedule has lines that say it.
 use Rattle.std.proofs.Common.{◌≡◌, ℕ, ◌+◌, ◌≤◌, ◌<◌, List, [], ◌∷◌, ◌++◌, length, refl, sym, ap, subst, ◌∙◌, arith, append_assoc, Bool, true, false}
 use Rattle.std.specs.Prelude.{codes, flat_map}
 use Rattle.std.specs.List.{AllByRecursion}
@@ -28,7 +28,7 @@ draft_of c events opened = record { schedule = record { catalogue = c; events = 
 
 -- ---- what the lines say
 
--- the line `events` behind a catalogue
+-- the line `events` after a catalogue
 opened_spelled : (c : Catalogue) (front : List ℕ) → IsCatalogue c → catalogue_text c ≡ front → IsScheduleText (record { catalogue = c; events = [] }) (front ++ codes "events\n")
 opened_spelled c front h text = (record { catalogue_is = h; events_are = tt; few = omega arith }, ap (λ (x : List ℕ). x ++ codes "events\n") text)
 

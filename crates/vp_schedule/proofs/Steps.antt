@@ -28,7 +28,7 @@ said = reached blank after LineText Onward
 abbrev pub Lines : List ScheduleLine → List ℕ → Type 0
 Lines = LinesText blank after LineText Onward
 
--- where the reading stands
+-- the place that the reading has reached
 abbrev pub Stands : List ℕ → List ℕ → Draft → ℕ → Type 0
 Stands = SoFar blank after LineText Onward line_at
 
@@ -60,7 +60,7 @@ head_text (kind.Entry entry ∷ es) t h =
 head_text (kind.Events ∷ es) t h = head_text es h.0 h.2
 head_text (kind.Event event ∷ es) t h = head_text es h.0 h.2
 
--- before the line `events` there are no others
+-- before the line `events` there are only lines of the catalogue
 pub head_whole : (es : List ScheduleLine) (t : List ℕ) → Lines es t → (said es).opened ≡ false → catalogue.Lines (entries_of es) t
 head_whole [] t h off = h
 head_whole (kind.Entry entry ∷ es) t h off = (h.0, h.1, head_whole es h.0 h.2 h.3.0, entry_said es entry h.1 h.3.1, onward_said es entry h.4, h.5)

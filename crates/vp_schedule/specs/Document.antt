@@ -23,7 +23,7 @@ pub record IsSchedule (s : Schedule) : Type 0 where
 abbrev pub IsScheduleText : Schedule → List ℕ → Type 0
 IsScheduleText s text = IsSchedule s × (schedule_text s ≡ text)
 
--- What is answered of a text.
+-- What is returned for a text.
 abbrev pub Answered : List ℕ → Result Schedule ScheduleFault → Type 0
 Answered text (Ok s) = IsScheduleText s text
 Answered text (Err (faults.BadLine line at)) = IsBadLine blank after LineText Onward text line at × ((s : Schedule) → IsScheduleText s text → ⊥)
@@ -31,17 +31,17 @@ Answered text (Err (faults.Twice line)) = IsFaultyLine blank after LineText Onwa
 Answered text (Err (faults.TooMany line limit)) = IsFaultyLine blank after LineText Onward (Exceeds limit) text line
 Answered text (Err faults.NoMemory) = ⊤
 
--- Nothing else can be answered of the text, but for want of memory.
+-- Only one result is possible for a text, apart from want of memory.
 abbrev pub IsOnly : List ℕ → Result Schedule ScheduleFault → Type 0
 IsOnly text result = (other : Result Schedule ScheduleFault) → Answered text other → result ≢ Err faults.NoMemory → other ≢ Err faults.NoMemory → other ≡ result
 
--- Where memory is found, the text of a schedule is read as this schedule.
+-- Where memory suffices, the text of a schedule is read as this schedule.
 abbrev pub IsTaken : List ℕ → Result Schedule ScheduleFault → Type 0
 IsTaken text result = (s : Schedule) → IsScheduleText s text → result ≢ Err faults.NoMemory → result ≡ Ok s
 
 -- ---- the steps of the reader
 
--- the next line was read, or this is its place in the text
+-- the next line was read, or its fault is at this place in the text
 
 abbrev pub NextLine : Draft → ℕ → List ℕ → List ℕ → Result ScheduleLine ScheduleFault → Type 0
 NextLine draft number old new (Ok line) = line_at draft old ≡ Ok (line, new)

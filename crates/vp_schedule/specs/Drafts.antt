@@ -1,4 +1,4 @@
--- The lines of a schedule, each allowed after the lines before it.
+-- The lines of a schedule, each allowed by the lines before it.
 use Rattle.std.specs.Prelude.{◌≡◌, ⊤, ℕ, ◌≤◌, ◌<◌, List, [], ◌∷◌, ◌++◌, length, true, false, codes, Result, Ok, Err}
 use Rattle.vp_model.specs.Catalogue.{sites_of}
 use Rattle.vp_model.specs.Texts.Schedule.{event_line}
@@ -17,17 +17,17 @@ use Rattle.vp_schedule.specs.Events.{IsEvent}
 abbrev pub sites_said : Draft → List ℕ
 sites_said d = sites_of d.schedule.catalogue
 
--- The line `events` stands behind one or more sites; the lines of the catalogue stand before it, and the events behind it.
+-- The line `events` comes after at least one site and after all lines of the catalogue; the events come after it.
 abbrev pub LineText : Draft → ScheduleLine → List ℕ → Type 0
 LineText d (kind.Entry entry) text = (d.opened ≡ false) × entries.EntryText d.schedule.catalogue entry text
 LineText d kind.Events text = (d.opened ≡ false) × (0 < length d.schedule.catalogue.sites) × (text ≡ codes "events\n")
 LineText d (kind.Event event) text = (d.opened ≡ true) × IsEvent (sites_said d) event × (text ≡ event_line event)
 
--- The line is allowed where the lines before it say so much.
+-- The lines before it allow the line.
 abbrev pub IsAllowed : Draft → ScheduleLine → Type 0
 IsAllowed d line = (text : List ℕ) × LineText d line text
 
--- ---- from line to line
+-- ---- from one line to the next
 
 abbrev pub blank : Draft
 blank = record { schedule = record { catalogue = entries.nothing; events = [] }; opened = false }
@@ -49,7 +49,7 @@ Repeats d (kind.Entry entry) = entries.Repeats d.schedule.catalogue entry
 Repeats d kind.Events = ⊥
 Repeats d (kind.Event event) = ⊥
 
--- It is a record line behind 256 of them, or an event line behind 100,000.
+-- It is a record line after 256 records, or an event line after 100,000 events.
 abbrev pub Exceeds : ℕ → Draft → ScheduleLine → Type 0
 Exceeds limit d (kind.Entry entry) = (limit ≡ 256) × entries.Overfills d.schedule.catalogue entry
 Exceeds limit d kind.Events = ⊥

@@ -9,7 +9,7 @@ use Rattle.vp_schedule.specs.declared.kind.EventKind.{EventKind}
 use Rattle.vp_schedule.specs.declared.kind.EventKind.TheVariants.{Call, Deliver, Flow, Tick, Probe, Crash, Restart, Cut, Heal}
 use Rattle.vp_schedule.specs.Kinds.{kinds_over, kind_at}
 
--- the sites of the list but this one
+-- the sites of the list except this one
 abbrev pub other_sites : List ℕ → ℕ → List ℕ
 other_sites sites site = filter (λ s. not (s == site)) sites
 
@@ -27,7 +27,7 @@ called_at sites bytes = do
   words ← call_at space.1
   Ok (event.Call site.0 words.0, words.1)
 
--- what stands behind the word
+-- what follows the word
 unfoldable pub fields_at : List ℕ → EventKind → List ℕ → Result (Event × List ℕ) ℕ
 fields_at sites Call bytes = called_at sites bytes
 fields_at sites Deliver bytes = do

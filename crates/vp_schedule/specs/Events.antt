@@ -9,11 +9,11 @@ use Rattle.vp_base.specs.Calls.{IsCall}
 abbrev pub IsListed : List ℕ → ℕ → Type 0
 IsListed sites site = has sites site ≡ true
 
--- a number of 1 to most
+-- a number from 1 to most
 abbrev pub IsCount : ℕ → ℕ → Type 0
 IsCount most n = (1 ≤ n) × (n ≤ most)
 
--- two sites of the list that differ
+-- two different sites of the list
 abbrev pub IsPair : List ℕ → ℕ → ℕ → Type 0
 IsPair sites a b = IsListed sites a × IsListed sites b × (a ≢ b)
 
@@ -28,7 +28,7 @@ IsEvent sites (event.Heal a b) = IsPair sites a b
 IsEvent sites (event.Crash site) = IsListed sites site
 IsEvent sites (event.Restart site) = IsListed sites site
 
--- The text is that of an event, as it stands in its line.
+-- The text is that of an event, as its line has it.
 pub record IsEventText (sites : List ℕ) (e : Event) (text : List ℕ) : Type 0 where
   pub is : text ≡ event_text e
   pub allowed : IsEvent sites e

@@ -1,4 +1,4 @@
--- The words that event lines begin with.
+-- The first words of event lines.
 use Rattle.std.specs.Prelude.{ℕ, List, [], ◌∷◌, length, codes, nat_lt, if◌then◌else◌, Result, Ok, Err}
 use Rattle.vp_text.specs.Reading.{◌>>=◌, literal_at, either}
 use Rattle.vp_schedule.specs.declared.kind.EventKind.{EventKind}
@@ -22,7 +22,7 @@ single_kinds = Call ∷ Deliver ∷ Flow ∷ Tick ∷ Probe ∷ Crash ∷ Restar
 abbrev pub all_kinds : List EventKind
 all_kinds = Call ∷ Deliver ∷ Flow ∷ Tick ∷ Probe ∷ Crash ∷ Restart ∷ Cut ∷ Heal ∷ []
 
--- A pair of sites that differ needs two sites.
+-- A pair of different sites needs at least two sites.
 abbrev pub kinds_over : List ℕ → List EventKind
 kinds_over sites = if nat_lt (length sites) 2 then single_kinds else all_kinds
 

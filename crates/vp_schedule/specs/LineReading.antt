@@ -1,29 +1,28 @@
 -- Reading the lines of a schedule from left to right.
-use Rattle.std.specs.Prelude.{ℕ, List, [], ◌∷◌, length, cond, nat_lt, codes, Result, Ok}
-use Rattle.vp_text.specs.Reading.{◌>>=◌, literal_at, either}
+use Rattle.std.specs.Prelude.{ℕ, List, [], ◌∷◌, cond, codes, Result, Ok}
+use Rattle.vp_text.specs.Reading.{◌>>=◌, literal_at}
 use Rattle.vp_model.specs.Catalogue.{Catalogue}
-use Rattle.vp_catalog.specs.EntryReading.{entry_at}
+use Rattle.vp_heads.specs.HeadReading.{head_at}
+use Rattle.vp_heads.specs.declared.line.HeadLine.{HeadLine}
+use Rattle.vp_heads.specs.declared.line.HeadLine.TheVariants as head
 use Rattle.vp_schedule.specs.declared.line.ScheduleLine.{ScheduleLine}
 use Rattle.vp_schedule.specs.declared.line.ScheduleLine.TheVariants as kind
 use Rattle.vp_schedule.specs.declared.draft.Draft.{Draft}
 use Rattle.vp_schedule.specs.EventReading.{event_at}
 use Rattle.vp_schedule.specs.Drafts.{sites_said}
 
-unfoldable pub catalogue_line_at : Catalogue → List ℕ → Result (ScheduleLine × List ℕ) ℕ
-catalogue_line_at catalogue bytes = do
-  entry ← entry_at catalogue bytes
-  Ok (kind.Entry entry.0, entry.1)
-
-unfoldable pub opening_at : List ℕ → Result (ScheduleLine × List ℕ) ℕ
-opening_at bytes = do
-  key ← literal_at (codes "events\n") bytes
-  Ok (kind.Events, key.1)
+-- a line of the head, as a line of the schedule
+abbrev pub of_head : HeadLine → ScheduleLine
+of_head (head.Entry entry) = kind.Entry entry
+of_head head.Key = kind.Events
 
 -- before the line `events`
-unfoldable pub head_at : Catalogue → List ℕ → Result (ScheduleLine × List ℕ) ℕ
-head_at catalogue bytes = cond (nat_lt 0 (length catalogue.sites)) (either (catalogue_line_at catalogue bytes) (opening_at bytes)) (catalogue_line_at catalogue bytes)
+unfoldable pub head_line_at : Catalogue → List ℕ → Result (ScheduleLine × List ℕ) ℕ
+head_line_at catalogue bytes = do
+  line ← head_at (codes "events\n") catalogue bytes
+  Ok (of_head line.0, line.1)
 
--- behind it
+-- after it
 unfoldable pub event_line_at : List ℕ → List ℕ → Result (ScheduleLine × List ℕ) ℕ
 event_line_at sites bytes = do
   event ← event_at sites bytes
@@ -31,4 +30,4 @@ event_line_at sites bytes = do
   Ok (kind.Event event.0, end.1)
 
 unfoldable pub line_at : Draft → List ℕ → Result (ScheduleLine × List ℕ) ℕ
-line_at draft bytes = cond draft.opened (event_line_at (sites_said draft) bytes) (head_at draft.schedule.catalogue bytes)
+line_at draft bytes = cond draft.opened (event_line_at (sites_said draft) bytes) (head_line_at draft.schedule.catalogue bytes)

@@ -22,7 +22,7 @@ regroup_at bytes = do
 unfoldable pub bare_at : List ℕ → Result (Call × List ℕ) ℕ
 bare_at bytes = either (begin_at bytes) (regroup_at bytes)
 
--- ---- what a call does, behind its transaction and its number
+-- ---- what a call does, after its transaction and its number
 
 unfoldable pub read_at : TxnId → ℕ → List ℕ → Result (Call × List ℕ) ℕ
 read_at txn number bytes = do

@@ -8,13 +8,13 @@ ghost use Rattle.vp_schedule.specs.Document.{Answered, IsOnly, IsTaken, NextLine
 use crate::draft::Draft;
 use crate::fault::ScheduleFault;
 use crate::line::ScheduleLine;
-use crate::line_reading::take_line;
+use crate::line_reading::parse_line;
 use crate::schedule::Schedule;
 use std::alloc::Global;
 use vp_base::LineFault;
 use vp_text::Cursor;
 
-/// The next line, which is allowed behind what the lines say so far.
+/// Reads the next line, which the lines before it allow.
 fn next_line(
     alloc: Global,
     cursor: &mut Cursor,
@@ -27,7 +27,7 @@ fn next_line(
     ensures { NextLine draft.now line cursor.old cursor.new result }
 {
     let here = cursor.left();
-    match take_line(alloc, cursor, draft) {
+    match parse_line(alloc, cursor, draft) {
         Ok(next) => Ok(next),
         Err(LineFault::NoMemory) => Err(ScheduleFault::NoMemory),
         Err(LineFault::Unexpected(e)) => Err(ScheduleFault::BadLine {
@@ -37,15 +37,15 @@ fn next_line(
     }
 }
 
-/// Whether another line has to come: there are more bytes, or the line `events` has not come yet.
+/// Whether another line has to come: more bytes are left, or the line `events` has not come yet.
 fn owes_line(cursor: &Cursor, draft: &Draft) -> bool
     ensures { result ≡ is_owed cursor.now draft.now }
 {
     cursor.left() > 0 || !draft.opened
 }
 
-/// The schedule that the whole text spells: the lines of a catalogue, the line `events`, and event lines to the end. The fault
-/// is that of the first line at fault. A text that ends before the line `events` has a bad line there.
+/// Reads the whole text as a schedule: the lines of a catalogue, the line `events`, and event lines to the end. An error names the
+/// first faulty line; a text that ends before the line `events` has a bad line at its end.
 pub fn read(alloc: Global, text: &[u8]) -> Result<Schedule, ScheduleFault>
     ensures answer { Answered text.now result }
     ensures only { IsOnly text.now result }

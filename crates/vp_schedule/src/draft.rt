@@ -1,4 +1,4 @@
-//! What the lines of a schedule say so far.
+//! What the first lines of a schedule say.
 
 ghost use Rattle.std.specs.Prelude.{◌≡◌};
 ghost use Rattle.vp_schedule.specs.Drafts.{blank, IsAllowed, Adds};
@@ -10,7 +10,7 @@ use std::alloc::Global;
 use vp_base::{Events, MOST_EVENTS};
 use vp_catalog::Catalog;
 
-/// A schedule that is being read, and whether the line `events` has come.
+/// A schedule as far as it was read, and whether the line `events` has come.
 #[derive(Drop)]
 pub struct Draft {
     pub schedule: Schedule,
@@ -18,7 +18,7 @@ pub struct Draft {
 }
 
 impl Draft {
-    /// What no lines say, which takes no memory.
+    /// Makes the draft of no lines. Takes no memory.
     pub fn new(alloc: Global) -> Draft
         ensures { result ≡ blank }
     {
@@ -31,7 +31,7 @@ impl Draft {
         }
     }
 
-    /// Adds what the line of this number says. After an `Err` nothing is added.
+    /// Adds what the line of this number says. After an `Err` the draft is as it was.
     pub fn add(&mut self, line: ScheduleLine, number: usize) -> Result<(), ScheduleFault>
         requires { IsAllowed self.old line }
         ensures { Adds self.old line number self.new result }

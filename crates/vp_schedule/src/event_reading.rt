@@ -1,4 +1,4 @@
-//! Reading events, as a schedule writes them.
+//! Reading events, as a schedule has them.
 
 ghost use Rattle.std.specs.Prelude.{◌≡◌, ◌≤◌, length};
 ghost use Rattle.vp_text.specs.Reading.{Reads, Tries};
@@ -7,14 +7,14 @@ ghost use Rattle.vp_catalog.specs.Sites.{site_at};
 ghost use Rattle.vp_schedule.specs.Kinds.{kinds_over};
 ghost use Rattle.vp_schedule.specs.EventReading.{other_sites, pair_at, called_at, fields_at, event_at};
 
-use crate::kind::{EventKind, take_kind};
-use crate::reading::take_call;
+use crate::kind::{EventKind, parse_kind};
+use crate::reading::parse_call;
 use std::alloc::Global;
 use vp_base::{Event, LAST_SITE, LineFault, MOST_MESSAGES, MOST_STEPS, SiteId};
-use vp_catalog::take_site;
+use vp_catalog::parse_site;
 use vp_text::{Cursor, Unexpected};
 
-/// The kinds of event lines over these sites: only where there are two sites does a line name a pair of them.
+/// The kinds of event lines that these sites allow: a line names a pair of sites only where there are two.
 fn kinds_over(sites: &[SiteId]) -> &'static [EventKind]
     ensures { result.now ≡ kinds_over sites.now }
 {
@@ -43,8 +43,8 @@ fn kinds_over(sites: &[SiteId]) -> &'static [EventKind]
     }
 }
 
-/// The number of a site of the list that is not this one.
-fn take_other(cursor: &mut Cursor, sites: &[SiteId], site: SiteId) -> Result<SiteId, Unexpected>
+/// Reads the number of a site of the list other than this one.
+fn parse_other(cursor: &mut Cursor, sites: &[SiteId], site: SiteId) -> Result<SiteId, Unexpected>
     requires { length sites.now ≤ 16 }
     ensures { Reads (λ s. s) (λ e. e.left) result cursor.new (site_at (other_sites sites.now site) 0 cursor.old) }
 {
@@ -56,35 +56,35 @@ fn take_other(cursor: &mut Cursor, sites: &[SiteId], site: SiteId) -> Result<Sit
             count += 1;
         }
     }
-    take_site(cursor, &others[..count], 0)
+    parse_site(cursor, &others[..count], 0)
 }
 
-/// Two sites that differ.
+/// Reads two different sites.
 #[tactic(auto, unfolding(crate::specs::EventReading::pair_at))]
-fn take_pair(cursor: &mut Cursor, sites: &[SiteId]) -> Result<(SiteId, SiteId), Unexpected>
+fn parse_pair(cursor: &mut Cursor, sites: &[SiteId]) -> Result<(SiteId, SiteId), Unexpected>
     requires { length sites.now ≤ 16 }
     ensures { Reads (λ pair. pair) (λ e. e.left) result cursor.new (pair_at sites.now cursor.old) }
 {
-    let a = take_site(cursor, sites, 0)?;
+    let a = parse_site(cursor, sites, 0)?;
     cursor.literal(b" ")?;
-    let b = take_other(cursor, sites, a)?;
+    let b = parse_other(cursor, sites, a)?;
     Ok((a, b))
 }
 
-/// A site and a call.
+/// Reads a site and a call.
 #[tactic(auto, unfolding(crate::specs::EventReading::called_at))]
-fn take_called(alloc: Global, cursor: &mut Cursor, sites: &[SiteId]) -> Result<Event, LineFault>
+fn parse_called(alloc: Global, cursor: &mut Cursor, sites: &[SiteId]) -> Result<Event, LineFault>
     ensures { Tries (λ event. event) line_left result cursor.new (called_at sites.now cursor.old) }
 {
-    let site = take_site(cursor, sites, 0)?;
+    let site = parse_site(cursor, sites, 0)?;
     cursor.literal(b" ")?;
-    let call = take_call(alloc, cursor)?;
+    let call = parse_call(alloc, cursor)?;
     Ok(Event::Call { site, call })
 }
 
-/// What stands behind the word of a line of this kind.
+/// Reads what follows the word of a line of this kind.
 #[tactic(auto, unfolding(crate::specs::EventReading::fields_at))]
-fn take_fields(
+fn parse_fields(
     alloc: Global,
     cursor: &mut Cursor,
     kind: EventKind,
@@ -94,7 +94,7 @@ fn take_fields(
     ensures { Tries (λ event. event) line_left result cursor.new (fields_at sites.now kind cursor.old) }
 {
     let event = match kind {
-        EventKind::Call => take_called(alloc, cursor, sites)?,
+        EventKind::Call => parse_called(alloc, cursor, sites)?,
         EventKind::Deliver => Event::Deliver {
             k: cursor.number_u32(1, MOST_MESSAGES)?,
         },
@@ -102,35 +102,35 @@ fn take_fields(
             count: cursor.number_u32(1, MOST_STEPS)?,
         },
         EventKind::Tick => Event::Tick {
-            site: take_site(cursor, sites, 0)?,
+            site: parse_site(cursor, sites, 0)?,
         },
         EventKind::Probe => Event::Probe {
-            site: take_site(cursor, sites, 0)?,
+            site: parse_site(cursor, sites, 0)?,
         },
         EventKind::Crash => Event::Crash {
-            site: take_site(cursor, sites, 0)?,
+            site: parse_site(cursor, sites, 0)?,
         },
         EventKind::Restart => Event::Restart {
-            site: take_site(cursor, sites, 0)?,
+            site: parse_site(cursor, sites, 0)?,
         },
         EventKind::Cut => {
-            let (a, b) = take_pair(cursor, sites)?;
+            let (a, b) = parse_pair(cursor, sites)?;
             Event::Cut { a, b }
         }
         EventKind::Heal => {
-            let (a, b) = take_pair(cursor, sites)?;
+            let (a, b) = parse_pair(cursor, sites)?;
             Event::Heal { a, b }
         }
     };
     Ok(event)
 }
 
-/// Takes an event over these sites from the front of what is left, without the end of its line.
+/// Reads an event over these sites from the front of what is left, without the end of its line.
 #[tactic(auto, unfolding(crate::specs::EventReading::event_at))]
-pub fn take_event(alloc: Global, cursor: &mut Cursor, sites: &[SiteId]) -> Result<Event, LineFault>
+pub fn parse_event(alloc: Global, cursor: &mut Cursor, sites: &[SiteId]) -> Result<Event, LineFault>
     requires { length sites.now ≤ 16 }
     ensures { Tries (λ event. event) line_left result cursor.new (event_at sites.now cursor.old) }
 {
-    let kind = take_kind(cursor, kinds_over(sites))?;
-    take_fields(alloc, cursor, kind, sites)
+    let kind = parse_kind(cursor, kinds_over(sites))?;
+    parse_fields(alloc, cursor, kind, sites)
 }

@@ -1,4 +1,4 @@
-//! Why a schedule could not be read.
+//! Why a schedule can't be read.
 
 ghost use Rattle.std.specs.Prelude.{◌≡◌};
 ghost use Rattle.vp_schedule.specs.declared.fault.ScheduleFault.TheVariants as faults;
@@ -7,15 +7,16 @@ ghost use Rattle.vp_schedule.specs.Drafts.{fault_of};
 use vp_base::NoMemory;
 use vp_catalog::CatalogFault;
 
-/// Why a schedule could not be read. Lines and places are counted from 1.
+/// Why a schedule can't be read. Lines, and bytes within a line, are counted from 1.
 #[derive(Clone, Copy, Debug, Drop, PartialEq, Eq)]
 pub enum ScheduleFault {
-    /// No allowed line stands there: it goes wrong at this byte.
+    /// The line is not an allowed one: it goes wrong at the byte `at`.
     BadLine { line: usize, at: usize },
-    /// The line gives a port or a record's name that an earlier line gives.
+    /// The line repeats the port or the record's name of an earlier line.
     Twice { line: usize },
-    /// The record line or the event line is one more than there may be.
+    /// The record line or event line is one more than `limit`.
     TooMany { line: usize, limit: u32 },
+    /// Memory is lacking; nothing is known of the text.
     NoMemory,
 }
 

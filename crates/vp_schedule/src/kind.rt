@@ -1,4 +1,4 @@
-//! The kinds of event lines, by the words that they begin with.
+//! The kinds of event lines, by their first words.
 
 ghost use Rattle.std.specs.Prelude.{◌≡◌};
 ghost use Rattle.vp_text.specs.Reading.{Reads};
@@ -6,6 +6,7 @@ ghost use Rattle.vp_schedule.specs.Kinds.{word, kind_at};
 
 use vp_text::{Cursor, Unexpected};
 
+/// A kind of event line. What the event does is at the variant of `Event` with its name.
 #[derive(Clone, Copy)]
 pub enum EventKind {
     Call,
@@ -20,7 +21,7 @@ pub enum EventKind {
 }
 
 impl EventKind {
-    /// The word that a line of this kind begins with, and the blank behind it.
+    /// The first word of a line of this kind, with the space after it.
     fn word(self) -> &'static [u8]
         ensures { result.now ≡ word self }
     {
@@ -38,8 +39,8 @@ impl EventKind {
     }
 }
 
-/// Takes the word of one of the kinds. Where none stands there, the fault is where what went farthest goes wrong.
-pub fn take_kind(cursor: &mut Cursor, kinds: &[EventKind]) -> Result<EventKind, Unexpected>
+/// Reads the word of one of the kinds. Where there is none, the fault is that of the word that went farthest.
+pub fn parse_kind(cursor: &mut Cursor, kinds: &[EventKind]) -> Result<EventKind, Unexpected>
     ensures { Reads (λ kind. kind) (λ e. e.left) result cursor.new (kind_at kinds.now cursor.old) }
 {
     let mut fault = Unexpected {

@@ -1,4 +1,4 @@
-//! The text of schedules.
+//! The text of schedules: reading and printing it.
 #![tactic(auto)]
 
 mod document;

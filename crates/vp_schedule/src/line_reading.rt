@@ -1,68 +1,37 @@
 //! Reading the lines of a schedule.
 
 ghost use Rattle.std.specs.Prelude.{◌≡◌, ◌≤◌, length};
-ghost use Rattle.vp_text.specs.Reading.{Reads, Tries};
+ghost use Rattle.vp_text.specs.Reading.{Tries};
 ghost use Rattle.vp_base.specs.Faults.{line_left};
 ghost use Rattle.vp_schedule.specs.Drafts.{sites_said};
-ghost use Rattle.vp_schedule.specs.LineReading.{catalogue_line_at, opening_at, head_at, event_line_at, line_at};
+ghost use Rattle.vp_schedule.specs.LineReading.{head_line_at, event_line_at, line_at};
 
 use crate::draft::Draft;
-use crate::event_reading::take_event;
+use crate::event_reading::parse_event;
 use crate::line::ScheduleLine;
 use std::alloc::Global;
 use vp_base::{LineFault, SiteId};
-use vp_catalog::{Catalog, take_entry};
-use vp_text::{Cursor, Unexpected};
-
-#[tactic(auto, unfolding(crate::specs::LineReading::catalogue_line_at))]
-fn take_catalogue_line(
-    alloc: Global,
-    cursor: &mut Cursor,
-    catalog: &Catalog,
-) -> Result<ScheduleLine, LineFault>
-    ensures { Tries (λ line. line) line_left result cursor.new (catalogue_line_at catalog.now cursor.old) }
-{
-    let entry = take_entry(alloc, cursor, catalog)?;
-    Ok(ScheduleLine::Entry(entry))
-}
-
-/// The line `events`.
-#[tactic(auto, unfolding(crate::specs::LineReading::opening_at))]
-fn take_opening(cursor: &mut Cursor) -> Result<ScheduleLine, Unexpected>
-    ensures { Reads (λ line. line) (λ e. e.left) result cursor.new (opening_at cursor.old) }
-{
-    cursor.literal(b"events\n")?;
-    Ok(ScheduleLine::Events)
-}
+use vp_catalog::Catalog;
+use vp_heads::{HeadLine, parse_head};
+use vp_text::Cursor;
 
 /// A line of the catalogue or, where there is a site, the line `events`.
-#[tactic(auto, unfolding(crate::specs::LineReading::head_at))]
-fn take_head(
+#[tactic(auto, unfolding(crate::specs::LineReading::head_line_at))]
+fn parse_head_line(
     alloc: Global,
     cursor: &mut Cursor,
     catalog: &Catalog,
 ) -> Result<ScheduleLine, LineFault>
-    ensures { Tries (λ line. line) line_left result cursor.new (head_at catalog.now cursor.old) }
+    ensures { Tries (λ line. line) line_left result cursor.new (head_line_at catalog.now cursor.old) }
 {
-    if catalog.sites().as_slice().is_empty() {
-        return take_catalogue_line(alloc, cursor, catalog);
-    }
-    let mut other = cursor.fork();
-    match take_catalogue_line(alloc, cursor, catalog) {
-        Ok(line) => Ok(line),
-        Err(LineFault::NoMemory) => Err(LineFault::NoMemory),
-        Err(LineFault::Unexpected(first)) => match take_opening(&mut other) {
-            Ok(line) => {
-                *cursor = other;
-                Ok(line)
-            }
-            Err(second) => Err(LineFault::Unexpected(first.farther(second))),
-        },
+    match parse_head(alloc, cursor, catalog, b"events\n")? {
+        HeadLine::Entry(entry) => Ok(ScheduleLine::Entry(entry)),
+        HeadLine::Key => Ok(ScheduleLine::Events),
     }
 }
 
 #[tactic(auto, unfolding(crate::specs::LineReading::event_line_at))]
-fn take_event_line(
+fn parse_event_line(
     alloc: Global,
     cursor: &mut Cursor,
     sites: &[SiteId],
@@ -70,14 +39,14 @@ fn take_event_line(
     requires { length sites.now ≤ 16 }
     ensures { Tries (λ line. line) line_left result cursor.new (event_line_at sites.now cursor.old) }
 {
-    let event = take_event(alloc, cursor, sites)?;
+    let event = parse_event(alloc, cursor, sites)?;
     cursor.literal(b"\n")?;
     Ok(ScheduleLine::Event(event))
 }
 
-/// Takes a line that is allowed where the lines before it say so much.
+/// Reads a line that the lines before it allow.
 #[tactic(auto, unfolding(crate::specs::LineReading::line_at))]
-pub fn take_line(
+pub fn parse_line(
     alloc: Global,
     cursor: &mut Cursor,
     draft: &Draft,
@@ -87,8 +56,8 @@ pub fn take_line(
 {
     let catalog = &draft.schedule.catalog;
     if draft.opened {
-        take_event_line(alloc, cursor, catalog.sites().as_slice())
+        parse_event_line(alloc, cursor, catalog.sites().as_slice())
     } else {
-        take_head(alloc, cursor, catalog)
+        parse_head_line(alloc, cursor, catalog)
     }
 }

@@ -1,4 +1,4 @@
-//! The text of a schedule.
+//! Printing a schedule.
 
 ghost use Rattle.std.specs.Prelude.{◌++◌, flat_map};
 ghost use Rattle.vp_text.specs.Printing.{Appends};
@@ -27,7 +27,7 @@ fn print_event_lines(events: &[Event], out: &mut Vec<u8>) -> Result<(), NoMemory
     Ok(())
 }
 
-/// Appends the lines of the schedule. Without memory only a beginning of them may stand there.
+/// Appends the lines of the schedule. After an error a beginning of them may have been appended.
 #[tactic(auto, using(vp_text::proofs::Printing::printing))]
 pub fn print(schedule: &Schedule, out: &mut Vec<u8>) -> Result<(), NoMemory>
     ensures { Appends result out.old.items (schedule_text schedule.now) out.new.items }

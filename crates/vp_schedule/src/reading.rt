@@ -1,4 +1,4 @@
-//! Reading calls, as a schedule writes them behind the site.
+//! Reading calls, as they follow their sites in a schedule.
 
 ghost use Rattle.std.specs.Prelude.{◌≡◌, ◌^◌, ◌-◌};
 ghost use Rattle.vp_text.specs.Meaning.{Answers};
@@ -11,12 +11,12 @@ use std::alloc::Global;
 use vp_base::{Call, CallNo, LineFault, Name, NameFault, TxnId, Value};
 use vp_text::{Cursor, Unexpected};
 
-/// The call that the whole text is. `BadName` says how many bytes of the text begin one.
+/// Reads the whole text as a call. `BadName` says how many of its bytes begin a call.
 pub fn read_call(alloc: Global, text: &[u8]) -> Result<Call, NameFault>
     ensures { Answers IsCallText (λ c. c) name_place text.now result }
 {
     let mut cursor = Cursor::new(text);
-    match take_whole(alloc, &mut cursor) {
+    match parse_whole(alloc, &mut cursor) {
         Ok(call) => Ok(call),
         Err(LineFault::NoMemory) => Err(NameFault::NoMemory),
         Err(LineFault::Unexpected(e)) => Err(NameFault::BadName {
@@ -25,23 +25,23 @@ pub fn read_call(alloc: Global, text: &[u8]) -> Result<Call, NameFault>
     }
 }
 
-fn take_whole(alloc: Global, cursor: &mut Cursor) -> Result<Call, LineFault>
+fn parse_whole(alloc: Global, cursor: &mut Cursor) -> Result<Call, LineFault>
     ensures { Tries (λ c. c) line_left result cursor.new (whole call_at cursor.old) }
 {
-    let call = take_call(alloc, cursor)?;
+    let call = parse_call(alloc, cursor)?;
     cursor.end()?;
     Ok(call)
 }
 
-/// Takes a call from the front of what is left.
+/// Reads a call from the front of what is left.
 #[tactic(auto, unfolding(crate::specs::Reading::call_at))]
-pub fn take_call(alloc: Global, cursor: &mut Cursor) -> Result<Call, LineFault>
+pub fn parse_call(alloc: Global, cursor: &mut Cursor) -> Result<Call, LineFault>
     ensures { Tries (λ c. c) line_left result cursor.new (call_at cursor.old) }
 {
     let mut other = cursor.fork();
-    match take_bare(cursor) {
+    match parse_bare(cursor) {
         Ok(call) => Ok(call),
-        Err(first) => match take_numbered(alloc, &mut other) {
+        Err(first) => match parse_numbered(alloc, &mut other) {
             Ok(call) => {
                 *cursor = other;
                 Ok(call)
@@ -52,15 +52,15 @@ pub fn take_call(alloc: Global, cursor: &mut Cursor) -> Result<Call, LineFault>
     }
 }
 
-/// A call that names no transaction.
+/// Reads a call that names no transaction.
 #[tactic(auto, unfolding(crate::specs::Reading::bare_at))]
-fn take_bare(cursor: &mut Cursor) -> Result<Call, Unexpected>
+fn parse_bare(cursor: &mut Cursor) -> Result<Call, Unexpected>
     ensures { Reads (λ c. c) (λ e. e.left) result cursor.new (bare_at cursor.old) }
 {
     let mut other = cursor.fork();
-    match take_begin(cursor) {
+    match parse_begin(cursor) {
         Ok(call) => Ok(call),
-        Err(first) => match take_regroup(&mut other) {
+        Err(first) => match parse_regroup(&mut other) {
             Ok(call) => {
                 *cursor = other;
                 Ok(call)
@@ -71,7 +71,7 @@ fn take_bare(cursor: &mut Cursor) -> Result<Call, Unexpected>
 }
 
 #[tactic(auto, unfolding(crate::specs::Reading::begin_at))]
-fn take_begin(cursor: &mut Cursor) -> Result<Call, Unexpected>
+fn parse_begin(cursor: &mut Cursor) -> Result<Call, Unexpected>
     ensures { Reads (λ c. c) (λ e. e.left) result cursor.new (begin_at cursor.old) }
 {
     cursor.literal(b"begin")?;
@@ -79,25 +79,25 @@ fn take_begin(cursor: &mut Cursor) -> Result<Call, Unexpected>
 }
 
 #[tactic(auto, unfolding(crate::specs::Reading::regroup_at))]
-fn take_regroup(cursor: &mut Cursor) -> Result<Call, Unexpected>
+fn parse_regroup(cursor: &mut Cursor) -> Result<Call, Unexpected>
     ensures { Reads (λ c. c) (λ e. e.left) result cursor.new (regroup_at cursor.old) }
 {
     cursor.literal(b"regroup")?;
     Ok(Call::Regroup)
 }
 
-/// A call on a transaction.
+/// Reads a call on a transaction.
 #[tactic(auto, unfolding(crate::specs::Reading::numbered_at))]
-fn take_numbered(alloc: Global, cursor: &mut Cursor) -> Result<Call, LineFault>
+fn parse_numbered(alloc: Global, cursor: &mut Cursor) -> Result<Call, LineFault>
     ensures { Tries (λ c. c) line_left result cursor.new (numbered_at cursor.old) }
 {
-    let txn = TxnId::take(cursor)?;
+    let txn = TxnId::parse(cursor)?;
     cursor.literal(b" ")?;
-    let number = take_number(cursor)?;
-    take_deed(alloc, cursor, &txn, number)
+    let number = parse_number(cursor)?;
+    parse_deed(alloc, cursor, &txn, number)
 }
 
-fn take_number(cursor: &mut Cursor) -> Result<CallNo, Unexpected>
+fn parse_number(cursor: &mut Cursor) -> Result<CallNo, Unexpected>
     ensures { Reads (λ n. n) (λ e. e.left) result cursor.new (number_at 1 (2 ^ 32 - 1) cursor.old) }
 {
     let number = cursor.number_u32(1, u32::MAX)?;
@@ -107,9 +107,9 @@ fn take_number(cursor: &mut Cursor) -> Result<CallNo, Unexpected>
     }
 }
 
-/// What a call does, behind its transaction and its number.
+/// Reads what a call does, after its transaction and its number.
 #[tactic(auto, unfolding(crate::specs::Reading::deed_at))]
-fn take_deed(
+fn parse_deed(
     alloc: Global,
     cursor: &mut Cursor,
     txn: &TxnId,
@@ -118,10 +118,10 @@ fn take_deed(
     ensures { Tries (λ c. c) line_left result cursor.new (deed_at txn.now number cursor.old) }
 {
     let mut other = cursor.fork();
-    match take_read(alloc, cursor, txn, number) {
+    match parse_read(alloc, cursor, txn, number) {
         Ok(call) => Ok(call),
         Err(LineFault::NoMemory) => Err(LineFault::NoMemory),
-        Err(LineFault::Unexpected(first)) => match take_change(alloc, &mut other, txn, number) {
+        Err(LineFault::Unexpected(first)) => match parse_change(alloc, &mut other, txn, number) {
             Ok(call) => {
                 *cursor = other;
                 Ok(call)
@@ -133,7 +133,7 @@ fn take_deed(
 }
 
 #[tactic(auto, unfolding(crate::specs::Reading::read_at))]
-fn take_read(
+fn parse_read(
     alloc: Global,
     cursor: &mut Cursor,
     txn: &TxnId,
@@ -142,7 +142,7 @@ fn take_read(
     ensures { Tries (λ c. c) line_left result cursor.new (read_at txn.now number cursor.old) }
 {
     cursor.literal(b" read ")?;
-    let name = Name::take(alloc, cursor)?;
+    let name = Name::parse(alloc, cursor)?;
     Ok(Call::Read {
         txn: *txn,
         number,
@@ -150,9 +150,9 @@ fn take_read(
     })
 }
 
-/// A write, or the end of a transaction.
+/// Reads a write, or the end of a transaction.
 #[tactic(auto, unfolding(crate::specs::Reading::change_at))]
-fn take_change(
+fn parse_change(
     alloc: Global,
     cursor: &mut Cursor,
     txn: &TxnId,
@@ -161,10 +161,10 @@ fn take_change(
     ensures { Tries (λ c. c) line_left result cursor.new (change_at txn.now number cursor.old) }
 {
     let mut other = cursor.fork();
-    match take_write(alloc, cursor, txn, number) {
+    match parse_write(alloc, cursor, txn, number) {
         Ok(call) => Ok(call),
         Err(LineFault::NoMemory) => Err(LineFault::NoMemory),
-        Err(LineFault::Unexpected(first)) => match take_ending(&mut other, txn, number) {
+        Err(LineFault::Unexpected(first)) => match parse_ending(&mut other, txn, number) {
             Ok(call) => {
                 *cursor = other;
                 Ok(call)
@@ -175,7 +175,7 @@ fn take_change(
 }
 
 #[tactic(auto, unfolding(crate::specs::Reading::write_at))]
-fn take_write(
+fn parse_write(
     alloc: Global,
     cursor: &mut Cursor,
     txn: &TxnId,
@@ -184,9 +184,9 @@ fn take_write(
     ensures { Tries (λ c. c) line_left result cursor.new (write_at txn.now number cursor.old) }
 {
     cursor.literal(b" write ")?;
-    let name = Name::take(alloc, cursor)?;
+    let name = Name::parse(alloc, cursor)?;
     cursor.literal(b" ")?;
-    let value = Value::take(alloc, cursor)?;
+    let value = Value::parse(alloc, cursor)?;
     Ok(Call::Write {
         txn: *txn,
         number,
@@ -195,15 +195,15 @@ fn take_write(
     })
 }
 
-/// The end of a transaction.
+/// Reads the end of a transaction.
 #[tactic(auto, unfolding(crate::specs::Reading::ending_at))]
-fn take_ending(cursor: &mut Cursor, txn: &TxnId, number: CallNo) -> Result<Call, Unexpected>
+fn parse_ending(cursor: &mut Cursor, txn: &TxnId, number: CallNo) -> Result<Call, Unexpected>
     ensures { Reads (λ c. c) (λ e. e.left) result cursor.new (ending_at txn.now number cursor.old) }
 {
     let mut other = cursor.fork();
-    match take_commit(cursor, txn, number) {
+    match parse_commit(cursor, txn, number) {
         Ok(call) => Ok(call),
-        Err(first) => match take_abort(&mut other, txn, number) {
+        Err(first) => match parse_abort(&mut other, txn, number) {
             Ok(call) => {
                 *cursor = other;
                 Ok(call)
@@ -214,7 +214,7 @@ fn take_ending(cursor: &mut Cursor, txn: &TxnId, number: CallNo) -> Result<Call,
 }
 
 #[tactic(auto, unfolding(crate::specs::Reading::commit_at))]
-fn take_commit(cursor: &mut Cursor, txn: &TxnId, number: CallNo) -> Result<Call, Unexpected>
+fn parse_commit(cursor: &mut Cursor, txn: &TxnId, number: CallNo) -> Result<Call, Unexpected>
     ensures { Reads (λ c. c) (λ e. e.left) result cursor.new (commit_at txn.now number cursor.old) }
 {
     cursor.literal(b" commit")?;
@@ -222,7 +222,7 @@ fn take_commit(cursor: &mut Cursor, txn: &TxnId, number: CallNo) -> Result<Call,
 }
 
 #[tactic(auto, unfolding(crate::specs::Reading::abort_at))]
-fn take_abort(cursor: &mut Cursor, txn: &TxnId, number: CallNo) -> Result<Call, Unexpected>
+fn parse_abort(cursor: &mut Cursor, txn: &TxnId, number: CallNo) -> Result<Call, Unexpected>
     ensures { Reads (λ c. c) (λ e. e.left) result cursor.new (abort_at txn.now number cursor.old) }
 {
     cursor.literal(b" abort")?;

@@ -4,7 +4,8 @@ use std::marker::Model;
 use vp_base::{CopyOf, Events, NoMemory};
 use vp_catalog::Catalog;
 
-/// What a run is given. A contract sees it as the definitions' schedule.
+/// The input of a run: a catalogue and the events over its sites, at most 100,000. A contract sees it as the `Schedule` of the
+/// definitions.
 pub struct Schedule {
     pub catalog: Catalog,
     pub events: Events,

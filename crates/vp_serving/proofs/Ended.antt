@@ -101,13 +101,13 @@ module _ (catalogue : Catalogue) (id turns count : ℕ) (stopped : Bool) (link0 
   stops sink2 (Ok told) s (is, printed) = rw is (has_stopped sink2 printed s)
   stops sink2 (Err e) s f = unfinished sink2 ends.Stopped (inl s) e f
 
-  -- so many came, and none of them did
+  -- `turns` datagrams came, and none of them did
   pub is_done : (sink2 : SinkState) (result : Result End End) → stopped ≡ false → count ≡ turns → Finishes ends.TurnsDone sink1 sink2 result
       → Serves catalogue id turns (outside link0 link1 sink0 sink2 disk0 disk1) (either result)
   is_done sink2 (Ok told) s all (is, printed) = rw is (has_done sink2 printed s all)
   is_done sink2 (Err e) s all f = unfinished sink2 ends.TurnsDone (inr all) e f
 
--- the link failed where the next datagram was to come
+-- the link failed when the next datagram was to come
 pub is_lost : (catalogue : Catalogue) (id turns count : ℕ) (link0 link1 link2 : LinkState) (sink0 sink1 : SinkState) (disk0 disk1 : DiskState) (node : NodeValue)
     {E : Type 0} (buf buf' : List ℕ) (e : E)
     → SoFar catalogue id count false (outside link0 link1 sink0 sink1 disk0 disk1) node → count < turns → Receives buf buf' link1 link2 (Err e)

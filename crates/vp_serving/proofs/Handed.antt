@@ -17,13 +17,13 @@ use Rattle.vp_serving.specs.Handed.{datagrams_in, turn_behind, handed_in}
 use Rattle.vp_serving.specs.Serving.{IsPrefix}
 use Rattle.vp_serving.specs.Laws.{RunsAreHandedOver}
 
--- a beginning of datagrams is one where they are handed over
+-- a beginning of some datagrams is a beginning once they are handed over
 pub prefix_handed : (given : ℕ) (xs ys : List Datagram) → IsPrefix xs ys → IsPrefix (handed_after given xs) (handed_after given ys)
 prefix_handed given xs ys h =
     let f : Datagram → Handed = λ d. record { after = given; datagram = d } in
     ap (map f) h ∙ sym (take-map f (length xs) ys) ∙ ap (λ n. take n (map f ys)) (sym (length-map xs f))
 
--- one more of them, where none was given in between
+-- one more of them, if none was given in between
 pub hands_one_more : (link0 link1 link2 : LinkState) (ds : List Datagram) (d : Datagram) → HandsNow link0 link1 ds → link1.given ≡ link0.given → HandsNow link1 link2 (d ∷ [])
     → HandsNow link0 link2 (ds ++ d ∷ [])
 hands_one_more link0 link1 link2 ds d before same now =

@@ -18,7 +18,7 @@ use Rattle.vp_node.specs.Nodes.{NodeValue, MayStart, MaySave, turn_of}
 use Rattle.vp_serving.specs.Serving.{LeavesFrom, AtAnyMoment, KeepsAtAnyMoment}
 use Rattle.vp_serving.proofs.RunTurns.{left_folds}
 
--- what a crash leaves now, it left at some moment
+-- what a crash leaves now, it would have left at some moment
 pub left_now : (step : Halves → Halves → Type 0) (disk disk' : DiskState) → IsDisk disk' → AtAnyMoment step disk disk'
     → disk.honest → IfSome (log_of disk) (λ log. (image : Halves) → disk'.may_leave disk.asked image → disk.may_leave disk.asked image ⊎ step log image)
 left_now step disk disk' is moments honest = by (log_of disk) (moments honest)

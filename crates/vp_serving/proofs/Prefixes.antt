@@ -13,6 +13,6 @@ prefix_front xs ys = sym (take-append_seam xs ys)
 pub prefix_take : {X : Type 0} (n : ℕ) (xs : List X) → n ≤ length xs → IsPrefix (take n xs) xs
 prefix_take n xs le = ap (λ m. take m xs) (sym (length-take-le n xs le))
 
--- behind the same list
+-- both after the same list
 pub prefix_behind : {X : Type 0} (xs ys zs : List X) → IsPrefix ys zs → IsPrefix (xs ++ ys) (xs ++ zs)
 prefix_behind xs ys zs h = ap (λ l. xs ++ l) h ∙ sym (ap (λ m. take m (xs ++ zs)) (length-append xs ys) ∙ take-append-add xs zs (length ys))

@@ -4,7 +4,7 @@ use Rattle.std.proofs.lemmas.List.{take_more}
 use Rattle.std.proofs.lemmas.List.Folds.{concat-append}
 use Rattle.std.specs.List.{concat}
 
--- one line more, behind those before it
+-- one line more, after those before it
 pub one_more : (lines : List (List ℕ)) (i : ℕ) (line : List ℕ) → line ≡ get_or lines i line → i < length lines → concat (take (i + 1) lines) ≡ concat (take i lines) ++ line
 one_more lines i line is here =
     ap concat (take_more lines i line here) ∙ concat-append (take i lines) (get_or lines i line ∷ [])

@@ -20,7 +20,7 @@ use Rattle.vp_node.specs.Keeping.{MayKeep}
 use Rattle.vp_node.specs.Nodes.{NodeValue, what_comes, turn_of}
 use Rattle.vp_serving.specs.Telling.{lines_of}
 
--- What is left of the batches of a node in a turn folds to what its site had to keep before the turn, or after it.
+-- What a turn leaves of the batches of a node folds to the durable part of its site before the turn, or after it.
 turn_left : (catalogue : Catalogue) (id : ℕ) (node : NodeState) (what : Arrival) → durable_of node.site ≡ durable_in catalogue id node.batches
     → (left : List (List LogRecord)) → MayKeep (durable_of (turn_on catalogue node.site what).site) (turn_on catalogue node.site what).batch node.batches left
     → (durable_in catalogue id left ≡ durable_of node.site) ⊎ (durable_in catalogue id left ≡ durable_of (turn_on catalogue node.site what).site)

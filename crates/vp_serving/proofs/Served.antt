@@ -1,4 +1,4 @@
--- Serving goes on datagram by datagram.
+-- Serving, datagram by datagram.
 use Rattle.std.proofs.Common.{◌≡◌, ℕ, Bool, true, false, List, [], ◌∷◌, ◌++◌, length, sym, subst, arith}
 use Rattle.std.specs.Prelude.{Option, Some, None, IfSome, Result, Err}
 use Rattle.std.proofs.Math.Seq.{take-length}
@@ -27,7 +27,7 @@ use Rattle.vp_outside.proofs.Passed.{one_longer}
 use Rattle.vp_serving.proofs.Prefixes.{prefix_all}
 use Rattle.vp_serving.proofs.Moments.{turn_leaves}
 
--- So many datagrams came and were taken, all that their run gives was told and is kept, and no call failed.
+-- So many datagrams came, and their turns were done; all that their run gives was printed, handed over and kept, and no call failed.
 pub record SoFar (catalogue : Catalogue) (id count : ℕ) (stopped : Bool) (o : Outside) (node : NodeValue) : Type 0 where
   pub batches : List (List LogRecord)
   pub had : IfSome (log_of o.disk) (HaveBatches batches)
@@ -51,7 +51,7 @@ pub record SoFar (catalogue : Catalogue) (id count : ℕ) (stopped : Bool) (o : 
   pub same_sink : o.sink'.faults ≡ o.sink.faults
   pub same_disk : o.disk'.faults ≡ o.disk.faults
 
--- ---- what a disk tells
+-- ---- what a disk says
 
 told_if : (P : Halves → Type 0) (o p : Option Halves) → Becomes (λ _. P) o p → IfSome p P
 told_if P (Some a) (Some b) h = h

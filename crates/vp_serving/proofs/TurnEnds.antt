@@ -1,4 +1,4 @@
--- What a turn leaves, by its answer.
+-- What a turn leaves, by its result.
 use Rattle.std.proofs.Common.{◌≡◌, ◌∙◌, inl, inr, ℕ, ◌+◌, ◌<◌, Bool, true, false, List, [], ◌∷◌, ◌++◌, length, take, refl, sym, ap, subst, arith, append-nil}
 use Rattle.std.specs.Prelude.{IfSome, Ok, Err}
 use Rattle.std.specs.Io.KnownBytes.{Appends}
@@ -78,7 +78,7 @@ module _ (catalogue : Catalogue) (id turns count : ℕ) (link0 link1 link2 link3
   abbrev sent : List Handed
   sent = handed_in catalogue id h.batches link0.given front (length front)
 
-  -- with the datagram that came the turns before it hand over the same
+  -- with the datagram that came, the turns before it hand over the same
   same_sent : handed_in catalogue id h.batches link0.given (front ++ d ∷ []) (length front) ≡ sent
   same_sent = handed_of_front catalogue id h.batches link0.given front (d ∷ []) (length front) (omega arith)
 
@@ -145,7 +145,7 @@ module _ (catalogue : Catalogue) (id turns count : ℕ) (link0 link1 link2 link3
       same_disk = turned.same_faults ∙ h.same_disk;
     }
 
-    -- a beginning of it was told
+    -- a beginning of it was printed and handed over
     abbrev told : (written : List ℕ) (handed : List Datagram) → IsPrefix written lines → IsPrefix handed turn.datagrams → Appends sink1.held sink2.held written → HandsNow link2 link3 handed
         → IsBroken catalogue id turns (outside link0 link3 sink0 sink2 disk0 disk2)
     told written handed written_of handed_of writes hands =
@@ -222,7 +222,7 @@ module _ (catalogue : Catalogue) (id turns count : ℕ) (link0 link1 link2 link3
       safe = safe_before;
     }
 
-  -- what each answer but a node is an end of
+  -- the end of serving that each result but a node is
   pub turn_ends : (e : End) → Takes catalogue node d link2 link3 sink1 sink2 disk1 disk2 (Err e) → Serves catalogue id turns (outside link0 link3 sink0 sink2 disk0 disk2) e
   turn_ends ends.DiskFault (rose, may, still) = (rw (← h.same_disk) rose, inr (torn may still))
   turn_ends ends.WriteFault (turned, (rose, cut, still)) = (rw (← h.same_sink) rose, cut_off turned.0 turned.1 cut still)

@@ -1,4 +1,4 @@
--- What a turn leaves outside, by its answer.
+-- What a turn leaves outside, by its result.
 use Rattle.std.proofs.Common.{inl, inr, ⊎_elim, refl}
 use Rattle.std.specs.declared.option.Option.{Option}
 use Rattle.std.specs.declared.option.Option.TheVariants.{Some, None}
@@ -35,7 +35,7 @@ module _ (catalogue : Catalogue) (node : NodeValue) (d : Datagram) (link : LinkS
   turn_fails (node_ends.BadLog half at) is cause may = absurd (⊎_elim (λ e. cc) (λ e. cc) is)
   turn_fails (node_ends.LivesSpent life) is cause may = absurd (⊎_elim (λ e. cc) (λ e. cc) is)
 
-  -- the turn is done, and telling it fails
+  -- the turn is done, and printing it or handing it over fails
   pub tell_fails : (link' : LinkState) (sink' : SinkState) (after : NodeValue) (e : End) → HasTurned catalogue node d disk disk' after → TellsTurn catalogue node d link link' sink sink' (Err e)
       → Takes catalogue node d link link' sink sink' disk disk' (Err e)
   tell_fails link' sink' after ends.WriteFault turned tells = ((after, turned), tells)

@@ -1,4 +1,4 @@
--- Which end of serving each fault is.
+-- The end of serving that each fault is.
 use Rattle.vp_node.specs.declared.end.NodeEnd.{NodeEnd}
 use Rattle.vp_node.specs.declared.end.NodeEnd.TheVariants as node_ends
 use Rattle.vp_outside.specs.declared.sink.OutFault.{OutFault}

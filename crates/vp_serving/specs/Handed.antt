@@ -13,13 +13,13 @@ abbrev pub datagrams_in : List Handed → List Datagram
 datagrams_in handed = map (λ (h : Handed). h.datagram) handed
 
 module _ (catalogue : Catalogue) (id : ℕ) (batches : List (List LogRecord)) where
-  -- the datagrams of the turn behind the first n ones: those that the run has with it, and hasn't without it
+  -- the datagrams of the turn after the first n ones: those that the run has with it, and doesn't have without it
   abbrev pub turn_behind : List Datagram → ℕ → List Datagram
   turn_behind arrived n =
       drop (length (node_run catalogue id batches (take n arrived)).datagrams) (node_run catalogue id batches (take (suc n) arrived)).datagrams
 
-  -- What the first n turns hand over, where so many datagrams had been given before: each turn's when its own datagram had been given,
-  -- and no later one.
+  -- What the first n turns hand over, if so many datagrams had been given before: that of each turn when its own datagram had been
+  -- given, and no later one.
   abbrev pub handed_in : ℕ → List Datagram → ℕ → List Handed
   handed_in given arrived zero = []
   handed_in given arrived (suc n) = handed_in given arrived n ++ handed_after (count_after given (suc n)) (turn_behind arrived n)

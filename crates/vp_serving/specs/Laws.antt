@@ -1,4 +1,4 @@
--- What the definitions of serving make sure of, whatever comes.
+-- What holds of serving, whatever comes.
 use Rattle.std.specs.Prelude.{◌≡◌, ℕ, List, take}
 use Rattle.vp_model.specs.Types.{LogRecord}
 use Rattle.vp_model.specs.Catalogue.{Catalogue}

@@ -1,4 +1,4 @@
--- How serving ends: which turns were taken, what was recorded, handed over and kept in the log.
+-- How serving ends: which turns were done, and what was recorded, handed over and kept in the log.
 use Rattle.std.specs.Prelude.{◌≡◌, ◌⊎◌, ◌+◌, ◌<◌, ◌≤◌, ℕ, Bool, true, false, List, [], ◌∷◌, ◌++◌, length, take, IfSome, Result, Ok, Err}
 use Rattle.std.specs.Io.KnownBytes.{Appends}
 use Rattle.vp_model.specs.Types.{LogRecord}
@@ -21,7 +21,7 @@ use Rattle.vp_serving.specs.Handed.{handed_in}
 use Rattle.vp_serving.specs.declared.end.End.{End}
 use Rattle.vp_serving.specs.declared.end.End.TheVariants as ends
 
--- What the link, the sink and the disk told as a call began and as it returned.
+-- The link, the sink and the disk as a call began and as it returned.
 pub record Outside : Type 1 where
   pub link : LinkState
   pub link' : LinkState
@@ -30,7 +30,7 @@ pub record Outside : Type 1 where
   pub disk : DiskState
   pub disk' : DiskState
 
--- the same of each of them, before and after
+-- this of each of them, before and after
 abbrev pub outside : LinkState → LinkState → SinkState → SinkState → DiskState → DiskState → Outside
 outside link link' sink sink' disk disk' = record { link = link; link' = link'; sink = sink; sink' = sink'; disk = disk; disk' = disk' }
 
@@ -79,7 +79,7 @@ run_of {catalogue = catalogue} {id = id} course = node_run catalogue id course.b
 abbrev pub IsPrefix : {X : Type 0} → List X → List X → Type 0
 IsPrefix front whole = front ≡ take (length front) whole
 
--- This was recorded and this was handed over, in all.
+-- In all, this was recorded and this was handed over.
 pub record Did (o : Outside) (written : List ℕ) (handed : List Handed) : Type 0 where
   pub writes : Appends o.sink.held o.sink'.held written
   pub hands : Hands o.link.handed o.link'.handed handed
@@ -104,8 +104,8 @@ module _ (catalogue : Catalogue) (id turns : ℕ) (o : Outside) where
     pub uncounted : o.link'.given ≡ o.link.given
     pub did : Did o [] []
 
-  -- The node didn't start: no port was asked, and its log took this step. A crash leaves what it might have left before, or what the
-  -- step may make of the log.
+  -- The node didn't start: no port was asked for, and its log changed by this step. A crash leaves what it might have left before, or
+  -- what the step may make of the log.
   pub record HasNotStarted (step : Halves → Halves → Type 0) : Type 0 where
     pub idle : IsIdle
     pub unasked : o.link'.asked ≡ o.link.asked
@@ -131,7 +131,7 @@ module _ (catalogue : Catalogue) (id turns : ℕ) (o : Outside) where
     pub did : Did o (recorded (run_of course) ++ end) (handed_by course (length course.arrived))
     pub kept : IsKeptAs (run_of course) o.disk o.disk'
 
-  -- The last datagram ended it: before it the run went on.
+  -- The last datagram ended the run, and none before it.
   pub record HasStopped : Type 0 where
     pub whole : IsWhole true end_line
     pub front : List Datagram
@@ -139,17 +139,17 @@ module _ (catalogue : Catalogue) (id turns : ℕ) (o : Outside) where
     pub arrived : whole.course.arrived ≡ front ++ last ∷ []
     pub going : (node_run catalogue id whole.course.batches front).stopped ≡ false
 
-  -- So many datagrams came, and none of them ended it.
+  -- `turns` datagrams came, and none of them ended the run.
   pub record HasDone : Type 0 where
     pub whole : IsWhole false end_line
     pub all : length whole.course.arrived ≡ turns
 
-  -- The link failed where the next datagram was to come.
+  -- The link failed when the next datagram was to come.
   pub record HasLost : Type 0 where
     pub whole : IsWhole false []
     pub more : length whole.course.arrived < turns
 
-  -- The disk failed in the turn of the last datagram: what was done is whole for the turns before it.
+  -- The disk failed in the turn of the last datagram: the turns before it are whole.
   pub record HasTorn : Type 0 where
     pub course : Course catalogue id turns o
     pub front : List Datagram
@@ -159,11 +159,11 @@ module _ (catalogue : Catalogue) (id turns : ℕ) (o : Outside) where
     pub did : Did o (recorded (node_run catalogue id course.batches front)) (handed_by course (length front))
     pub safe : IsSafe catalogue id course.batches o.link.given course.arrived (handed_by course (length front)) o.disk o.disk'
 
-  -- the last line of a recording, which stands only behind a run that is over
+  -- the last line of a recording, which comes only after a run that is over
   abbrev pub MayEnd : Course catalogue id turns o → List ℕ → Type 0
   MayEnd course end = (end ≡ []) ⊎ ((end ≡ end_line) × (((run_of course).stopped ≡ true) ⊎ (length course.arrived ≡ turns)))
 
-  -- The run was broken off: beginnings of its recording and of its datagrams are done.
+  -- The run was broken off: a beginning of its recording was printed, and a beginning of its datagrams handed over.
   pub record IsBroken : Type 0 where
     pub course : Course catalogue id turns o
     pub end : List ℕ
@@ -175,8 +175,8 @@ module _ (catalogue : Catalogue) (id turns : ℕ) (o : Outside) where
     pub handed_of : IsPrefix handed (handed_by course (length course.arrived))
     pub safe : IsSafe catalogue id course.batches o.link.given course.arrived handed o.disk o.disk'
 
-  -- A line couldn't be printed. The lines of a turn come before its datagrams: what was handed over is whole for all turns but the last,
-  -- or for all, and what is recorded of these turns was printed.
+  -- A line couldn't be printed. The lines of a turn come before its datagrams: all datagrams are handed over of all turns but the last,
+  -- or of all, and the recording of these turns was printed.
   pub record IsUnwritten : Type 0 where
     pub broken : IsBroken
     pub turns_done : ℕ
@@ -185,7 +185,7 @@ module _ (catalogue : Catalogue) (id turns : ℕ) (o : Outside) where
     pub handed : broken.handed ≡ handed_by broken.course turns_done
     pub printed : (broken.handed ≡ []) ⊎ IsPrefix (recorded (node_run catalogue id broken.course.batches (take turns_done broken.course.arrived))) broken.written
 
-  -- what each end of serving says
+  -- what each end of serving means
   abbrev pub Serves : End → Type 0
   Serves ends.Stopped = HasStopped
   Serves ends.TurnsDone = HasDone
@@ -196,7 +196,7 @@ module _ (catalogue : Catalogue) (id turns : ℕ) (o : Outside) where
   Serves (ends.LivesSpent life) = HasNotStarted ReadAlike × IsSpent catalogue id life o.disk
   Serves ends.NoMemory = HasNotStarted (MayStart catalogue id) ⊎ (IsUnbound ⊎ IsBroken)
 
--- the end that an answer has, in either case
+-- the end in a result, in either case
 abbrev pub either : Result End End → End
 either (Ok end) = end
 either (Err end) = end

@@ -1,4 +1,4 @@
--- What leaves a node: the line of its start, what each turn tells, and the line of its end.
+-- What leaves a node: the line of its start, the lines and datagrams of each turn, and the line of its end.
 use Rattle.std.specs.Prelude.{◌≡◌, ◌⊎◌, ◌≤◌, ℕ, Bool, true, false, List, length, take, IfSome, Result, Ok, Err}
 use Rattle.std.specs.Io.KnownBytes.{Appends}
 use Rattle.std.specs.List.{concat}
@@ -20,7 +20,7 @@ HandsPrefix link link' datagrams = (n : ℕ) × (n ≤ length datagrams) × Hand
 
 -- ---- the beginning and the end
 
--- The site's port was asked, and nothing came or was handed over.
+-- The site's port was asked for, and nothing came or was handed over.
 pub record AsksPort (catalogue : Catalogue) (id : ℕ) (link link' : LinkState) : Type 0 where
   pub asked : link'.asked ≡ value_at id catalogue.sites
   pub gives_none : GivesNone link link'
@@ -48,7 +48,7 @@ Finishes end sink sink' (Err _) = ⊥
 
 -- ---- a turn
 
--- The lines were printed, and then the datagrams handed over. After want of memory a beginning of them was, and datagrams only behind all
+-- The lines were printed, and then the datagrams handed over. If memory ran out, a beginning of them was, and datagrams only after all
 -- lines.
 abbrev pub Tells : List ℕ → List Datagram → LinkState → LinkState → SinkState → SinkState → Result (Unit {0}) End → Type 0
 Tells lines datagrams link link' sink sink' (Ok _) =
@@ -58,7 +58,7 @@ Tells lines datagrams link link' sink sink' (Err ends.NoMemory) =
     (AppendsPrefix sink.held sink'.held lines × (link' ≡ link)) ⊎ (Appends sink.held sink'.held lines × HandsPrefix link link' datagrams)
 Tells lines datagrams link link' sink sink' (Err _) = ⊥
 
--- The site took the turn, and its log keeps it.
+-- The site has done the turn, and its log keeps it.
 pub record HasTurned (catalogue : Catalogue) (node : NodeValue) (d : Datagram) (disk disk' : DiskState) (after : NodeValue) : Type 0 where
   pub site : after.site ≡ (turn_of catalogue node d).site
   pub saved : Steps (Saves (turn_of catalogue node d) node.at after.at) disk disk'
@@ -66,12 +66,12 @@ pub record HasTurned (catalogue : Catalogue) (node : NodeValue) (d : Datagram) (
   pub kept : IsKept catalogue after disk'
   pub same_faults : disk'.faults ≡ disk.faults
 
--- It may have taken it: each crash leaves the log as it was, or with the turn.
+-- It may have done it: each crash leaves the log as it was, or with the turn.
 abbrev pub MayHaveTurned : Catalogue → NodeValue → Datagram → DiskState → DiskState → Type 0
 MayHaveTurned catalogue node d disk disk' =
     disk.honest → IfSome (log_of disk) (λ log. (image : Halves) → disk'.may_leave disk.asked image → MaySave catalogue node (turn_of catalogue node d) log image)
 
--- nothing was told
+-- nothing was printed or handed over
 abbrev pub TellsNothing : LinkState → LinkState → SinkState → SinkState → Type 0
 TellsNothing link link' sink sink' = (link' ≡ link) × (sink' ≡ sink)
 
@@ -79,12 +79,12 @@ TellsNothing link link' sink sink' = (link' ≡ link) × (sink' ≡ sink)
 abbrev pub lines_of : Catalogue → NodeValue → Datagram → List ℕ
 lines_of catalogue node d = concat (turn_lines d (what_comes catalogue node d) (turn_of catalogue node d))
 
--- what telling the turn leaves, by its answer
+-- what printing and handing over the turn leaves, by its result
 abbrev pub TellsTurn : Catalogue → NodeValue → Datagram → LinkState → LinkState → SinkState → SinkState → Result (Unit {0}) End → Type 0
 TellsTurn catalogue node d link link' sink sink' result = Tells (lines_of catalogue node d) (turn_of catalogue node d).datagrams link link' sink sink' result
 
 module _ (catalogue : Catalogue) (node : NodeValue) (d : Datagram) (link link' : LinkState) (sink sink' : SinkState) (disk disk' : DiskState) where
-  -- what a turn does outside, by its answer: the node after it, and whether the run ends
+  -- what a turn does outside, by its result: the node after it, and whether the run ends
   abbrev pub Takes : Result (NodeValue × Bool) End → Type 0
   Takes (Ok it) = HasTurned catalogue node d disk disk' it.0 × (it.1 ≡ (turn_of catalogue node d).stop) × TellsTurn catalogue node d link link' sink sink' (Ok tt)
   Takes (Err ends.DiskFault) = Rose disk.faults disk'.faults × MayHaveTurned catalogue node d disk disk' × TellsNothing link link' sink sink'

@@ -8,12 +8,12 @@ use vp_base::NoMemory;
 use vp_node::NodeEnd;
 use vp_outside::{Failed, OutFault};
 
-/// How serving ends.
+/// Why serving ended.
 #[derive(Clone, Copy, Debug, Drop, PartialEq, Eq)]
 pub enum End {
-    /// A frame that stops the node came.
+    /// A stop frame came.
     Stopped,
-    /// As many datagrams came as were to be served.
+    /// `turns` datagrams came, and none of them stopped the node.
     TurnsDone,
     /// The port wasn't bound, or no datagram was received.
     LinkFault,
@@ -21,9 +21,9 @@ pub enum End {
     DiskFault,
     /// The sink failed.
     WriteFault,
-    /// The log is no log.
+    /// The log is damaged: after the open gate at byte `at` of this half comes no batch of records with a gate.
     BadLog { half: u8, at: u64 },
-    /// The log's life is the last one.
+    /// The log's life is the last one; its number is given.
     LivesSpent { life: u32 },
     NoMemory,
 }

@@ -1,5 +1,5 @@
-//! Serving: a node takes each datagram that comes over a link by a turn. The lines of a turn are printed, in one piece, before its datagrams
-//! are handed over.
+//! Serving: a node does a turn for each datagram that comes over a link. The lines of a turn are printed, in one piece, before its
+//! datagrams are handed over.
 #![tactic(auto)]
 
 mod end;

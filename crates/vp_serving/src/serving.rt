@@ -14,12 +14,11 @@ use crate::end::End;
 use crate::telling::tell;
 use vp_base::SiteId;
 use vp_catalog::Catalog;
-use vp_node::Node;
+use vp_node::{Node, number_line};
 use vp_outside::{Disk, Link, MOST_GIVEN, Sink, write_all};
-use vp_turns::number_line;
 
-/// Starts the node on the log that is attached, binds its port, and takes the datagrams that come, at most `turns`, each by a turn: its
-/// records are synced, its lines are printed, and then its datagrams are sent. A datagram whose sending fails is lost.
+/// Starts the node on the attached log, binds its port, and does a turn for each datagram that comes, at most `turns`: its records are
+/// synced, then its lines are printed, and then its datagrams are sent. A datagram whose sending fails is lost.
 pub fn serve<L: Link, D: Disk, K: Sink>(
     catalog: &Catalog,
     id: SiteId,
@@ -41,7 +40,7 @@ pub fn serve<L: Link, D: Disk, K: Sink>(
     }
 }
 
-/// How it ends: the end of a run that is over, or what broke it off.
+/// Serves, and says how that ends: by the end of a run that is over, or by what broke it off.
 fn served<L: Link, D: Disk, K: Sink>(
     catalog: &Catalog,
     id: SiteId,
@@ -95,7 +94,7 @@ fn begin<L: Link, K: Sink>(
     Ok(())
 }
 
-/// Takes a datagram: the node after it, and whether the run ends.
+/// Does the turn of a datagram: the node after it, and whether the run ends.
 fn take_turn<L: Link, D: Disk, K: Sink>(
     node: Node,
     catalog: &Catalog,
@@ -126,7 +125,7 @@ fn take_turn<L: Link, D: Disk, K: Sink>(
     Ok((node, stop))
 }
 
-/// Prints the last line of a run that is over, and answers its end.
+/// Prints the last line of a run that is over, and returns its end.
 fn finish<K: Sink>(sink: &mut K, end: End) -> Result<End, End>
     ensures finishes { Finishes end (K.state sink.old) (K.state sink.new) result }
     ensures later { (K.state sink.old).faults ≤ (K.state sink.new).faults }

@@ -9,10 +9,10 @@ ghost use Rattle.vp_serving.specs.Telling.{HandsPrefix, Tells};
 
 use crate::end::End;
 use vp_base::{NoMemory, Seq};
+use vp_node::{Lines, Turned};
 use vp_outside::{Datagram, Link, OutFault, Sink, write_all};
-use vp_turns::{Lines, Turned};
 
-/// Prints what a turn recorded, and then hands its datagrams over.
+/// Prints what a turn recorded, and then hands its datagrams over. After a fault of the sink none was handed over.
 pub fn tell<L: Link, K: Sink>(link: &mut L, sink: &mut K, turned: Turned) -> Result<(), End>
     requires bound { IsTrue (L.state link.old).bound }
     ensures tells { Tells (concat turned.lines) turned.datagrams (L.state link.old) (L.state link.new) (K.state sink.old) (K.state sink.new) result }
@@ -36,7 +36,7 @@ fn print_lines<K: Sink>(sink: &mut K, lines: &Lines) -> Result<(), OutFault>
     write_all(sink, text.as_slice())
 }
 
-/// The lines as one text.
+/// Joins the lines to one text.
 fn joined(lines: &Lines) -> Result<Seq<u8>, NoMemory>
     ensures { IfOk result (λ text. text ≡ concat lines.now) }
 {
@@ -47,7 +47,7 @@ fn joined(lines: &Lines) -> Result<Seq<u8>, NoMemory>
     Ok(Seq::from_vec(text))
 }
 
-/// Hands the datagrams over, one after the other. One whose sending fails is lost.
+/// Sends the datagrams, one after the other. One whose sending fails is lost.
 fn hand_over<L: Link>(link: &mut L, datagrams: &[Datagram]) -> Result<(), NoMemory>
     requires bound { IsTrue (L.state link.old).bound }
     ensures ok { OnOk result (HandsNow (L.state link.old) (L.state link.new) datagrams.now) }

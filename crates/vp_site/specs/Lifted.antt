@@ -1,4 +1,4 @@
--- A site as its views see it, and a site with what its step has given so far.
+-- A site as its views see it, and a site with the effects of its step so far.
 use Rattle.vp_model.specs.Types.{Effects}
 use Rattle.vp_model.specs.Site.{SiteState, Stepped}
 use Rattle.vp_views.specs.Viewing.{Viewing}

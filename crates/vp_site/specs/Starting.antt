@@ -8,7 +8,7 @@ use Rattle.vp_model.specs.Step.{start, start_record}
 use Rattle.vp_site.specs.declared.fault.StartFault.{StartFault}
 use Rattle.vp_site.specs.declared.fault.StartFault.TheVariants as fault
 
--- the site lives once more with its durable part, or its lives are spent
+-- the site begins its next life with its durable part, or its lives are spent
 abbrev pub Starts : Catalogue → ℕ → DurableState → Result (SiteState × LogRecord) StartFault → Type 0
 Starts catalogue id d (Ok (site, entry)) = (d.life < 2 ^ 32 - 1) × (site ≡ start catalogue id d) × (entry ≡ start_record d)
 Starts catalogue id d (Err (fault.LivesSpent life)) = (d.life ≡ 2 ^ 32 - 1) × (life ≡ 2 ^ 32 - 1)

@@ -1,14 +1,15 @@
-//! What a client's call does.
+//! What a site does for a client's call.
 
 ghost use Rattle.std.specs.Prelude.{◌≡◌, OnOk};
 ghost use Rattle.vp_model.specs.Calls.{on_regroup, on_call};
 
+use crate::state::SiteState;
+use crate::stepped::Stepped;
 use crate::views::invite;
 use vp_base::{Answer, Call, NoMemory};
 use vp_catalog::Catalog;
-use vp_stepped::{SiteState, Stepped};
 
-/// A new view is invited to, unless the numbers of views are spent.
+/// Invites to a new view, or replies that the numbers of views are spent.
 #[tactic(auto, unfolding(vp_model::specs::Calls::on_regroup))]
 fn on_regroup(stepped: &mut Stepped, catalog: &Catalog, port: u16) -> Result<(), NoMemory>
     ensures { OnOk result (stepped.new ≡ on_regroup catalog.now port stepped.old) }
@@ -27,6 +28,7 @@ fn on_regroup(stepped: &mut Stepped, catalog: &Catalog, port: u16) -> Result<(),
     }
 }
 
+/// Does what the call of the client at this port asks, or replies why it can't.
 #[tactic(auto, unfolding(vp_model::specs::Calls::on_call))]
 pub fn on_call(
     stepped: &mut Stepped,

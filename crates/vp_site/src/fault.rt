@@ -2,7 +2,7 @@
 
 use vp_base::NoMemory;
 
-/// The lives of the site are spent: this is its last one, and the last number of its type.
+/// Why a site does not start: it is in its last life, whose number is the last of its type, or memory runs out.
 #[derive(Clone, Copy, Debug, Drop, PartialEq, Eq)]
 pub enum StartFault {
     LivesSpent { life: u32 },

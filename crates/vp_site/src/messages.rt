@@ -1,17 +1,20 @@
-//! What each input does: the rows, by the kind of call or message. Those of `Stepped` are in vp_stepped.
+//! What a site does for each input: the rows, by the kind of the call or message. Those for other sites are methods of `Stepped`.
 
 ghost use Rattle.std.specs.Prelude.{◌≡◌, OnOk};
 ghost use Rattle.vp_model.specs.Messages.{answered, on_outcome, on_message};
 ghost use Rattle.vp_model.specs.Step.{on_input};
 
 use crate::calls::on_call;
+use crate::refresh::RefreshAnswer;
+use crate::state::SiteState;
+use crate::stepped::Stepped;
 use crate::tick::{on_probe, on_tick};
 use crate::views::{on_invite, on_view_commit};
 use vp_base::{Input, Message, NoMemory, SiteId};
 use vp_catalog::Catalog;
-use vp_stepped::{Prepare, RefreshAnswer, Request, SiteState, Stepped};
+use vp_participant::{Prepare, Request};
 
-/// What a message does to the transactions of this site.
+/// Gives the message to the coordinator, which holds the site's own transactions.
 fn answered(
     stepped: &mut Stepped,
     catalog: &Catalog,
@@ -24,7 +27,7 @@ fn answered(
     site.coordinator.on_answer(catalog, &mut site.here, from, message, &mut stepped.effects)
 }
 
-/// Each kind of message has its row.
+/// Does what the definitions say for a message of this kind.
 #[tactic(auto, unfolding(vp_model::specs::Messages::on_message, vp_model::specs::Messages::on_accept, vp_model::specs::Messages::on_stale, vp_model::specs::Messages::on_probe_message))]
 pub fn on_message(
     stepped: &mut Stepped,
@@ -91,6 +94,7 @@ pub fn on_message(
     }
 }
 
+/// Does what the input asks. After an error the site may only be dropped.
 #[tactic(auto, unfolding(vp_model::specs::Step::on_input))]
 pub fn on_input(stepped: &mut Stepped, catalog: &Catalog, input: &Input) -> Result<(), NoMemory>
     ensures { OnOk result (stepped.new ≡ on_input catalog.now input.now stepped.old) }

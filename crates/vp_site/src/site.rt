@@ -8,18 +8,19 @@ ghost use Rattle.vp_site.specs.Lifted.{viewing};
 
 use crate::fault::StartFault;
 use crate::messages::on_input;
+use crate::state::SiteState;
+use crate::stepped::Stepped;
 use std::marker::Model;
-use vp_base::{CopyOf, Effects, Input, LogRecord, Newest, NoMemory, SiteId, View, ViewId};
+use vp_base::{CopyOf, Effects, Input, LogRecord, Newest, NoMemory, OPENING, SiteId, View, ViewId};
 use vp_catalog::Catalog;
+use vp_coordinator::{Coordinator, Here, SiteCopies};
 use vp_locks::Locks;
+use vp_participant::Participant;
 use vp_records::Durable;
-use vp_stepped::{Coordinator, Here, Participant, Refresh, SiteCopies, SiteState, Stepped};
+use vp_refresh::Refresh;
 use vp_views::Views;
 
-/// The identifier of the view that all sites begin in.
-const OPENING: ViewId = ViewId { number: 0, site: 0 };
-
-/// A site that is up. What it keeps stands in a box, so that little is moved where a site goes from call to call.
+/// A site that is up. Its state is boxed, so that few bytes are moved where a site is passed from call to call.
 #[derive(Drop)]
 pub struct Site {
     kept: Box<SiteState>,
@@ -40,8 +41,8 @@ impl Site {
         &self.kept
     }
 
-    /// The site begins its next life with what its log has kept. The record is to be forced to the log before the site does
-    /// anything else.
+    /// Starts the next life of the site from what its log has kept. The record that is returned must be forced to the log before the
+    /// site does anything else. Fails if the lives are spent; nothing is left then, as if memory ran out.
     pub fn start(
         catalog: &Catalog,
         id: SiteId,
@@ -57,7 +58,7 @@ impl Site {
         Ok((Site { kept }, LogRecord::Start { life }))
     }
 
-    /// What the input does to the site. Without memory the site is gone, as in a crash.
+    /// Does the step of the input. If memory runs out, the site is gone, as in a crash.
     #[tactic(auto, unfolding(vp_model::specs::Step::step))]
     pub fn step(self, catalog: &Catalog, input: &Input) -> Result<(Site, Effects), NoMemory>
         ensures { IfOk result (λ r. record { site = r.0; effects = r.1 } ≡ step catalog.now self input.now) }
@@ -68,7 +69,7 @@ impl Site {
         Ok((Site { kept: site }, effects))
     }
 
-    /// What the site has after a crash at this moment, once its records are forced.
+    /// What the site would recover after a crash at this moment, once its log records are forced.
     pub fn durable(&self) -> Result<Durable, NoMemory>
         ensures { IfOk result (λ d. d ≡ durable_of self.now) }
     {
@@ -82,34 +83,35 @@ impl Site {
         ))
     }
 
+    /// The number of the site, from 1 to 16.
     pub fn id(&self) -> SiteId
         ensures { result ≡ self.now.id }
     {
         self.state().coordinator.id()
     }
 
-    /// The number of its life, which its start forces to the log.
+    /// The number of the site's life, from 1 on, which its start forces to the log.
     pub fn life(&self) -> u32
         ensures { result ≡ self.now.life }
     {
         self.state().coordinator.life()
     }
 
-    /// The view that the site holds.
+    /// The view that the site holds, if it holds one.
     pub fn held(&self) -> Option<&View>
         ensures { option_copied result ≡ self.now.held }
     {
         self.state().views.held()
     }
 
-    /// The identifier that the site invites to.
+    /// The identifier of the view to which the site invites, if it does.
     pub fn inviting(&self) -> Option<ViewId>
         ensures { result ≡ option_map (λ inviting. inviting.0) self.now.inviting }
     {
         self.state().views.inviting()
     }
 
-    /// The newest live transaction, where there is one.
+    /// The newest live transaction that began here, if there is one.
     pub fn newest(&self) -> Option<Newest>
         ensures { result ≡ newest self.now.live }
     {
@@ -117,7 +119,7 @@ impl Site {
     }
 }
 
-/// What a site knows of views as it begins its next life: its first one begins in the opening view, where it has promised no other.
+/// Makes the state of views at the start of the next life: the first life begins in the opening view, if the site has promised no other.
 #[tactic(auto, unfolding(vp_model::specs::Step::start))]
 fn views_at_start(catalog: &Catalog, id: SiteId, durable: &Durable) -> Result<Views, NoMemory>
     ensures { IfOk result (λ views. views ≡ viewing (start catalog.now id durable.now)) }
@@ -127,7 +129,7 @@ fn views_at_start(catalog: &Catalog, id: SiteId, durable: &Durable) -> Result<Vi
     Views::start(catalog, id, promise, is_opening)
 }
 
-/// What a site keeps as it begins its next life.
+/// Makes the state with which the site begins its next life.
 #[tactic(auto, unfolding(vp_model::specs::Step::start))]
 fn live(catalog: &Catalog, id: SiteId, durable: Durable) -> Result<Box<SiteState>, NoMemory>
     requires { durable.life < 2 ^ 32 - 1 }

@@ -1,16 +1,18 @@
-//! What time does: invitations end, calls and refreshes are seen to, and outcomes are told and asked for again.
+//! What a site does as time passes: it ends invitations and pending calls, and asks and answers again what may have been lost.
 
 ghost use Rattle.std.specs.Prelude.{◌≡◌, OnOk};
 ghost use Rattle.std.specs.Option.{option_map_or};
 ghost use Rattle.vp_site.specs.Lifted.{in_step};
 ghost use Rattle.vp_model.specs.Step.{fix_view, ask_again, ask_again_all, time_out, tick_view, inquire_all, on_tick, on_probe};
 
+use crate::state::SiteState;
+use crate::stepped::Stepped;
 use crate::views::invite;
 use vp_base::{Effects, Message, NoMemory, View, ViewId};
 use vp_catalog::Catalog;
-use vp_stepped::{Asked, SiteState, Stepped};
+use vp_refresh::Asked;
 
-/// The invitation ends with those that have accepted as the members of the view, which is then held.
+/// Ends the invitation: the sites that have accepted are the members of the view, which this site then holds.
 #[tactic(auto, unfolding(vp_model::specs::Step::fix_view, vp_model::specs::Step::fix, vp_model::specs::Views::hold))]
 fn fix_view(stepped: &mut Stepped, catalog: &Catalog) -> Result<(), NoMemory>
     ensures { OnOk result (stepped.new ≡ option_map_or (λ inviting. fix_view catalog.now inviting stepped.old) stepped.old.site.inviting stepped.old) }
@@ -24,7 +26,7 @@ fn fix_view(stepped: &mut Stepped, catalog: &Catalog) -> Result<(), NoMemory>
     }
 }
 
-/// Calls that were pending at the tick before are closed, other pending calls are marked, and copies are asked for again.
+/// Closes the transactions whose call was already pending at the tick before, marks the other pending calls, and asks again for copies.
 #[tactic(auto, unfolding(vp_model::specs::Step::time_out))]
 fn time_out(stepped: &mut Stepped, catalog: &Catalog, view: &View) -> Result<(), NoMemory>
     ensures { OnOk result (stepped.new ≡ time_out catalog.now view.now stepped.old) }
@@ -34,7 +36,7 @@ fn time_out(stepped: &mut Stepped, catalog: &Catalog, view: &View) -> Result<(),
     ask_again_all(site, catalog, view.id, &mut stepped.effects)
 }
 
-/// The part of a tick that depends on where the site stands among views.
+/// Does the part of a tick that depends on whether the site holds a view, waits for one or invites to one.
 #[tactic(auto, unfolding(vp_model::specs::Step::tick_view))]
 fn tick_view(stepped: &mut Stepped, catalog: &Catalog) -> Result<(), NoMemory>
     ensures { OnOk result (stepped.new ≡ tick_view catalog.now stepped.old) }
@@ -52,7 +54,7 @@ fn tick_view(stepped: &mut Stepped, catalog: &Catalog) -> Result<(), NoMemory>
     }
 }
 
-/// The coordinators of the transactions with a part here or in doubt here are asked how they ended.
+/// Asks the coordinators of the transactions that have a part here, or are in doubt here, how they ended.
 #[tactic(auto, unfolding(vp_model::specs::Step::inquire))]
 fn inquire_all(stepped: &mut Stepped) -> Result<(), NoMemory>
     ensures { OnOk result (stepped.new ≡ inquire_all stepped.old) }
@@ -64,7 +66,8 @@ fn inquire_all(stepped: &mut Stepped) -> Result<(), NoMemory>
     Ok(())
 }
 
-/// Behind what the view asks for, each decision goes again to the sites that have not acknowledged it.
+/// Does what a tick asks for in the view; then sends each decision again to the sites that have not acknowledged it, and asks for
+/// the outcomes that are not known here.
 #[tactic(auto, unfolding(vp_model::specs::Step::on_tick))]
 pub fn on_tick(stepped: &mut Stepped, catalog: &Catalog) -> Result<(), NoMemory>
     ensures { OnOk result (stepped.new ≡ on_tick catalog.now stepped.old) }
@@ -74,8 +77,8 @@ pub fn on_tick(stepped: &mut Stepped, catalog: &Catalog) -> Result<(), NoMemory>
     inquire_all(stepped)
 }
 
-/// The other sites are probed; where too few or others than the members were heard since the last probes, a new view is
-/// invited to.
+/// Probes the other sites. If since the last probes too few sites, or others than the members, were heard, it invites to a new view
+/// instead.
 #[tactic(auto, unfolding(vp_model::specs::Step::on_probe, vp_model::specs::Step::probe_in))]
 pub fn on_probe(stepped: &mut Stepped, catalog: &Catalog) -> Result<(), NoMemory>
     ensures { OnOk result (stepped.new ≡ on_probe catalog.now stepped.old) }
@@ -87,7 +90,7 @@ pub fn on_probe(stepped: &mut Stepped, catalog: &Catalog) -> Result<(), NoMemory
     }
 }
 
-/// The other holders that have not answered are asked again for their copies.
+/// Asks again for the copies of the other holders that have not answered.
 fn ask_again_all(
     site: &SiteState,
     catalog: &Catalog,

@@ -1,18 +1,19 @@
-//! How the site leaves its view, invites to a new one and joins one.
+//! How a site leaves its view, invites to a new one and joins one (El Abbadi, Skeen and Cristian 1985).
 
 ghost use Rattle.std.specs.Prelude.{◌≡◌, OnOk};
 ghost use Rattle.vp_model.specs.Views.{leave, invite};
 ghost use Rattle.vp_model.specs.Messages.{on_invite, on_view_commit};
 ghost use Rattle.vp_views.specs.Viewing.{IsApart};
 
+use crate::state::SiteState;
+use crate::stepped::Stepped;
 use vp_base::{CopyOf, NoMemory, SiteId, Sites, View, ViewId};
 use vp_catalog::Catalog;
 use vp_lists::view_comes_before;
-use vp_stepped::{SiteState, Stepped};
 use vp_views::InviteFault;
 
-/// The site leaves its view, or the one that it waits for or invites to. Its undecided transactions are aborted, and nothing of the
-/// view stays but the transactions in doubt, with their exclusive locks.
+/// Leaves the view that the site holds, waits for or invites to. The undecided transactions that began here are aborted, and nothing
+/// of the view is left but the transactions in doubt, with their exclusive locks.
 #[tactic(auto, unfolding(vp_model::specs::Views::leave, vp_model::specs::Views::drop_view))]
 pub fn leave(stepped: &mut Stepped) -> Result<(), NoMemory>
     ensures row { OnOk result (stepped.new ≡ leave stepped.old) }
@@ -27,7 +28,7 @@ pub fn leave(stepped: &mut Stepped) -> Result<(), NoMemory>
     Ok(())
 }
 
-/// The site leaves its view and invites to the next one, unless the numbers of views are spent.
+/// Leaves the view and invites to the next one, unless the numbers of views are spent: then nothing changes.
 #[tactic(auto, unfolding(vp_model::specs::Views::invite, vp_model::specs::Views::leave, vp_model::specs::Views::drop_view, vp_model::specs::Views::start_inviting))]
 pub fn invite(stepped: &mut Stepped, catalog: &Catalog) -> Result<(), NoMemory>
     ensures { OnOk result (stepped.new ≡ invite catalog.now stepped.old) }
@@ -42,7 +43,7 @@ pub fn invite(stepped: &mut Stepped, catalog: &Catalog) -> Result<(), NoMemory>
     }
 }
 
-/// An invitation above the promise is accepted, and the site leaves its view before.
+/// Accepts an invitation above the promise, for which the site first leaves its view. A lower one is answered by the promise.
 #[tactic(auto, unfolding(vp_model::specs::Messages::on_invite, vp_model::specs::Messages::accept, vp_model::specs::Views::leave, vp_model::specs::Views::drop_view))]
 pub fn on_invite(stepped: &mut Stepped, from: SiteId, id: ViewId) -> Result<(), NoMemory>
     ensures { OnOk result (stepped.new ≡ on_invite from id stepped.old) }
@@ -57,7 +58,7 @@ pub fn on_invite(stepped: &mut Stepped, from: SiteId, id: ViewId) -> Result<(), 
     Ok(())
 }
 
-/// A view comes. It is joined where the site waits for it and is a member of it.
+/// Joins the view if the site waits for it and is a member of it, and begins to refresh its copies there.
 #[tactic(auto, unfolding(vp_model::specs::Messages::on_view_commit, vp_model::specs::Views::join, vp_model::specs::Views::hold))]
 pub fn on_view_commit(
     stepped: &mut Stepped,

@@ -1,4 +1,4 @@
-//! A transaction that reads elsewhere, writes at three sites and commits; a call that is late, and a view that is left.
+//! A transaction that reads elsewhere, writes at three sites and commits; a call that is late; and a view that is left.
 
 use std::alloc::Global;
 use std::process::Abort;
@@ -6,8 +6,7 @@ use vp_base::{
     Boxed, Call, CallNo, Copies, CopyOf, Effects, Message, Name, SiteId, TxnId, Value, View, ViewId,
 };
 use vp_catalog::Catalog;
-use vp_coordinator::Coordinator;
-use vp_endings::{Here, SiteCopies};
+use vp_coordinator::{Coordinator, Here, SiteCopies};
 use vp_locks::Locks;
 use vp_records::Durable;
 
@@ -24,7 +23,7 @@ fn txn() -> TxnId {
     }
 }
 
-/// Site 1 in a view of the three sites, and what its coordinator has done.
+/// Site 1 in a view of the three sites, and the effects of its coordinator.
 #[derive(Drop)]
 struct Bench {
     catalog: Catalog,
@@ -34,7 +33,7 @@ struct Bench {
     effects: Effects,
 }
 
-/// Each method but the last tells whether it is done, and so many replies and messages have come out by then.
+/// Each method but the last says whether it is done, and whether there are so many replies and messages by then.
 impl Bench {
     fn does(&mut self, call: Call, replies: usize, messages: usize) -> bool {
         let done = self.coordinator.call(
@@ -76,7 +75,7 @@ impl Bench {
     }
 }
 
-/// What is at site 1 before anything ran.
+/// Site 1 before anything ran.
 fn unlocked(rt: &impl Abort, alloc: Global, catalog: &Catalog) -> Here {
     let copies = catalog.copies(SiteId::of(1)).expect(rt, "memory");
     Here {
@@ -142,7 +141,7 @@ fn write(rt: &impl Abort, alloc: Global) -> Call {
     }
 }
 
-/// That x is locked to be written, from another site.
+/// The answer of another site that x is locked for the write.
 fn write_answer(rt: &impl Abort) -> Message {
     Message::WriteAnswer {
         txn: txn(),
@@ -157,26 +156,26 @@ fn commit(rt: &impl Abort) -> Call {
     }
 }
 
-/// The record that is not here is asked for at site 2.
+/// Whether site 2 is asked for the record that has no copy here.
 fn asks(rt: &impl Abort, alloc: Global, site: &mut Bench) -> bool {
     site.does(Call::Begin, 1, 0) && site.does(read(rt, alloc), 1, 1)
 }
 
-/// The write waits for both other holders.
+/// Whether the write waits for both other holders.
 fn write_runs(rt: &impl Abort, alloc: Global, site: &mut Bench) -> bool {
     site.does(write(rt, alloc), 2, 3)
         && site.hears(SiteId::of(2), write_answer(rt), 2, 3)
         && site.hears(SiteId::of(3), write_answer(rt), 3, 3)
 }
 
-/// The commit waits for both votes.
+/// Whether the commit waits for both votes.
 fn commit_runs(rt: &impl Abort, site: &mut Bench) -> bool {
     site.does(commit(rt), 3, 5)
         && site.hears(SiteId::of(2), Message::Vote { txn: txn() }, 3, 5)
         && site.hears(SiteId::of(3), Message::Vote { txn: txn() }, 4, 7)
 }
 
-/// The decision is told again until it is acknowledged.
+/// Whether the decision is sent again until it is acknowledged.
 fn decision_is_told(site: &mut Bench) -> bool {
     site.resends(4, 9)
         && site.hears(SiteId::of(2), Message::Ack { txn: txn() }, 4, 9)

@@ -1,9 +1,17 @@
-//! The tests of the coordinator, of a site and of the world of sites, outside the crates that have them: a crate with tests is proved twice.
+//! The tests of the parts of a site, of the site and of the world, outside their crates: a crate with tests is proved twice.
 #![tactic(auto)]
 
 #[cfg(test)]
 mod coordinators;
 #[cfg(test)]
+mod locks;
+#[cfg(test)]
+mod participants;
+#[cfg(test)]
+mod refreshes;
+#[cfg(test)]
 mod sites;
+#[cfg(test)]
+mod views;
 #[cfg(test)]
 mod worlds;

@@ -13,7 +13,7 @@ fn catalog(rt: &impl Abort, alloc: Global) -> Catalog {
     Catalog::read(alloc, text).expect(rt, "a catalogue")
 }
 
-/// What the site has before its first life.
+/// The durable part of the site before its first life.
 fn before_lives(rt: &impl Abort, catalog: &Catalog) -> Durable {
     let copies = catalog.copies(SiteId::of(1)).expect(rt, "memory");
     Durable::empty(copies)
@@ -25,7 +25,7 @@ fn started(rt: &impl Abort, catalog: &Catalog, durable: Durable) -> Site {
     site
 }
 
-/// What the site has after the start of its first life, where it is not told anything.
+/// The durable part of the site after the start of its first life, if nothing comes to it.
 fn first_life(rt: &impl Abort, catalog: &Catalog) -> Durable {
     let site = started(rt, catalog, before_lives(rt, catalog));
     site.durable().expect(rt, "memory")

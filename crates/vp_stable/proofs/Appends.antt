@@ -1,4 +1,4 @@
--- The calls of an append and of a checkpoint, over what a disk tells.
+-- The calls of an append and of a checkpoint, by what is known of the disk.
 use Rattle.std.proofs.Common.{◌≡◌, ℕ, List, sym, subst}
 use Rattle.std.specs.Prelude.{IfSome}
 use Rattle.std.specs.declared.option.Option.{Option}
@@ -13,7 +13,7 @@ use Rattle.vp_stable.proofs.Times.{elapses_none, leaves_only}
 -- ---- what a crash leaves
 
 module _ (at : Standing) (old new : DiskState) (is : IsDisk old) (P : Halves → Halves → Type 0) (same : (log : Halves) → P log log) where
-  -- a synced log has only what P says of it at first
+  -- a synced log has at first only images with P
   at_first : (log : Halves) → Only log (old.may_leave old.asked) → (image : Halves) → old.left_since old.asked old.moment image → P log image
   at_first log only image left = subst (λ (h : Halves). P log h) (sym (only image (is.only_now old.asked image left))) (same log)
 

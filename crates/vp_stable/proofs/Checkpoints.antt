@@ -1,4 +1,4 @@
--- Where a log stands after a checkpoint, and what it has while one is made.
+-- The position of a log after a checkpoint, and what the log holds while one is made.
 use Rattle.std.proofs.Common.{◌≡◌, inl, inr, ⊎_elim, ℕ, zero, suc, ◌+◌, ◌<◌, ◌≤◌, ◌^◌, ◌-◌, Bool, true, false, if◌then◌else◌, List, [], ◌∷◌, length, refl, sym, ◌∙◌, ap, subst, arith, AllPairs}
 use Rattle.std.proofs.lemmas.Bool.Decides.{nat_tests}
 use Rattle.std.specs.Prelude.{IfSome}
@@ -22,11 +22,11 @@ module _ (d : DurableState) (from : Standing) where
 
   -- ---- the other half is cleared
 
-  -- what the other half has below the current one
+  -- the other half is below the current one in generation
   was_below : (batches : List (List LogRecord)) (log : Halves) → StandsAt from batches log → (from.half ≤ 1) × IsBelow from.half (generation_of batches) log
   was_below batches log stands = below_current from.half (generation_of batches) log stands.current (log_generation from.gate batches (half_of from.half log) stands.is_log)
 
-  -- The current half stays the current one while the other one has no higher generation than before.
+  -- The current half stays the current one as long as the other one has no higher generation than before.
   stays : (batches : List (List LogRecord)) (old new : Halves) → StandsAt from batches old → half_of from.half new ≡ half_of from.half old → (other : ℕ)
       → HasGeneration other (half_of (other_half from.half) new) → other + from.half ≤ generation_of batches → HaveBatches batches new
   stays batches old new stands same other has below =
@@ -53,7 +53,7 @@ module _ (d : DurableState) (from : Standing) where
       (λ short. inl (stays_none batches old new stands same (short_generation (half_of (other_half from.half) new) short)))
       (in_half_step (other_half from.half) MayClear old new step)
 
-  -- ---- the checkpoint is put there
+  -- ---- the checkpoint is written there
 
   module _ (piece : List ℕ) (is : IsPiece (checkpoint_of (from.generation + 1) d ∷ []) piece) (more : from.generation < 2 ^ 64 - 1) where
     -- the other half of the other half
@@ -117,7 +117,7 @@ module _ (d : DurableState) (from : Standing) where
       let yes : is_last (generation_of batches) ≡ true = grind (arith, nat_tests) in
       subst (λ (bs : List (List LogRecord)). StandsAt from bs log) (sym (ap (λ (last : Bool). if last then batches else checkpointed d batches) yes)) stands
 
-  -- ---- both fold to the durable part
+  -- ---- both fold to the same durable part
 
   module _ (ascends : AllPairs (λ (a : ℕ × Stored) (b : ℕ × Stored). a.0 < b.0) d.copies) where
     folds_alike : (old new : Halves) → MaySaveAt d from old new → FoldsAlike d from old new
@@ -145,7 +145,7 @@ module _ (d : DurableState) (from : Standing) where
       pub clear_leaves : (mid : DiskState) → Tears (InHalf (other_half from.half) MayClear) old.asked old mid → IfSome (log_of old) (λ log. LeavesOnly old mid (Saves log))
       clear_leaves mid tears = leaves_torn from old mid is_disk Saves (λ log. both log log (may_keep log)) honest kept (cleared mid tears)
 
-      -- while the checkpoint is put there
+      -- while the checkpoint is written there
       pub put_leaves : (piece : List ℕ) → IsPiece (checkpoint_of (from.generation + 1) d ∷ []) piece → from.generation < 2 ^ 64 - 1 → (mid new : DiskState)
           → Tears (InHalf (other_half from.half) MayClear) old.asked old mid → Becomes (InHalf (other_half from.half) Clears) (old.logs old.asked) (mid.logs old.asked)
           → (old.honest → IsSynced old.asked mid) → (old.honest → mid.honest) → Tears (InHalf (other_half from.half) (MayPut piece 0)) old.asked mid new

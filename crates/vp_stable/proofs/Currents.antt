@@ -1,4 +1,4 @@
--- Which half is the current one, by what generation the other one has.
+-- Which half is the current one, by the generation of the other one.
 use Rattle.std.proofs.Common.{◌≡◌, ℕ, zero, suc, ◌+◌, ◌-◌, ◌<◌, ◌≤◌, List, refl, arith}
 use Rattle.std.proofs.lemmas.Bool.Decides.{nat_tests}
 use Rattle.vp_outside.specs.Disk.{Halves, half_of, InHalf}
@@ -14,17 +14,17 @@ other_is zero le = refl
 other_is (suc zero) le = refl
 other_is (suc (suc k)) le = absurd (omega (arith, le))
 
--- a step of a half leaves the other one
+-- a step in one half leaves the other one as it is
 pub other_stays : (half : ℕ) (step : List ℕ → List ℕ → Type 0) (old new : Halves) → InHalf half step old new → half_of (other_half half) new ≡ half_of (other_half half) old
 other_stays zero step old new change = change.1
 other_stays (suc n) step old new change = change.1
 
--- and a step of the other one leaves this one
+-- and a step in the other one leaves this one as it is
 pub this_stays : (half : ℕ) (step : List ℕ → List ℕ → Type 0) (old new : Halves) → InHalf (other_half half) step old new → half_of half new ≡ half_of half old
 this_stays zero step old new change = change.1
 this_stays (suc n) step old new change = change.1
 
--- The other half has no generation for which it would be the current one beside a half of this generation.
+-- The other half has no generation by which it would be the current one, where this half has the given generation.
 pub record IsBelow (half generation : ℕ) (log : Halves) : Type 0 where
   pub other : ℕ
   pub of_other : HasGeneration other (half_of (other_half half) log)

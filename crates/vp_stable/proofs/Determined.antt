@@ -1,4 +1,4 @@
--- Bytes stand for one list of batches, or are no log in one way.
+-- Bytes hold only one list of batches, or are not a log in only one way.
 use Rattle.std.proofs.Common.{◌≡◌, inl, inr, ℕ, ◌≤◌, List, [], ◌∷◌, ◌++◌, length, get_or, drop, refl, sym, ◌∙◌, ap, arith, append_assoc, length-append}
 use Rattle.std.specs.List.{AllByRecursion}
 use Rattle.vp_base.specs.declared.entry.LogRecord.{LogRecord}
@@ -11,17 +11,17 @@ use Rattle.vp_stable.proofs.Measured.{length-measured, measured_same}
 pub head : (x y : ℕ) (xs ys : List ℕ) → x ∷ xs ≡ y ∷ ys → x ≡ y
 head x y xs ys e = ap (λ (l : List ℕ). get_or l 0 0) e
 
--- and what stands behind them
+-- and so is what follows them
 behind : (x y : List LogRecord) (a b : List (List LogRecord)) (r s : List ℕ) → opened (x ∷ a) ++ r ≡ opened (y ∷ b) ++ s → measured x ++ (opened a ++ r) ≡ measured y ++ (opened b ++ s)
 behind x y a b r s e = sym (append_assoc (measured x) (opened a) r) ∙ ap (λ (l : List ℕ). drop 1 l) e ∙ append_assoc (measured y) (opened b) s
 
--- in no more than 1 byte no batch stands
+-- at most 1 byte holds no batch
 pub none_in : (bs : List (List LogRecord)) (bytes : List ℕ) → length bytes ≤ 1 → HasBatches bs bytes → bs ≡ []
 none_in bs bytes short (inl none) = none.1
 none_in [] bytes short (inr log) = refl
 none_in (b ∷ bs) bytes short (inr log) = absurd (omega (arith, short, ap length log.1.is, length-append (opened (b ∷ bs)) (log.1.gate ∷ log.1.rest)))
 
--- batches and the gate behind them begin with a gate
+-- batches and the gate after them begin with a gate
 pub record BeginsWithGate (bytes : List ℕ) : Type 0 where
   pub gate : ℕ
   pub rest : List ℕ
@@ -31,7 +31,7 @@ pub begins : (a : List (List LogRecord)) (gate : ℕ) (rest : List ℕ) → Begi
 begins [] gate rest = record { gate = gate; rest = rest; is = refl }
 begins (x ∷ a) gate rest = record { gate = 1; rest = measured x ++ opened a ++ gate ∷ rest; is = refl }
 
--- where batches end with an open gate, and others go on, a batch stands behind that gate
+-- where some batches end with an open gate, and others go on, a batch follows that gate
 goes_on : (x : List LogRecord) (a : List (List LogRecord)) (gate : ℕ) (r s : List ℕ) → CanStand x → ((batch : List LogRecord) (next : ℕ) → StandsFirst batch next s → ⊥)
     → opened (x ∷ a) ++ gate ∷ r ≡ 1 ∷ s → ⊥
 goes_on x a gate r s can none e =
@@ -69,7 +69,7 @@ places (x ∷ a) (y ∷ b) r s a_can b_can a_none b_none e =
 pub bad_places_are_one : BadPlacesAreOne
 bad_places_are_one m n bytes first second = first.at ∙ places first.batches second.batches first.rest second.rest first.can second.can first.none second.none (sym first.is ∙ second.is) ∙ sym second.at
 
--- ---- where the bytes of a batch are of one batch
+-- ---- where the bytes of a batch are of only one batch
 
 module _ (one : (x y : List LogRecord) (bytes : List ℕ) → IsBatchBytes x bytes → IsBatchBytes y bytes → x ≡ y) where
   same_batches : (a b : List (List LogRecord)) (g h : ℕ) (r s : List ℕ) → AllByRecursion CanStand a → AllByRecursion CanStand b → (g ≡ 1 → ⊥) → (h ≡ 1 → ⊥) → opened a ++ g ∷ r ≡ opened b ++ h ∷ s → a ≡ b

@@ -1,4 +1,4 @@
--- A buffer that gets the bytes of a half, piece by piece.
+-- A buffer to which the bytes of a half are copied, piece by piece.
 use Rattle.std.proofs.Common.{◌≡◌, ℕ, ◌+◌, ◌-◌, ◌<◌, ◌≤◌, min, List, ◌++◌, length, take, drop, sym, ◌∙◌, ap, arith, append_assoc, length-append}
 use Rattle.std.proofs.Math.Seq.{take-add}
 use Rattle.std.proofs.lemmas.List.{take_at, length-take-le, length-drop}

@@ -12,13 +12,13 @@ use Rattle.vp_stable.proofs.Determined.{head, begins, batches_are_one, bad_logs_
 
 -- ---- the generation of a half
 
--- one batch stands first
+-- only one batch is first
 first_is_one : (x y : List LogRecord) (p q : ℕ) (bytes : List ℕ) → StandsFirst x p bytes → StandsFirst y q bytes → x ≡ y
 first_is_one x y p q bytes a b =
     let same = measured_same x y (a.gate ∷ a.rest) (b.gate ∷ b.rest) a.can b.can (sym a.is ∙ b.is) in
     one_batch x y (batch_bytes x) (record { is = refl; allowed = a.can.records }) (record { is = same.0; allowed = b.can.records })
 
--- a half has one generation
+-- a half has only one generation
 pub generations_are_one : (m n : ℕ) (bytes : List ℕ) → HasGeneration m bytes → HasGeneration n bytes → m ≡ n
 generations_are_one m n bytes (inl a) (inl b) =
     let rest : b.1.rest ≡ a.1.rest = ap (λ (l : List ℕ). drop 1 l) (sym b.1.open_ ∙ a.1.open_) in
@@ -28,14 +28,14 @@ generations_are_one m n bytes (inl a) (inr b) = absurd (b.0 a.0 a.1)
 generations_are_one m n bytes (inr a) (inl b) = absurd (a.0 b.0 b.1)
 generations_are_one m n bytes (inr a) (inr b) = a.1 ∙ sym b.1
 
--- in no more than 1 byte no batch stands first
+-- at most 1 byte has no first batch
 pub short_generation : (bytes : List ℕ) → length bytes ≤ 1 → HasGeneration 0 bytes
 short_generation bytes short = inr (
   λ batch first. omega (arith, short, ap length first.open_, ap length first.stands.is, length-append (measured batch) (first.stands.gate ∷ first.stands.rest)),
   refl,
 )
 
--- where none stands behind the first gate
+-- where no batch follows the first gate
 pub no_generation : (bytes : List ℕ) → ((batch : List LogRecord) (next : ℕ) → StandsFirst batch next (take (length bytes - 1) (drop 1 bytes)) → ⊥) → HasGeneration 0 bytes
 no_generation bytes none = inr (
   λ batch first. none batch first.place (subst (λ (l : List ℕ). StandsFirst batch first.place l) (sym (take_rest bytes 1 ∙ ap (λ (l : List ℕ). drop 1 l) first.open_)) first.stands),
@@ -66,11 +66,11 @@ current_is_one half other log a b =
     let second = generations_are_one a.second b.second log.1 a.of_second b.of_second in
     a.is ∙ (λ i. higher (first i) (second i)) ∙ sym b.is
 
--- what holds of a current half holds of the one that is known
+-- what holds of any current half holds of the one that is known
 pub in_current : (P : List ℕ → Type 0) (half other : ℕ) (log : Halves) → IsCurrent half log → IsCurrent other log → P (half_of other log) → P (half_of half log)
 in_current P half other log a b h = subst (λ (k : ℕ). P (half_of k log)) (current_is_one other half log b a) h
 
--- it stays the current one where it keeps its generation
+-- it stays the current one as long as it keeps its generation
 pub current_keeps : (half generation : ℕ) (step : List ℕ → List ℕ → Type 0) (old new : Halves) → InHalf half step old new → HasGeneration generation (half_of half old)
     → HasGeneration generation (half_of half new) → IsCurrent half old → IsCurrent half new
 current_keeps zero generation step old new change was now current = record {

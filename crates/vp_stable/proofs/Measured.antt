@@ -1,4 +1,4 @@
--- A batch behind its length, as a list of bytes.
+-- The length of a batch and then the batch, as a list of bytes.
 use Rattle.std.proofs.Common.{◌≡◌, ℕ, ◌+◌, ◌-◌, ◌<◌, ◌≤◌, ◌^◌, List, get_or, [], ◌∷◌, ◌++◌, length, take, drop, sym, ◌∙◌, ap, arith, append_assoc, length-append, refl}
 use Rattle.std.proofs.lemmas.List.{take_at, drop_at, take-append-drop, drop-drop, drop_more, length-drop, length-take-le}
 use Rattle.byteorder.specs.Endian.{big_number, big_bytes}
@@ -38,7 +38,7 @@ measured_same x y r s x_can y_can e =
 
 -- ---- a batch at the front of bytes
 
--- how long what stands first is
+-- how long the first batch is
 pub stands_within : (batch : List LogRecord) (next : ℕ) (bytes : List ℕ) → StandsFirst batch next bytes → (8 ≤ next) × (next < length bytes) × (big_number 8 bytes ≡ next - 8)
 stands_within batch next bytes stands =
     let all = length-append (measured batch) (stands.gate ∷ stands.rest) in
@@ -49,14 +49,14 @@ stands_within batch next bytes stands =
       read ∙ omega (arith, stands.at, size),
     )
 
--- and the records are those between
+-- and its bytes are between the length and the gate
 pub stands_records : (batch : List LogRecord) (next : ℕ) (bytes : List ℕ) → StandsFirst batch next bytes → take (next - 8) (drop 8 bytes) ≡ batch_bytes batch
 stands_records batch next bytes stands =
     let size = length-measured batch in
     ap (λ (l : List ℕ). take (next - 8) (drop 8 l)) stands.is ∙ ap (λ (l : List ℕ). take (next - 8) l) (drop_length batch (stands.gate ∷ stands.rest))
     ∙ take_at (batch_bytes batch) (stands.gate ∷ stands.rest) (next - 8) (omega (arith, stands.at, size))
 
--- a batch between the length and the gate stands first
+-- a batch between a length and a gate is first
 pub made_first : (batch : List LogRecord) (next : ℕ) (bytes : List ℕ) → 8 ≤ next → next < length bytes → next < 2 ^ 64 → take 8 bytes ≡ big_bytes 8 (next - 8)
     → take (next - 8) (drop 8 bytes) ≡ batch_bytes batch → IsBatch batch → StandsFirst batch next bytes
 unfolding measured
@@ -79,7 +79,7 @@ made_first batch next bytes least within small number records allowed =
       can = record { records = allowed; fits = omega (arith, size, small) };
     }
 
--- what stands first ends where the length says
+-- the first batch ends where its length says
 pub same_place : (batch : List LogRecord) (place next : ℕ) (bytes : List ℕ) → 8 ≤ next → next < 2 ^ 64 → take 8 bytes ≡ big_bytes 8 (next - 8) → StandsFirst batch place bytes → place ≡ next
 same_place batch place next bytes least small number stands =
     let within = stands_within batch place bytes stands in
@@ -90,9 +90,9 @@ same_place batch place next bytes least small number stands =
     let both : place - 8 ≡ n = sym within.2 ∙ reads in
     omega (arith, both, least, within.0)
 
--- ---- a batch that is written behind its length
+-- ---- a batch that is written after its length
 
--- the length is put before the batch, over 8 bytes that were kept free, and a closed gate behind it
+-- the length is written over 8 bytes that were kept free before the batch, and a closed gate follows
 pub piece_made : (batch : List LogRecord) (front out buf written items : List ℕ) (n len : ℕ) → length front ≡ 8 → out ≡ front ++ batch_bytes batch → buf ≡ out → length buf ≡ len → n ≡ len
     → written ≡ big_bytes 8 (n - 8) ++ drop 8 buf → items ≡ take len (written ++ drop (length written) out) ++ 0 ∷ [] → items ≡ measured batch ++ 0 ∷ []
 unfolding measured

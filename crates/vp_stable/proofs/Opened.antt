@@ -1,4 +1,4 @@
--- Batches behind open gates, as lists of bytes.
+-- Batches after open gates, as lists of bytes.
 use Rattle.std.proofs.Common.{◌≡◌, ℕ, ◌+◌, ◌<◌, List, [], ◌∷◌, ◌++◌, length, get_or, take, drop, refl, sym, ◌∙◌, ap, arith, append_assoc, length-append, take-append-drop}
 use Rattle.std.proofs.lemmas.List.{append-nil, take_at, drop_at, drop_more}
 use Rattle.std.specs.List.{AllByRecursion}
@@ -6,7 +6,7 @@ use Rattle.vp_base.specs.declared.entry.LogRecord.{LogRecord}
 use Rattle.vp_stable.specs.Log.{CanStand, measured, opened}
 use Rattle.vp_stable.specs.Halves.{second_gate}
 
--- one batch more
+-- one more batch
 pub opened-push : (batches : List (List LogRecord)) (batch : List LogRecord) (rest : List ℕ) → opened (batches ++ batch ∷ []) ++ rest ≡ opened batches ++ 1 ∷ (measured batch ++ rest)
 opened-push [] batch rest = ap (λ (l : List ℕ). 1 ∷ (l ++ rest)) (append-nil (measured batch))
 opened-push (b ∷ bs) batch rest =
@@ -26,12 +26,12 @@ all_push (b ∷ bs) batch all one = (all.0, all_push bs batch all.1 one)
 
 -- ---- the second gate
 
--- behind the first batch
+-- it is after the first batch
 pub second_first : (batches : List (List LogRecord)) (batch : List LogRecord) → second_gate batches ≡ 0 → length (opened (batches ++ batch ∷ [])) ≡ second_gate (batches ++ batch ∷ [])
 second_first [] batch none = refl
 second_first (b ∷ bs) batch none = absurd (omega (arith, none, length-append (1 ∷ measured b) []))
 
--- it stays behind the first one
+-- it stays after the first batch
 pub second_stays : (batches : List (List LogRecord)) (batch : List LogRecord) → (second_gate batches ≡ 0 → ⊥) → second_gate batches ≡ second_gate (batches ++ batch ∷ [])
 second_stays [] batch some = absurd (some refl)
 second_stays (b ∷ bs) batch some = refl
@@ -54,7 +54,7 @@ module _ (front back : List ℕ) (gate place : ℕ) (at : place ≡ length front
   pub drop_through : drop (place + 1) (front ++ gate ∷ back) ≡ back
   drop_through = ap (λ (l : List ℕ). drop (place + 1) l) (sym (append_assoc front (gate ∷ []) back)) ∙ drop_at (front ++ gate ∷ []) back (place + 1) through
 
--- what stands before a place and behind it makes the list
+-- what is before a place and what is after it make up the list
 pub around : (xs front back : List ℕ) (place : ℕ) → take place xs ≡ front → drop (place + 1) xs ≡ back → place < length xs → xs ≡ front ++ get_or xs place 0 ∷ back
 around xs front back place before behind within =
     sym (take-append-drop place xs) ∙ ap (λ (l : List ℕ). l ++ drop place xs) before

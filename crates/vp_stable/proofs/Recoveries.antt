@@ -1,4 +1,4 @@
--- The calls of a recovery, over what a disk tells.
+-- The calls of a recovery, by what is known of the disk.
 use Rattle.std.proofs.Common.{◌≡◌, ◌⊎◌, inl, inr, ⊎_elim, ℕ, zero, suc, ◌<◌, ◌≤◌, Bool, true, false, nat_lt, if◌then◌else◌, List, [], ◌∷◌, length, sym, ◌∙◌, ap, subst, arith}
 use Rattle.std.proofs.lemmas.Bool.Decides.{nat_tests}
 use Rattle.std.specs.List.{AllByRecursion}
@@ -63,7 +63,7 @@ scan_can scan bytes is = can_of scan.batches (has_batches scan bytes is)
     can_of bs (inr log) = all_records bs log.1.can
 
 module _ (half : ℕ) (bytes : List ℕ) where
-  -- it stands where the scan says
+  -- its position is the one that the scan gives
   pub stands_old : (o : Option Halves) (generation : ℕ) (scan : Scan) → HasGeneration generation bytes → IsScan scan bytes → 2 ≤ length bytes → IfSome o (IsRead half bytes)
       → IfSome o (StandsAt (record { half = half; generation = generation; gate = scan.gate; second = scan.second }) scan.batches)
   stands_old None generation scan has is long read = tt
@@ -74,9 +74,9 @@ module _ (half : ℕ) (bytes : List ℕ) where
     second = is.second;
   }
 
--- ---- a gate that is written into a current half of no more than 1 byte
+-- ---- a gate that is written into a current half of at most 1 byte
 
--- The half is the current one, and no longer than 1 byte.
+-- The half is the current one, and has at most 1 byte.
 pub record IsShort (half : ℕ) (log : Halves) : Type 0 where
   pub current : IsCurrent half log
   pub short : length (half_of half log) ≤ 1
@@ -168,7 +168,7 @@ module _ (old new : DiskState) (is : IsDisk old) where
           leaves_only old new (OldOr old log) (elapses_as old.asked old new (old.may_leave old.asked) (OldOr old log) (quiet.time old.asked) (λ image left. inl left))
           (λ image left. inl (is.only_now old.asked image left))
 
-  -- while a gate is written into a half of no more than 1 byte
+  -- while a gate is written into a half of at most 1 byte
   pub torn_leaves : (half : ℕ) (mid : DiskState) → Quiet old mid → Elapses old.asked mid new (TornFrom half 0 1 (mid.may_leave old.asked))
       → IfSome (log_of old) (λ log. Only log (mid.may_leave old.asked)) → IfSome (log_of old) (IsShort half) → IfSome (log_of old) (λ log. LeavesOnly old new (OldOr old log))
   torn_leaves half mid quiet second = by (log_of old)
@@ -182,23 +182,23 @@ module _ (old new : DiskState) (is : IsDisk old) where
           (λ image torn. inr (alike_torn half log image short (subst (λ (h : Halves). InHalf half (Torn 0 1) h image) (only torn.0 torn.1) torn.2))))
           (λ image left. inl (is.only_now old.asked image left))
 
--- fewer images are still only this one
+-- where fewer images are possible, still only this one is
 pub only_fewer : (o : Option Halves) (images fewer : Halves → Type 0) → ((image : Halves) → fewer image → images image) → IfSome o (λ log. Only log images) → IfSome o (λ log. Only log fewer)
 only_fewer None images fewer less only = tt
 only_fewer (Some log) images fewer less only = λ image left. only image (less image left)
 
--- the log stands there, and a crash leaves nothing else
+-- the log has this position, and a crash leaves nothing else
 pub settled : (o : Option Halves) (images : Halves → Type 0) (at : Standing) (batches : List (List LogRecord)) → IfSome o (λ log. Only log images) → IfSome o (StandsAt at batches)
     → IfSome o (λ log. AreSettled at log images)
 settled None images at batches only stands = tt
 settled (Some log) images at batches only stands = record { synced = only; batches = batches; stands = stands }
 
--- the log that the calls speak of has this name
+-- the log to which the calls apply has this name
 pub kept_as : (at : Standing) (disk : DiskState) (name : Option (List ℕ)) → disk.asked ≡ name → IfSome (disk.logs name) (λ log. AreSettled at log (disk.may_leave name))
     → IfSome (log_of disk) (λ log. AreSettled at log (disk.may_leave disk.asked))
 kept_as at disk name is settled = subst (λ (n : Option (List ℕ)). IfSome (disk.logs n) (λ log. AreSettled at log (disk.may_leave n))) (sym is) settled
 
--- what was read of the current half are the batches of the log
+-- what was read from the current half are the batches of the log
 pub peeked : (log : Option Halves) (half : ℕ) (bytes : List ℕ) (scan : Scan) → IfSome log (IsRead half bytes) → IsScan scan bytes → IfSome log (HaveBatches scan.batches)
 peeked None half bytes scan read is = tt
 peeked (Some log) half bytes scan read is = (half, read.current, subst (HasBatches scan.batches) read.is (has_batches scan bytes is))

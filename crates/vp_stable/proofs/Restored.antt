@@ -1,4 +1,4 @@
--- A checkpoint of the durable part to which batches fold folds to it.
+-- A checkpoint of the durable part to which batches fold, folds to the same durable part.
 use Rattle.std.proofs.Common.{◌≡◌, ◌∙◌, ℕ, suc, ◌<◌, Bool, true, false, List, [], ◌∷◌, length, refl, sym, ap, arith, AllPairs, slice_index_or, if◌then◌else◌, ◌==◌}
 use Rattle.std.proofs.lemmas.Bool.Decides.{nat_tests}
 use Rattle.vp_base.specs.declared.entry.LogRecord.{LogRecord}
@@ -11,7 +11,7 @@ use Rattle.vp_stable.specs.Halves.{folded, saved, checkpointed, is_last, generat
 abbrev Pair : Type 0
 Pair = ℕ × Stored
 
--- each record is above that one
+-- each record is above this one
 abbrev Above : ℕ → List Pair → Type 0
 Above n [] = Unit {0}
 Above n (y ∷ ys) = (n < y.0) × Above n ys
@@ -36,7 +36,7 @@ above_same n (x ∷ xs) (y ∷ ys) e h =
     let tail : keys ys ≡ keys xs = cc in
     (rw head h.0, above_same n xs ys tail h.1)
 
--- a number isn't one above it, or one below it
+-- a number is neither one above it nor one below it
 pub not_below : (m n : ℕ) → m < n → (m == n) ≡ false
 not_below m n lt = grind (arith, nat_tests)
 
@@ -70,7 +70,7 @@ filled (x ∷ xs) (y ∷ ys) e h =
     let first : set_copy x (y ∷ ys) ≡ x ∷ ys = rw (head, same_number x.0, set_none x ys (above_same x.0 xs ys tail h.0)) refl in
     ap (for_each xs set_copy) first ∙ stays x xs ys h.0 ∙ ap (λ (l : List Pair). x ∷ l) (filled xs ys tail h.1)
 
--- batches keep of which records there are copies
+-- batches change nothing about which records have copies
 all_keys : (records : List LogRecord) (d : DurableState) → keys (apply_all records d).copies ≡ keys d.copies
 all_keys [] d = refl
 all_keys (r ∷ records) d = all_keys records (apply r d) ∙ applied_keys r d

@@ -6,7 +6,7 @@ use Rattle.vp_base.specs.declared.entry.LogRecord.{LogRecord}
 use Rattle.vp_stable.specs.Log.{CanStand, measured, opened, StandsFirst, IsBadLog}
 use Rattle.vp_stable.proofs.Opened.{opened-push, length-opened-push, all_push}
 
--- The bytes before the place are these batches, each behind an open gate.
+-- The bytes before the place are these batches, each after an open gate.
 pub record IsRead (batches : List (List LogRecord)) (at : ℕ) (bytes : List ℕ) : Type 0 where
   pub within : at < length bytes
   pub is : bytes ≡ opened batches ++ drop at bytes
@@ -17,7 +17,7 @@ module _ (batches : List (List LogRecord)) (at : ℕ) (bytes : List ℕ) (read :
   from_gate : bytes ≡ opened batches ++ 1 ∷ drop (at + 1) bytes
   from_gate = read.is ∙ ap (λ (l : List ℕ). opened batches ++ l) (drop_more bytes at 0 read.within ∙ ap (λ (g : ℕ). g ∷ drop (at + 1) bytes) is_open)
 
-  -- no batch stands behind the gate
+  -- no batch follows the gate
   pub bad_gate : 2 ≤ length bytes → ((batch : List LogRecord) (next : ℕ) → StandsFirst batch next (take (length bytes - (at + 1)) (drop (at + 1) bytes)) → ⊥) → IsBadLog at bytes
   bad_gate some none = record {
     batches = batches;
@@ -29,7 +29,7 @@ module _ (batches : List (List LogRecord)) (at : ℕ) (bytes : List ℕ) (read :
     none = λ batch next stands. none batch next (subst (λ (l : List ℕ). StandsFirst batch next l) (sym (take_rest bytes (at + 1))) stands);
   }
 
-  -- a batch does
+  -- a batch follows it
   pub one_more : (batch : List LogRecord) (next : ℕ) → StandsFirst batch next (take (length bytes - (at + 1)) (drop (at + 1) bytes)) → IsRead (batches ++ batch ∷ []) (at + (1 + next)) bytes
   one_more batch next stands =
       let behind : drop (at + 1) bytes ≡ measured batch ++ stands.gate ∷ stands.rest = sym (take_rest bytes (at + 1)) ∙ stands.is in

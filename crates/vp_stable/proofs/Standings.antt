@@ -1,4 +1,4 @@
--- Where a log stands after a batch is put behind its gate.
+-- The position of a log after a batch is written after its gate.
 use Rattle.std.proofs.Common.{◌≡◌, inl, inr, ⊎_elim, ℕ, Bool, true, false, ◌+◌, ◌≤◌, List, [], ◌∷◌, ◌++◌, length, refl, sym, ap, subst, arith, length-append}
 use Rattle.vp_base.specs.declared.entry.LogRecord.{LogRecord}
 use Rattle.vp_outside.specs.Disk.{Halves, half_of, InHalf}
@@ -9,7 +9,7 @@ use Rattle.vp_stable.specs.Writing.{IsPiece, Puts, MayPut}
 use Rattle.vp_stable.proofs.Generations.{log_generation, in_half_step}
 use Rattle.vp_stable.proofs.Currents.{other_half, other_stays, below_current, current_above}
 
--- Where the generation of the current half doesn't fall, and the other half stays, it stays the current one.
+-- As long as the generation of the current half doesn't fall, and the other half stays, it stays the current one.
 stays_current : (half was now : ℕ) (old new : Halves) → IsCurrent half old → HasGeneration was (half_of half old) → was ≤ now → HasGeneration now (half_of half new)
     → half_of (other_half half) new ≡ half_of (other_half half) old → IsCurrent half new
 stays_current half was now old new current has le now_has same =
@@ -20,7 +20,7 @@ stays_current half was now old new current has le now_has same =
       below = omega (arith, below.1.below, le);
     })
 
--- a batch more lowers no generation
+-- one more batch lowers no generation
 gains_generation : (batches : List (List LogRecord)) (batch : List LogRecord) → generation_of batches ≤ generation_of (batches ++ batch ∷ [])
 gains_generation [] batch = omega arith
 gains_generation (b ∷ bs) batch = omega arith
@@ -28,7 +28,7 @@ gains_generation (b ∷ bs) batch = omega arith
 pub standing_same : (a b : Standing) → a.half ≡ b.half → a.generation ≡ b.generation → a.gate ≡ b.gate → a.second ≡ b.second → a ≡ b
 standing_same a b half generation gate second = λ i. record { half = half i; generation = generation i; gate = gate i; second = second i }
 
--- ---- a batch is put behind the gate
+-- ---- a batch is written after the gate
 
 pub may_stay : (batch : List LogRecord) (from : Standing) (log : Halves) → MayGainAt batch from log log
 may_stay batch from log batches stands = inl (from.half, stands.current, inr (from.gate, stands.is_log))
@@ -63,7 +63,7 @@ module _ (batch : List LogRecord) (piece : List ℕ) (is : IsPiece batch piece) 
       let same = other_stays from.half (StaysPut piece from.gate) old new step in
       (from.half, current_still batches old new stands from.gate batches log (omega arith) same, inr (from.gate, log))
 
-  -- where a log stands that has batches
+  -- the position of a log that has batches
   pub gains_more : (to : Standing) → to ≡ record from { gate = from.gate + length piece } → (from.second ≡ 0 → ⊥) → (old new : Halves) → InHalf from.half (Puts piece from.gate) old new → GainsAt batch from to old new
   gains_more to to_is some old new step batches stands = rw to_is (by batches stands)
     where
@@ -76,7 +76,7 @@ module _ (batch : List LogRecord) (piece : List ℕ) (is : IsPiece batch piece) 
           let log = changed.0 batch (b ∷ bs) is stands.is_log in
           record { current = current_still (b ∷ bs) old new stands (from.gate + length piece) (b ∷ (bs ++ batch ∷ [])) log (omega arith) changed.1; is_log = log; generation = stands.generation; second = stands.second }
 
-  -- and one that has none
+  -- and of one that has none
   pub gains_first : (to : Standing) → to ≡ record from { generation = generation_in batch; gate = from.gate + length piece; second = length piece } → from.second ≡ 0
       → (old new : Halves) → InHalf from.half (Puts piece from.gate) old new → GainsAt batch from to old new
   gains_first to to_is none old new step batches stands = rw to_is (by batches stands)

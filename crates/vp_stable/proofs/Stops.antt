@@ -1,4 +1,4 @@
--- An append on a disk that is to stop: which of its calls were done tells whether the batch is there.
+-- An append on a disk that is to stop: the calls that were done decide whether the batch is there.
 use Rattle.std.proofs.Common.{◌≡◌, ◌∙◌, ⊎_elim, ℕ, suc, ◌+◌, Bool, true, false, List, [], ◌∷◌, length, refl, sym, subst, arith}
 use Rattle.std.proofs.lemmas.Bool.Decides.{nat_tests}
 use Rattle.std.specs.Prelude.{IsErrOf, nat_lt, IfSome, IsErr, Option, Some, None, Result, OnOk, Ok, Err}
@@ -20,7 +20,7 @@ pub some_as : {P Q : ℕ → Type 0} (o : Option ℕ) → ((n : ℕ) → P n →
 some_as None f h = tt
 some_as (Some n) f h = f n h
 
--- a call that isn't done has stopped, where there was memory for it
+-- where memory wasn't lacking, a call that isn't done comes after the stop
 pub out_failed : {T : Type 0} (result : Result T OutFault) → (IsErrOf result NoMemory → ⊥) → IsErr result → IsErrOf result Failed
 out_failed (Ok x) enough is_err = absurd cc
 out_failed (Err Failed) enough is_err = refl
@@ -30,7 +30,7 @@ module _ (half : ℕ) (piece : List ℕ) (gate : ℕ) where
   abbrev where_kept : Bool → Halves → Halves → Type 0
   where_kept kept = InHalf half (PutsWhere piece gate kept)
 
-  -- what stands behind the closed gate is no part of the log
+  -- what follows the closed gate is not part of the log
   first_stays : (a b : List ℕ) → Written (gate + 1) piece a b → StaysPut piece gate a b
   first_stays a b written batch batches is log = torn_behind gate batches a log (length piece) b (torn_written (gate + 1) piece a b written)
 
@@ -47,7 +47,7 @@ module _ (half : ℕ) (piece : List ℕ) (gate : ℕ) where
       (λ one. subst (λ calls. AppendsToStop where_kept calls old new) (sym one.0) (record { read = becomes-as _ _ (in_half_as half first_stays) one.1; synced = synced }))
       (h.stopped failed)
 
-  -- the second one, behind the first
+  -- the second one, after the first
   module _ (left : ℕ) (a b c : DiskState) (asked : b.asked ≡ a.asked) (synced : b.synced a.asked ≡ b.logs a.asked) (first : Steps (InHalf half (Written (gate + 1) piece)) a b) where
     stays : Becomes (where_kept false) (log_of a) (b.logs a.asked)
     stays = becomes-as _ _ (in_half_as half first_stays) first

@@ -34,7 +34,7 @@ torn_written at bytes old new written =
       no_longer = omega (arith, ap length written, whole, head, left);
     }
 
--- ---- a half of no more than 1 byte
+-- ---- a half of at most 1 byte
 
 pub torn_empty : (old new : List ℕ) → length old ≤ 1 → Torn 0 1 old new → length new ≤ 1
 torn_empty old new short torn = omega (arith, short, torn.no_longer)
@@ -44,7 +44,7 @@ written_empty old new written = record { gate = 0; rest = drop 1 old; is = writt
 
 -- ---- the two writes of an append
 
--- A batch stands behind the gate of a log and has a closed gate behind it. Its own gate holds anything.
+-- After the gate of a log there is a batch, with a closed gate after it. Its own gate is any byte.
 pub record IsStaged (batch : List LogRecord) (place : ℕ) (batches : List (List LogRecord)) (bytes : List ℕ) : Type 0 where
   pub gate : ℕ
   pub rest : List ℕ
@@ -52,7 +52,7 @@ pub record IsStaged (batch : List LogRecord) (place : ℕ) (batches : List (List
   pub at : place ≡ length (opened batches)
   pub can : AllByRecursion CanStand batches
 
--- it counts or it doesn't, by its gate
+-- its gate decides whether it counts
 staged_reads : (batch : List LogRecord) (place : ℕ) (batches : List (List LogRecord)) (bytes : List ℕ) → CanStand batch → IsStaged batch place batches bytes
     → IsLog place batches bytes ⊎ IsLog (place + length (measured batch ++ 0 ∷ [])) (batches ++ batch ∷ []) bytes
 staged_reads batch place batches bytes can staged = elim (cases_eq staged.gate 1) [
@@ -75,7 +75,7 @@ module _ (place : ℕ) (batches : List (List LogRecord)) (old : List ℕ) (log :
   log_front : take (place + 1) old ≡ opened batches ++ log.gate ∷ []
   log_front = ap (λ (l : List ℕ). take (place + 1) l) log.is ∙ take_through (opened batches) log.rest log.gate place log.at
 
-  -- what stands behind the closed gate is no part of the log
+  -- what follows the closed gate is not part of the log
   pub torn_behind : (n : ℕ) (new : List ℕ) → Torn (place + 1) n old new → IsLog place batches new
   torn_behind n new torn =
       let within : place + 1 ≡ min (place + 1) (length old) = omega (arith, log_size) in
@@ -119,7 +119,7 @@ module _ (batch : List LogRecord) (can : CanStand batch) (place : ℕ) (batches 
   staged_back : drop (place + 1) old ≡ back
   staged_back = ap (λ (l : List ℕ). drop (place + 1) l) staged.is ∙ drop_through (opened batches) back staged.gate place staged.at
 
-  -- the batch stands whole in each outcome of the write of its gate
+  -- the batch is whole whatever became of the write of its gate
   pub torn_gate : (new : List ℕ) → Torn place 1 old new → IsLog place batches new ⊎ IsLog (place + length (measured batch ++ 0 ∷ [])) (batches ++ batch ∷ []) new
   torn_gate new torn =
       let within : place ≡ min place (length old) = omega (arith, staged_size) in

@@ -1,4 +1,4 @@
--- How calls of a disk go on from each other.
+-- How time goes on from call to call of a disk.
 use Rattle.std.proofs.Common.{◌≡◌, inl, inr, ⊎_elim, ℕ, List, ◌∙◌, subst, arith}
 use Rattle.std.specs.declared.option.Option.{Option}
 use Rattle.vp_outside.specs.Disk.{Halves, DiskState, log_of, StaysAttached, Untouched, Elapses}
@@ -58,12 +58,12 @@ quiet_one {old = old} {new = new} call = record {
 pub quiet_then : {a b c : DiskState} → Quiet a b → LeavesLogs b c → Quiet a c
 quiet_then first call = quiet_join first (quiet_one call)
 
--- what is told in between is told at the beginning
+-- what is known in between was known at the beginning
 pub told_before : {old new : DiskState} (P : Option Halves → Type 0) → Quiet old new → P (log_of new) → P (log_of old)
 told_before {old = old} {new = new} P quiet h =
     subst P ((quiet.untouched old.asked).same) (subst (λ (name : Option (List ℕ)). P (new.logs name)) quiet.stays.same_name h)
 
--- ---- calls that change the attached log alone
+-- ---- calls that change only the attached log
 
 pub others_quiet : {old new : DiskState} → Quiet old new → LeavesOthers old new
 others_quiet quiet = record { stays = quiet.stays; honest = quiet.as_honest; elsewhere = λ log other. quiet.untouched log; any_moment = λ log other. quiet.time log }

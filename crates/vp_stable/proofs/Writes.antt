@@ -1,4 +1,4 @@
--- The writes of a log, over what a disk tells.
+-- The writes of a log, by what is known of the disk.
 use Rattle.std.proofs.Common.{◌⊎◌, inl, inr, ℕ, zero, suc, ◌+◌, List, [], ◌∷◌, ◌++◌, length, sym, ◌∙◌, ap, subst, arith}
 use Rattle.std.specs.Prelude.{IfSome, OnOk, OnErr, Result, Ok, Err}
 use Rattle.std.specs.declared.option.Option.{Option}
@@ -33,7 +33,7 @@ pub in_half_then : (half : ℕ) {S T U : List ℕ → List ℕ → Type 0} → (
 in_half_then zero f a b c first second = (f a.0 b.0 c.0 first.0 second.0, second.1 ∙ first.1)
 in_half_then (suc n) f a b c first second = (f a.1 b.1 c.1 first.0 second.0, second.1 ∙ first.1)
 
--- ---- steps that a disk tells or doesn't
+-- ---- steps where the log is known, and where it isn't
 
 pub becomes-as : {S T : Halves → Halves → Type 0} (o p : Option Halves) → ((a b : Halves) → S a b → T a b) → Becomes S o p → Becomes T o p
 becomes-as (Some a) (Some b) f h = f a b h
@@ -63,7 +63,7 @@ module _ (name : Option (List ℕ)) where
       by None h = tt
       by (Some log) h = λ only. elapses_as name old new (S log) (T log) (h only) (f log)
 
-  -- a call whose images are each one from before it after a step
+  -- a call after which each image is an earlier one that was changed by a step
   pub tears_one : (old new : DiskState) (S T : Halves → Halves → Type 0) → ((a b : Halves) → S a b → T a b) → Elapses name old new (After S (old.may_leave name)) → Tears T name old new
   tears_one old new S T f time honest = by (old.logs name)
     where
@@ -96,7 +96,7 @@ torn_may_clear a b c cut torn = inr (torn_empty b c (omega (arith, ap length cut
 pub cut_clears : (a b c : List ℕ) → CutTo 0 a b → Written 0 (0 ∷ []) b c → Clears a c
 cut_clears a b c cut written = written_empty b c written
 
--- ---- a batch is put behind a gate
+-- ---- a batch is written after a gate
 
 module _ (piece : List ℕ) (gate : ℕ) where
   -- after the first write, whether it is done or not

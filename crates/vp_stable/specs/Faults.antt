@@ -16,7 +16,7 @@ abbrev pub append_fault : OutFault → AppendFault
 append_fault out.Failed = append.DiskFault
 append_fault out.NoMemory = append.NoMemory
 
--- The disk's count of failures rose where the answer is DiskFault, and stayed as it was at any other.
+-- The disk's count of failures rose where the error is DiskFault, and otherwise is as it was.
 pub record HasLogCause {T : Type 0} (before now : ℕ) (result : Result T LogFault) : Type 0 where
   pub later : before ≤ now
   pub failed : IsErrOf result log.DiskFault → Rose before now

@@ -1,4 +1,4 @@
--- What the two halves of a log stand for: the batches of the current one.
+-- What the two halves of a log hold: the batches of the current one.
 use Rattle.std.specs.Prelude.{◌≡◌, ◌⊎◌, ℕ, ◌+◌, ◌*◌, ◌-◌, ◌^◌, Bool, false, true, nat_lt, ◌==◌, ◌&&◌, if◌then◌else◌, List, [], ◌∷◌, ◌++◌, length, IfSome, Result, Ok, Err}
 use Rattle.vp_base.specs.declared.entry.LogRecord.{LogRecord}
 use Rattle.vp_base.specs.declared.entry.LogRecord.TheVariants as log_record
@@ -21,15 +21,15 @@ abbrev pub generation_of : List (List LogRecord) → ℕ
 generation_of [] = 0
 generation_of (batch ∷ batches) = generation_in batch
 
--- An open gate stands at the front of the half, and behind it this batch with a gate.
+-- The half begins with an open gate, this batch, and another gate.
 pub record IsFirst (batch : List LogRecord) (bytes : List ℕ) : Type 0 where
   pub place : ℕ
   pub rest : List ℕ
   pub open_ : bytes ≡ 1 ∷ rest
   pub stands : StandsFirst batch place rest
 
--- The generation of a half is that of its first batch. A first batch that is cut short, has no gate behind it or is no list of records
--- counts as none, and a half without one has generation 0.
+-- The generation of a half is that of its first batch. A first batch counts as none where it is cut short, has no gate after it, or
+-- is no list of log records; a half without one has generation 0.
 abbrev pub HasGeneration : ℕ → List ℕ → Type 0
 HasGeneration generation bytes =
     ((batch : List LogRecord) × IsFirst batch bytes × (generation ≡ generation_in batch))
@@ -53,23 +53,23 @@ pub record IsCurrent (half : ℕ) (log : Halves) : Type 0 where
 abbrev pub InCurrent : (List ℕ → Type 0) → Halves → Type 0
 InCurrent P log = (half : ℕ) × IsCurrent half log × P (half_of half log)
 
--- The halves are a log with these batches; the other half is not read past its first batch and the gate behind that.
+-- The halves are a log with these batches. The other half is not read beyond its first batch and the gate after that.
 abbrev pub HaveBatches : List (List LogRecord) → Halves → Type 0
 HaveBatches batches log = InCurrent (HasBatches batches) log
 
--- They are no log: the current half is bad at that place.
+-- They are not a log: the current half is bad at this place.
 pub record AreBadLog (half place : ℕ) (log : Halves) : Type 0 where
   pub current : IsCurrent half log
   pub bad : IsBadLog place (half_of half log)
 
--- what reading the batches answers, where the halves are told
+-- what reading the batches gives, where the halves are known
 abbrev pub Peeks : Halves → Result (List (List LogRecord)) LogFault → Type 0
 Peeks log (Ok batches) = HaveBatches batches log
 Peeks log (Err (faults.BadLog half at)) = AreBadLog half at log
 Peeks log (Err faults.DiskFault) = Unit {0}
 Peeks log (Err faults.NoMemory) = Unit {0}
 
--- what recovery answers, where the halves are told
+-- what recovery gives, where the halves are known
 abbrev pub Recovers : {L : Type 0} → Halves → Result (L × List (List LogRecord)) LogFault → Type 0
 Recovers log (Ok recovered) = HaveBatches recovered.1 log
 Recovers log (Err (faults.BadLog half at)) = AreBadLog half at log
@@ -78,8 +78,8 @@ Recovers log (Err faults.NoMemory) = Unit {0}
 
 -- ---- what a log keeps in memory
 
--- where the log stands: its current half and that half's generation, the place of its closed gate, and that of its second gate, which is 0
--- where it has none
+-- the position of a log: its current half and that half's generation, the place of its closed gate, and that of its second gate,
+-- which is 0 where it has none
 pub record Standing : Type 0 where
   pub half : ℕ
   pub generation : ℕ
@@ -90,20 +90,20 @@ abbrev pub second_gate : List (List LogRecord) → ℕ
 second_gate [] = 0
 second_gate (batch ∷ batches) = length (opened (batch ∷ []))
 
--- These batches stand there.
+-- The log has this position and these batches.
 pub record StandsAt (at : Standing) (batches : List (List LogRecord)) (log : Halves) : Type 0 where
   pub current : IsCurrent at.half log
   pub is_log : IsLog at.gate batches (half_of at.half log)
   pub generation : at.generation ≡ generation_of batches
   pub second : at.second ≡ second_gate batches
 
--- A crash leaves what a read gives, and the log stands there.
+-- A crash leaves what a read gives, and the log has this position.
 pub record AreSettled (at : Standing) (log : Halves) (images : Halves → Type 0) : Type 0 where
   pub synced : Only log images
   pub batches : List (List LogRecord)
   pub stands : StandsAt at batches log
 
--- the same where the disk is honest and tells the log
+-- the same, where the disk is honest and the log is known
 abbrev pub AreKept : Standing → DiskState → Type 0
 AreKept at disk = disk.honest → IfSome (log_of disk) (λ log. AreSettled at log (disk.may_leave disk.asked))
 
@@ -114,11 +114,11 @@ pub record ReadAlike (old new : Halves) : Type 0 where
   pub batches : (batches : List (List LogRecord)) → HaveBatches batches old → HaveBatches batches new
   pub faults : (half place : ℕ) → AreBadLog half place old → AreBadLog half place new
 
--- The log that stood there gets the batch behind the others, and stands there now.
+-- The log had the first position, gets the batch after the others, and then has the second position.
 abbrev pub GainsAt : List LogRecord → Standing → Standing → Halves → Halves → Type 0
 GainsAt batch from to old new = (batches : List (List LogRecord)) → StandsAt from batches old → StandsAt to (batches ++ batch ∷ []) new
 
--- It gets the batch or has the batches that it had.
+-- It gets the batch, or still has the earlier batches.
 abbrev pub MayGainAt : List LogRecord → Standing → Halves → Halves → Type 0
 MayGainAt batch from old new = (batches : List (List LogRecord)) → StandsAt from batches old → HaveBatches batches new ⊎ HaveBatches (batches ++ batch ∷ []) new
 
@@ -127,7 +127,7 @@ MayGainAt batch from old new = (batches : List (List LogRecord)) → StandsAt fr
 abbrev pub checkpoint_of : ℕ → DurableState → LogRecord
 checkpoint_of generation d = log_record.Checkpoint generation d.life d.promise d.copies d.doubts d.decisions
 
--- one batch of one checkpoint, of the generation behind that of these batches
+-- one batch of one checkpoint, of the generation after that of these batches
 abbrev pub checkpointed : DurableState → List (List LogRecord) → List (List LogRecord)
 checkpointed d batches = (checkpoint_of (generation_of batches + 1) d ∷ []) ∷ []
 
@@ -138,30 +138,30 @@ is_last generation = generation == 2 ^ 64 - 1
 abbrev pub saved : DurableState → List (List LogRecord) → List (List LogRecord)
 saved d batches = if is_last (generation_of batches) then batches else checkpointed d batches
 
--- The log that stood there has the batches that a checkpoint makes of its batches, and stands there now.
+-- The log had the first position, has the batches that a checkpoint makes of its batches, and then has the second position.
 abbrev pub SavesAt : DurableState → Standing → Standing → Halves → Halves → Type 0
 SavesAt d from to old new = (batches : List (List LogRecord)) → StandsAt from batches old → StandsAt to (saved d batches) new
 
--- It has those or the batches that it had.
+-- It has those batches or the earlier ones.
 abbrev pub MaySaveAt : DurableState → Standing → Halves → Halves → Type 0
 MaySaveAt d from old new = (batches : List (List LogRecord)) → StandsAt from batches old → HaveBatches batches new ⊎ HaveBatches (saved d batches) new
 
--- what batches make of a durable part
+-- what a durable part is after batches
 abbrev pub folded : List (List LogRecord) → DurableState → DurableState
 folded batches d = for_each batches apply_all d
 
--- Whatever copies the batches fold to this durable part from, the new batches do.
+-- From whatever copies the batches fold to this durable part, the new batches do so too.
 abbrev pub FoldsAlike : DurableState → Standing → Halves → Halves → Type 0
 FoldsAlike d from old new = (batches after : List (List LogRecord)) (copies : List (ℕ × Stored)) → StandsAt from batches old → HaveBatches after new
     → folded batches (empty_durable copies) ≡ d → folded after (empty_durable copies) ≡ d
 
 -- ---- when a checkpoint is due
 
--- The half is longer than 65,536 bytes up to and with its closed gate, and longer than twice the place of its second gate.
+-- The half is longer than 65,536 bytes, its closed gate included, and longer than twice the place of its second gate.
 abbrev pub is_due : Standing → Bool
 is_due at = if at.second == 0 then false else nat_lt 65536 (at.gate + 1) && nat_lt (2 * at.second) (at.gate + 1)
 
--- the same of batches, by the lengths of their spellings
+-- the same for batches, by the lengths of their encodings
 abbrev pub size : List (List LogRecord) → ℕ
 size batches = length (opened batches) + 1
 
@@ -169,21 +169,22 @@ abbrev pub due : List (List LogRecord) → Bool
 due [] = false
 due (batch ∷ batches) = nat_lt 65536 (size (batch ∷ batches)) && nat_lt (2 * length (opened (batch ∷ []))) (size (batch ∷ batches))
 
--- The log that stands there is as short as checkpoints make it: none is due, or none can be made, since its generation is the last.
+-- The log at this position is as short as a checkpoint makes it: none is due, or none can be made, since its generation is the
+-- last.
 abbrev pub IsShort : Standing → Type 0
 IsShort at = (is_due at ≡ false) ⊎ (is_last at.generation ≡ true)
 
--- ---- what holds of all halves
+-- ---- laws of all halves
 
--- a checkpoint is due of a log where it is due of its batches
+-- whether a checkpoint is due for a log depends only on its batches
 abbrev pub DueIsOfTheBatches : Type 0
 DueIsOfTheBatches = (at : Standing) (batches : List (List LogRecord)) (log : Halves) → StandsAt at batches log → is_due at ≡ due batches
 
--- behind a checkpoint none is due
+-- right after a checkpoint none is due
 abbrev pub NoneIsDueBehindOne : Type 0
 NoneIsDueBehindOne = (batch : List LogRecord) → due (batch ∷ []) ≡ false
 
--- halves stand for one list of batches, or are no log at one gate
+-- halves hold only one list of batches, or are not a log because of only one gate
 abbrev pub HalvesAreOneLog : Type 0
 HalvesAreOneLog = (a b : List (List LogRecord)) (log : Halves) → HaveBatches a log → HaveBatches b log → a ≡ b
 

@@ -1,4 +1,4 @@
--- Bytes stand for one list of batches, or are no log in one way.
+-- Bytes hold only one list of batches, or are not a log in only one way.
 use Rattle.std.specs.Prelude.{◌≡◌, ℕ, List}
 use Rattle.vp_base.specs.declared.entry.LogRecord.{LogRecord}
 use Rattle.vp_stable.specs.Log.{IsLog, HasBatches, IsBadLog}

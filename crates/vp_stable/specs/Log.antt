@@ -1,24 +1,24 @@
--- What the bytes of a half stand for: batches of records, each behind an open gate.
+-- What the bytes of a half hold: batches of log records, each after an open gate.
 use Rattle.std.specs.Prelude.{◌≡◌, ◌⊎◌, ℕ, ◌<◌, ◌≤◌, ◌^◌, List, [], ◌∷◌, ◌++◌, length, flat_map}
 use Rattle.std.specs.List.{AllByRecursion}
 use Rattle.byteorder.specs.Endian.{big_bytes}
 use Rattle.vp_base.specs.declared.entry.LogRecord.{LogRecord}
 use Rattle.vp_records.specs.Batches.{batch_bytes, IsBatch}
 
--- A batch that can stand in a log: its records have their spelling, and its length fits into 8 bytes.
+-- A batch that can be in a log: its log records have an encoding, and its length is less than 2^64.
 pub record CanStand (batch : List LogRecord) : Type 0 where
   pub records : IsBatch batch
   pub fits : length (batch_bytes batch) < 2 ^ 64
 
--- a batch behind its length
+-- the length of a batch, and then the batch
 unfoldable pub measured : List LogRecord → List ℕ
 measured batch = big_bytes 8 (length (batch_bytes batch)) ++ batch_bytes batch
 
--- batches, each behind an open gate
+-- batches, each after an open gate
 abbrev pub opened : List (List LogRecord) → List ℕ
 opened batches = flat_map (λ batch. 1 ∷ measured batch) batches
 
--- The bytes begin with a batch behind its length, and a gate follows at that place.
+-- The bytes begin with the length of a batch and the batch, and a gate follows at that place.
 pub record StandsFirst (batch : List LogRecord) (place : ℕ) (bytes : List ℕ) : Type 0 where
   pub gate : ℕ
   pub rest : List ℕ
@@ -26,7 +26,8 @@ pub record StandsFirst (batch : List LogRecord) (place : ℕ) (bytes : List ℕ)
   pub at : place ≡ length (measured batch)
   pub can : CanStand batch
 
--- The bytes are these batches, each behind an open gate, and a closed gate at that place. What follows it is no part of the log.
+-- The bytes are these batches, each after an open gate, and then a closed gate at that place. What follows it is not part of the
+-- log.
 pub record IsLog (place : ℕ) (batches : List (List LogRecord)) (bytes : List ℕ) : Type 0 where
   pub gate : ℕ
   pub rest : List ℕ
@@ -35,11 +36,11 @@ pub record IsLog (place : ℕ) (batches : List (List LogRecord)) (bytes : List �
   pub at : place ≡ length (opened batches)
   pub can : AllByRecursion CanStand batches
 
--- The bytes are a log with these batches, or no more than 1 byte, which is a log without batches whatever it is.
+-- The bytes are a log with these batches; or they are at most 1 byte, which is always a log without batches.
 abbrev pub HasBatches : List (List LogRecord) → List ℕ → Type 0
 HasBatches batches bytes = ((length bytes ≤ 1) × (batches ≡ [])) ⊎ ((place : ℕ) × IsLog place batches bytes)
 
--- Behind batches an open gate stands at that place, and behind it no batch with a gate.
+-- After some batches there is an open gate at that place, but no batch with a gate after it.
 pub record IsBadLog (place : ℕ) (bytes : List ℕ) : Type 0 where
   pub batches : List (List LogRecord)
   pub rest : List ℕ

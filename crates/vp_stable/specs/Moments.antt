@@ -2,8 +2,8 @@
 use Rattle.std.specs.Prelude.{◌≡◌, ◌↔◌, ℕ, List, Option}
 use Rattle.vp_outside.specs.Disk.{Halves, InHalf, Torn, DiskState, StaysAttached, Untouched, Elapses}
 
--- A crash at any moment since a call began leaves of the attached log what has P. One since an earlier moment leaves that, or what it might
--- have left before.
+-- A crash at any moment since a call began leaves of the attached log only images with P. A crash since an earlier moment leaves
+-- such an image, or one that it might have left before the call.
 pub record LeavesOnly (old new : DiskState) (P : Halves → Type 0) : Type 0 where
   pub each : (image : Halves) → new.left_since old.asked old.moment image → P image
   pub time : Elapses old.asked old new P
@@ -23,7 +23,7 @@ pub record Quiet (old new : DiskState) : Type 0 where
   pub untouched : (log : Option (List ℕ)) → Untouched log old new
   pub time : (log : Option (List ℕ)) → Elapses log old new (old.may_leave log)
 
--- Calls that change the attached log alone: of another one a crash during them leaves what it might have left before.
+-- Calls that change only the attached log: of any other log a crash during them leaves what it might have left before.
 pub record LeavesOthers (old new : DiskState) : Type 0 where
   pub stays : StaysAttached old new
   pub honest : old.honest ↔ new.honest

@@ -1,4 +1,4 @@
--- What is read of the bytes of a half.
+-- What is read from the bytes of a half.
 use Rattle.std.specs.Prelude.{◌≡◌, ℕ, ◌≤◌, List, [], length, Result, Ok, Err}
 use Rattle.vp_outside.specs.Disk.{Halves, half_of}
 use Rattle.vp_stable.specs.Log.{IsLog, IsBadLog}
@@ -7,7 +7,8 @@ use Rattle.vp_stable.specs.declared.batches.Scan.{Scan}
 use Rattle.vp_stable.specs.declared.fault.LogFault.{LogFault}
 use Rattle.vp_stable.specs.declared.fault.LogFault.TheVariants as faults
 
--- A log with these batches and its gates at those places; of 0 or 1 bytes no batches and the first place.
+-- The bytes are a log with these batches and with its gates at those places; 0 or 1 bytes have no batches, and their gate is at the
+-- first place.
 pub record IsScan (scan : Scan) (bytes : List ℕ) : Type 0 where
   pub short : length bytes ≤ 1 → (scan.gate ≡ 0) × (scan.batches ≡ [])
   pub is_log : 2 ≤ length bytes → IsLog scan.gate scan.batches bytes

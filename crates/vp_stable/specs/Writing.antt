@@ -1,10 +1,10 @@
--- What the writes of a log make of a half, and what a crash during them may leave.
+-- What the writes of a log do to a half, and what a crash during them may leave.
 use Rattle.std.specs.Prelude.{◌≡◌, ◌⊎◌, ℕ, ◌+◌, ◌≤◌, List, [], ◌∷◌, ◌++◌, length, Option, IfSome}
 use Rattle.vp_base.specs.declared.entry.LogRecord.{LogRecord}
 use Rattle.vp_outside.specs.Disk.{Halves, DiskState, Only, Elapses}
 use Rattle.vp_stable.specs.Log.{CanStand, measured, IsLog}
 
--- It stays as it was, or no more than 1 byte is left of it.
+-- It stays as it was, or at most 1 byte is left of it.
 abbrev pub MayClear : List ℕ → List ℕ → Type 0
 MayClear old new = (new ≡ old) ⊎ (length new ≤ 1)
 
@@ -12,17 +12,17 @@ MayClear old new = (new ≡ old) ⊎ (length new ≤ 1)
 abbrev pub Clears : List ℕ → List ℕ → Type 0
 Clears old new = IsLog 0 [] new
 
--- What stands behind the gate of a batch: the batch behind its length, and a closed gate.
+-- What follows the gate of a batch: the length of the batch, the batch, and a closed gate.
 pub record IsPiece (batch : List LogRecord) (piece : List ℕ) : Type 0 where
   pub is : piece ≡ measured batch ++ 0 ∷ []
   pub can : CanStand batch
 
--- A log whose closed gate stands at that place gets the batch of the piece behind the others.
+-- A log whose closed gate is at this place gets the batch of the piece after the others.
 abbrev pub Puts : List ℕ → ℕ → List ℕ → List ℕ → Type 0
 Puts piece gate old new =
     (batch : List LogRecord) (batches : List (List LogRecord)) → IsPiece batch piece → IsLog gate batches old → IsLog (gate + length piece) (batches ++ batch ∷ []) new
 
--- It gets the batch or has the batches that it had.
+-- It gets the batch, or still has the earlier batches.
 abbrev pub MayPut : List ℕ → ℕ → List ℕ → List ℕ → Type 0
 MayPut piece gate old new =
     (batch : List LogRecord) (batches : List (List LogRecord)) → IsPiece batch piece → IsLog gate batches old

@@ -1,4 +1,4 @@
-//! Batches as the bytes of a half.
+//! Batches as the bytes in a half of a log.
 
 ghost use Rattle.std.specs.Prelude.{◌≡◌, ◌-◌, ◌<◌, ◌≤◌, ◌++◌, ◌∷◌, [], ℕ, List, length, take, IfOk, MatchOption, MatchResult};
 ghost use Rattle.byteorder.specs.Endian.{big_bytes};
@@ -16,13 +16,13 @@ use std::alloc::Global;
 use vp_base::{Batch, Batches, LogRecord, NoMemory};
 use vp_records::{BatchFault, Durable, decode_batch, encode_batch};
 
-/// How many bytes the length of a batch has.
+/// How many bytes the length of a batch takes.
 const LENGTH_BYTES: usize = 8;
 
-/// An open gate. Each other byte is a closed one.
+/// The byte of an open gate. Every other byte is a closed one.
 pub const OPEN: u8 = 1;
 
-/// What stands behind a gate that is opened: the batch behind its length, and the next gate, which is closed.
+/// Makes what follows a gate that is to be opened: the length of the batch, the batch, and the next gate, which is closed.
 pub fn behind_gate(alloc: Global, batch: &Batch) -> Result<Vec<u8>, NoMemory>
     requires { IsBatch batch.now }
     ensures bytes { IfOk result (λ piece. piece.items ≡ measured batch.now ++ 0 ∷ []) }
@@ -36,7 +36,7 @@ pub fn behind_gate(alloc: Global, batch: &Batch) -> Result<Vec<u8>, NoMemory>
     Ok(piece)
 }
 
-/// Where the gate behind the first batch has to stand, by the length before that batch; none where the bytes end before it.
+/// The place that the gate after the first batch must have, by the length of that batch, or `None` where the bytes end before it.
 fn next_gate(bytes: &[u8]) -> Option<usize>
     ensures { MatchOption result
         ((batch : List LogRecord) (next : ℕ) → StandsFirst batch next bytes.now → ⊥)
@@ -52,7 +52,7 @@ fn next_gate(bytes: &[u8]) -> Option<usize>
     Some(LENGTH_BYTES + length as usize)
 }
 
-/// The batch behind its length at the front of the bytes, with the place of the gate behind it; none where they begin with none.
+/// Reads the length and the batch at the front of the bytes, with the place of the gate after them; `None` where no batch is there.
 fn first_batch(alloc: Global, bytes: &[u8]) -> Result<Option<(Batch, usize)>, NoMemory>
     ensures { IfOk result (λ found. MatchOption found
         ((batch : List LogRecord) (next : ℕ) → StandsFirst batch next bytes.now → ⊥)
@@ -68,7 +68,7 @@ fn first_batch(alloc: Global, bytes: &[u8]) -> Result<Option<(Batch, usize)>, No
     }
 }
 
-/// A batch of one checkpoint of the durable part.
+/// Makes a batch of one checkpoint of the durable part.
 pub fn checkpoint_batch(
     alloc: Global,
     generation: u64,
@@ -92,7 +92,7 @@ pub fn generation_in(batch: &Batch) -> u64
     }
 }
 
-/// The generation of a half, which is that of its first batch.
+/// The generation of a half, which is that of its first batch; 0 where it has none.
 pub fn generation(alloc: Global, bytes: &[u8]) -> Result<u64, NoMemory>
     ensures { IfOk result (λ generation. HasGeneration generation bytes.now) }
 {
@@ -105,17 +105,17 @@ pub fn generation(alloc: Global, bytes: &[u8]) -> Result<u64, NoMemory>
     }
 }
 
-/// What is read of a half that is a log.
+/// What was read of a half that is a log.
 #[derive(Drop)]
 pub struct Scan {
     pub batches: Batches,
-    /// Where the closed gate behind the batches stands.
+    /// The place of the closed gate after the batches.
     pub gate: usize,
-    /// Where the gate behind the first batch stands; 0 where there is no batch.
+    /// The place of the gate after the first batch; 0 where there is no batch.
     pub second: usize,
 }
 
-/// The batches of a half, and its gates.
+/// Reads the batches of a half, and the places of its gates.
 pub fn read_batches(alloc: Global, half: u8, bytes: &[u8]) -> Result<Scan, LogFault>
     ensures scanned { Scanned half bytes.now result }
     ensures within { IfOk result (λ scan. (scan.gate ≤ length bytes.now) × (scan.second ≤ scan.gate)) }

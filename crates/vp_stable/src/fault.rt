@@ -13,8 +13,9 @@ use vp_outside::OutFault;
 pub enum LogFault {
     /// The disk failed.
     DiskFault,
-    /// The current half is no log: behind the open gate at this byte no batch of records with a gate stands.
+    /// The current half is not a log: after the open gate at the byte `at` there is no batch of log records with a gate after it.
     BadLog { half: u8, at: u64 },
+    /// Memory is lacking.
     NoMemory,
 }
 
@@ -37,11 +38,12 @@ impl From<NoMemory> for LogFault {
     }
 }
 
-/// Why a batch isn't appended, as far as the caller can know: after a fault it may be there or not.
+/// Why a batch isn't appended, as far as the caller can know: after a disk fault it may be in the log or not.
 #[derive(Clone, Copy, Debug, Drop, PartialEq, Eq)]
 pub enum AppendFault {
     /// The disk failed.
     DiskFault,
+    /// Memory is lacking.
     NoMemory,
 }
 

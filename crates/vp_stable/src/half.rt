@@ -1,4 +1,4 @@
-//! Reading and writing the halves.
+//! Reading and writing the halves of a log.
 
 ghost use Rattle.std.specs.Prelude.{◌≡◌, ◌+◌, ◌≤◌, ◌^◌, length, min, take, IfOk, IfSome, IsTrue, OnOk, OnErr};
 ghost use Rattle.vp_outside.specs.Causes.{HasCause};
@@ -13,7 +13,7 @@ use crate::batches::generation;
 use std::alloc::Global;
 use vp_outside::{Disk, Failed, OutFault};
 
-/// Puts the bytes of a half into the front of the buffer, as far as it has room, and answers how many.
+/// Copies the bytes of a half to the front of the buffer, as many as it has room for, and returns how many.
 fn fill<D: Disk>(disk: &mut D, half: u8, buf: &mut [u8]) -> Result<usize, Failed>
     requires attached { IsTrue (D.state disk.old).attached }
     requires half { half ≤ 1 }
@@ -33,7 +33,7 @@ fn fill<D: Disk>(disk: &mut D, half: u8, buf: &mut [u8]) -> Result<usize, Failed
     Ok(at)
 }
 
-/// The bytes of a half.
+/// Reads all bytes of a half.
 fn read_half<D: Disk>(alloc: Global, disk: &mut D, half: u8) -> Result<Vec<u8>, OutFault>
     requires attached { IsTrue (D.state disk.old).attached }
     requires half { half ≤ 1 }
@@ -48,7 +48,7 @@ fn read_half<D: Disk>(alloc: Global, disk: &mut D, half: u8) -> Result<Vec<u8>, 
     Ok(bytes)
 }
 
-/// The current half as it is read.
+/// The current half as it was read.
 #[derive(Drop)]
 pub struct Current {
     pub half: u8,
@@ -83,7 +83,7 @@ pub fn read_current<D: Disk>(alloc: Global, disk: &mut D) -> Result<Current, Out
     })
 }
 
-/// Writes the piece into a half and syncs.
+/// Writes the piece into a half from the byte `at` on, and syncs.
 pub fn write_synced<D: Disk>(disk: &mut D, half: u8, at: u64, piece: &[u8]) -> Result<(), OutFault>
     requires attached { IsTrue (D.state disk.old).attached }
     requires half { half ≤ 1 }

@@ -1,5 +1,6 @@
-//! A log of batches of records that no crash can tear: each batch stands behind a gate of one byte, which is opened by a write of
-//! its own, after the batch and the next, closed gate were synced. It has two halves, and a checkpoint starts the other one with one batch.
+//! A log of batches of log records that no crash can tear: before each batch there is a gate of one byte, which is opened by a
+//! write of its own, once the batch and the next, closed gate are synced. It has two halves, and a checkpoint begins the other half
+//! with one batch.
 #![tactic(auto)]
 
 mod batches;

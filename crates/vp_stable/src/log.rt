@@ -20,19 +20,19 @@ use vp_base::{Batch, Batches};
 use vp_outside::Disk;
 use vp_records::Durable;
 
-/// How long the current half may be before a checkpoint is due, in bytes.
+/// How many bytes the current half may have before a checkpoint is due.
 const LONGEST: u64 = 65_536;
 
-/// A log in the two halves of what a disk keeps.
+/// A log in the two halves that a disk keeps.
 pub struct Log {
     alloc: Global,
     /// The current half.
     half: u8,
     /// The generation of the current half.
     generation: u64,
-    /// Where the closed gate behind the batches stands.
+    /// The place of the closed gate after the batches.
     gate: u64,
-    /// Where the gate behind the first batch stands; 0 where there is no batch.
+    /// The place of the gate after the first batch; 0 where there is no batch.
     second: u64,
 }
 
@@ -60,20 +60,21 @@ impl Model for Log {
 }
 
 impl Log {
-    /// Reads the batches of the current half of the log that is attached, and makes one without batches of a current half of 0 or 1
-    /// bytes.
+    /// Reads the batches of the attached log, which are in its current half. Where that half has 0 or 1 bytes, it is made a log
+    /// without batches.
     pub fn recover<D: Disk>(alloc: Global, disk: &mut D) -> Result<(Log, Batches), LogFault>
         requires attached { IsTrue (D.state disk.old).attached }
 
         ensures answer { IfSome (log_of (D.state disk.old)) (λ log. Recovers log result) }
         ensures stands { IfOk result (λ it. IfSome ((D.state disk.new).logs (D.state disk.old).asked) (λ log. StandsAt it.0 it.1 log)) }
         ensures kept { IfOk result (λ it. AreKept it.0 (D.state disk.new)) }
-        // Whatever the disk tells, what was read can be applied and appended.
+        // Even where nothing is known of the log: what was read can be applied and appended.
         ensures batches { IfOk result (λ it. AllByRecursion IsBatch it.1) }
 
-        // Whatever the answer is, another recovery reads the same.
+        // Whatever the result is, another recovery reads the same.
         ensures alike { Steps ReadAlike (D.state disk.old) (D.state disk.new) }
-        // A crash before the first sync leaves what it might have left before the call, and a later one what reads the same.
+        // A crash before the first sync leaves what it might have left before the call, and a later crash leaves what reads the
+        // same.
         ensures any_moment { (D.state disk.old).honest → IfSome (log_of (D.state disk.old)) (λ log.
             LeavesOnly (D.state disk.old) (D.state disk.new)
             (λ image. (D.state disk.old).may_leave (D.state disk.old).asked image ⊎ ReadAlike log image)) }
@@ -97,12 +98,12 @@ impl Log {
         Ok((log, scan.batches))
     }
 
-    /// The batches of the log that is attached, as `recover` reads them. Nothing is written, cut or synced, and no file of it changes.
+    /// Reads the batches of the attached log, as `recover` does, but writes, cuts and syncs nothing, so that no file of it changes.
     pub fn peek<D: Disk>(alloc: Global, disk: &mut D) -> Result<Batches, LogFault>
         requires attached { IsTrue (D.state disk.old).attached }
 
         ensures answer { IfSome (log_of (D.state disk.old)) (λ log. Peeks log result) }
-        // Whatever the disk tells, what was read can be applied.
+        // Even where nothing is known of the log: what was read can be applied.
         ensures batches { IfOk result (AllByRecursion IsBatch) }
 
         ensures quiet { Quiet (D.state disk.old) (D.state disk.new) }
@@ -113,7 +114,7 @@ impl Log {
         Ok(scan.batches)
     }
 
-    /// Puts the batch behind the others. After a fault the log is recovered again before it is used.
+    /// Appends the batch. After a fault the batch is in the log or not; recover the log before it is used again.
     pub fn append<D: Disk>(&mut self, disk: &mut D, batch: &Batch) -> Result<(), AppendFault>
         requires attached { IsTrue (D.state disk.old).attached }
         requires kept { AreKept self.old (D.state disk.old) }
@@ -122,11 +123,11 @@ impl Log {
         ensures appended { OnOk result (Steps (GainsAt batch.now self.old self.new) (D.state disk.old) (D.state disk.new)) }
         ensures kept { OnOk result (AreKept self.new (D.state disk.new)) }
         ensures fault { OnErr result (Steps (MayGainAt batch.now self.old) (D.state disk.old) (D.state disk.new)) }
-        // Which of the two a stop leaves goes by the calls that were done.
+        // Whether a stop leaves the batch depends on the calls that were done before it.
         ensures stop { ¬ IsErrOf result AppendFault.NoMemory → IfSome (D.state disk.old).until_stop (λ calls.
             AppendsToStop (GainsWhere batch.now self.old) calls (D.state disk.old) (D.state disk.new)) }
 
-        // A crash at any moment of the call leaves the batches that were there, with this one or without.
+        // A crash at any moment of the call leaves the earlier batches, with this one or without it.
         ensures any_moment { (D.state disk.old).honest → IfSome (log_of (D.state disk.old)) (λ log.
             LeavesOnly (D.state disk.old) (D.state disk.new)
             (MayGainAt batch.now self.old log)) }
@@ -144,7 +145,8 @@ impl Log {
         Ok(())
     }
 
-    /// Whether a checkpoint is due: the current half is longer than 65,536 bytes, and longer than twice its first batch. It takes no
+    /// Whether a checkpoint is due: the current half is longer than 65,536 bytes, and longer than twice its first batch. Takes no
+    /// memory.
     /// memory.
     pub fn due(&self) -> bool
         ensures { result ≡ is_due self.now }
@@ -153,8 +155,8 @@ impl Log {
         self.second != 0 && LONGEST < size && 2 * self.second < size
     }
 
-    /// Starts the other half with one batch, a checkpoint of the durable part to which the batches fold. At the last generation
-    /// nothing is done. After a fault the log is recovered again before it is used.
+    /// Begins the other half with one batch, a checkpoint of the durable part that the batches fold to. At the last generation
+    /// nothing is done. After a fault, recover the log before it is used again.
     pub fn checkpoint<D: Disk>(
         &mut self,
         disk: &mut D,
@@ -167,10 +169,10 @@ impl Log {
         ensures saved { OnOk result (Steps (SavesAt durable.now self.old self.new) (D.state disk.old) (D.state disk.new)) }
         ensures kept { OnOk result (AreKept self.new (D.state disk.new)) }
         ensures fault { OnErr result (Steps (MaySaveAt durable.now self.old) (D.state disk.old) (D.state disk.new)) }
-        // Whatever the disk tells, none is due then, unless its generation is the last.
+        // Even where nothing is known of the log: no checkpoint is due afterwards, unless the generation is the last one.
         ensures short { OnOk result (IsShort self.new) }
 
-        // A crash at any moment leaves the batches that were there or the checkpoint, which fold to the same durable part.
+        // A crash at any moment leaves the earlier batches or the checkpoint, which fold to the same durable part.
         ensures any_moment { (D.state disk.old).honest → IfSome (log_of (D.state disk.old)) (λ log.
             LeavesOnly (D.state disk.old) (D.state disk.new)
             (λ image. MaySaveAt durable.now self.old log image × FoldsAlike durable.now self.old log image)) }

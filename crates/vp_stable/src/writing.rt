@@ -1,4 +1,4 @@
-//! Writing the halves: what is written is synced before anything is written that stands on it.
+//! Writing the halves: what is written is synced before anything is written that relies on it.
 
 ghost use Rattle.std.specs.Prelude.{◌≡◌, ◌+◌, ◌<◌, ◌≤◌, ◌^◌, length, IfSome, IsErrOf, IsTrue, OnOk, OnErr};
 ghost use Rattle.vp_outside.specs.Output.{HasOutCause};
@@ -41,7 +41,7 @@ pub fn clear<D: Disk>(disk: &mut D, half: u8) -> Result<(), OutFault>
     write_synced(disk, half, 0, &[0])
 }
 
-/// Puts a batch, as the piece that stands behind its gate, behind the closed gate of a half, and opens that gate.
+/// Writes the piece of a batch after the closed gate of a half, and then opens that gate. Both writes are synced.
 pub fn put<D: Disk>(disk: &mut D, half: u8, gate: u64, piece: &[u8]) -> Result<(), OutFault>
     requires attached { IsTrue (D.state disk.old).attached }
     requires half { half ≤ 1 }

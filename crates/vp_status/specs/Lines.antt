@@ -14,6 +14,6 @@ no_answer_text = codes "no answer\n"
 abbrev pub lives_spent_text : List ℕ
 lives_spent_text = codes "lives spent\n"
 
--- the half of the log that is no log, and the byte
+-- the half of the log that is damaged, and the byte
 abbrev pub bad_log_text : ℕ → ℕ → List ℕ
 bad_log_text half at = codes "bad log " ++ (decimal half ++ (codes " at " ++ (decimal at ++ 10 ∷ [])))

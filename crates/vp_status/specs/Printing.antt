@@ -6,7 +6,7 @@ use Rattle.vp_outside.specs.Output.{SinkState, AppendsPrefix}
 use Rattle.vp_status.specs.declared.status.Status.{Status}
 use Rattle.vp_status.specs.declared.status.Status.TheVariants as status
 
--- The text was printed, or the sink failed in it, or there was no memory for it.
+-- The text was printed, or the sink failed in it, or memory ran out for it.
 abbrev pub Prints : Status → List ℕ → SinkState → SinkState → Status → Type 0
 Prints end text sink sink' told =
     ((told ≡ end) × Appends sink.held sink'.held text × (sink'.faults ≡ sink.faults))

@@ -7,7 +7,8 @@ ghost use Rattle.vp_status.specs.Refused.{bad_line_text, twice_text, limited, li
 use vp_base::{MOST_MESSAGES, MOST_RECORDS, NoMemory};
 use vp_text::print_number;
 
-/// Tells which line of the input is at fault, and at which byte. Without memory only a beginning of it may stand there.
+/// Appends the line that says where the input goes wrong; line and byte are counted from 1. If memory runs out, a beginning of it is
+/// appended.
 #[tactic(auto, using(vp_text::proofs::Printing::printing))]
 pub fn print_bad_line(line: usize, at: usize, out: &mut Vec<u8>) -> Result<(), NoMemory>
     ensures { Appends result out.old.items (bad_line_text line at) out.new.items }
@@ -20,7 +21,7 @@ pub fn print_bad_line(line: usize, at: usize, out: &mut Vec<u8>) -> Result<(), N
     Ok(())
 }
 
-/// Tells which line of the input has a port or a name for the second time. Without memory only a beginning of it may stand there.
+/// Appends the line that says which line of the input repeats a port or a name. If memory runs out, a beginning of it is appended.
 #[tactic(auto, using(vp_text::proofs::Printing::printing))]
 pub fn print_twice(line: usize, out: &mut Vec<u8>) -> Result<(), NoMemory>
     ensures { Appends result out.old.items (twice_text line) out.new.items }
@@ -31,7 +32,7 @@ pub fn print_twice(line: usize, out: &mut Vec<u8>) -> Result<(), NoMemory>
     Ok(())
 }
 
-/// What there may be so many of.
+/// The word for what the limit counts.
 fn limited(limit: u32) -> &'static [u8]
     ensures { result.now ≡ limited limit }
 {
@@ -44,7 +45,7 @@ fn limited(limit: u32) -> &'static [u8]
     }
 }
 
-/// Tells a limit: how many records, messages or events there may be. Without memory only a beginning of it may stand there.
+/// Appends the line of a limit: how many records, messages or events there may be. If memory runs out, a beginning of it is appended.
 #[tactic(auto, using(vp_text::proofs::Printing::printing))]
 pub fn print_limit(limit: u32, out: &mut Vec<u8>) -> Result<(), NoMemory>
     ensures { Appends result out.old.items (limit_text limit) out.new.items }

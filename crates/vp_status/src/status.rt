@@ -10,7 +10,7 @@ use std::alloc::Global;
 use vp_base::NoMemory;
 use vp_outside::{OutFault, Sink, write_all};
 
-/// The end of a run; its number is the exit status of the process.
+/// How a run ends; its number is the exit status of the process.
 #[derive(Clone, Copy, Debug, PartialEq, Eq)]
 pub enum Status {
     /// All was done.
@@ -19,7 +19,7 @@ pub enum Status {
     BadLine = 1,
     /// The words are no command, or name a site that the catalogue lacks.
     Usage = 2,
-    /// There was no memory. What was printed is a prefix of what is defined.
+    /// Memory ran out. What was printed is a prefix of what is defined.
     NoMemory = 3,
     /// The source failed, and nothing was printed.
     SourceFault = 4,
@@ -29,7 +29,7 @@ pub enum Status {
     LinkFault = 6,
     /// The disk failed.
     DiskFault = 7,
-    /// The log is no log.
+    /// The log is damaged.
     BadLog = 8,
     /// The input has more than 16,777,216 bytes, 256 records or 100,000 events, or the next step would make more than 100,000 steps or
     /// 2,000,000 messages.
@@ -59,7 +59,7 @@ pub struct Defined {
 }
 
 impl Defined {
-    /// This status with a copy of this text.
+    /// Makes this status, with a copy of this text.
     pub fn new(alloc: Global, status: Status, text: &[u8]) -> Result<Defined, NoMemory>
         ensures status { IfOk result (λ it. it.status ≡ status) }
         ensures text { IfOk result (λ it. it.text.items ≡ text.now) }
@@ -70,7 +70,7 @@ impl Defined {
         })
     }
 
-    /// A link failed.
+    /// Makes the status and the line of a link that failed.
     pub fn link_fault(alloc: Global) -> Result<Defined, NoMemory>
         ensures status { IfOk result (λ it. it.status ≡ LinkFailed) }
         ensures text { IfOk result (λ it. it.text.items ≡ link_fault_text) }
@@ -78,7 +78,7 @@ impl Defined {
         Defined::new(alloc, Status::LinkFault, b"link fault\n")
     }
 
-    /// Prints the text, and answers its status, or the one of what cut it short.
+    /// Prints the text, and returns its status, or that of the fault that cut it short.
     pub fn print<K: Sink>(&self, sink: &mut K) -> Status
         ensures { Prints self.now.status self.now.text.items (K.state sink.old) (K.state sink.new) result }
     {

@@ -13,9 +13,9 @@ use Rattle.vp_model.specs.World.{WorldState, Run, Moment, Schedule, site_of, nex
 use Rattle.vp_laws.specs.ShapeLaws.{IsEvent}
 use Rattle.vp_laws.proofs.Lists.Members.{Has, has_first, has_left, has_right}
 use Rattle.vp_runs.specs.Keeping.{durable_in}
-use Rattle.vp_kept.specs.Kept.{kept_in}
-use Rattle.vp_kept.proofs.Steps.{events_are}
-use Rattle.vp_stops.specs.Stopped.{moment_of, follow, singles}
+use Rattle.vp_runs.specs.Kept.{kept_in}
+use Rattle.vp_runs.proofs.Steps.{events_are}
+use Rattle.vp_runs.specs.Stopped.{moment_of, follow, singles}
 use Rattle.vp_world.specs.Known.{Known}
 use Rattle.vp_world.specs.Limits.{Ends}
 use Rattle.vp_world.specs.declared.end.WorldEnd.{WorldEnd}
@@ -30,7 +30,7 @@ use Rattle.vp_stopping.specs.Left.{next_single, left_then}
 use Rattle.vp_cluster.specs.Nodes.{NodesValue, Begin, MayDo, Does}
 use Rattle.vp_cluster.specs.Letters.{letter_of}
 use Rattle.vp_cluster.specs.Clusters.{AreTied}
-use Rattle.vp_hosts.specs.Ports.{LendsAt}
+use Rattle.vp_cluster.specs.Ports.{LendsAt}
 use Rattle.vp_stopping.specs.Singles.{HaveDone, IsBegun, IsBefore, ComesTo}
 use Rattle.vp_cluster.proofs.Running.{events_formed}
 use Rattle.vp_stopping.proofs.SingleLimits.{limit_append, limit_one}
@@ -64,7 +64,7 @@ comes_first s front h = record {
   nodes_are = refl;
 }
 
--- ---- places in lists
+-- ---- indices in lists
 
 within : {A : Type 0} (xs : List A) (x : A) (more : List A) (n : ℕ) → n ≡ length xs → slice_get ((xs ++ x ∷ []) ++ more) n ≡ Some x
 within [] x more zero e = refl

@@ -1,4 +1,4 @@
--- What was done where the site that takes a step stops in it.
+-- What is done if the site that does a step stops in it.
 use Rattle.std.proofs.Common.{◌≡◌, ◌∙◌, ap, sym, subst, ℕ, ◌+◌, ◌-◌, ◌≤◌, Bool, true, false, List, [], ◌∷◌, ◌++◌, length, arith, append_assoc}
 use Rattle.std.specs.Prelude.{Option, Some, None, IfSome, IsSome, Result, Err, option_to_list}
 use Rattle.std.specs.List.{range_with_len}
@@ -7,8 +7,8 @@ use Rattle.vp_model.specs.Types.event
 use Rattle.vp_model.specs.Catalogue.{Catalogue}
 use Rattle.vp_model.specs.World.{WorldState, message_at, next}
 use Rattle.vp_model.specs.Limits.{world_limits, limit_in, refused}
-use Rattle.vp_stops.specs.Stopped.{stop_at, message_taken, pass_over, stopped_world}
-use Rattle.vp_stops.proofs.Delivered.{IsSingle}
+use Rattle.vp_runs.specs.Stopped.{stop_at, message_taken, pass_over, stopped_world}
+use Rattle.vp_runs.proofs.Delivered.{IsSingle}
 use Rattle.vp_world.specs.Known.{Known}
 use Rattle.vp_world.specs.Limits.{Ends}
 use Rattle.vp_world.specs.Steps.{taker, passed_over}
@@ -20,7 +20,7 @@ use Rattle.vp_stopping.proofs.InPlace.{kept_limit_first, kept_limit_then, lose_m
 
 -- ---- messages that nobody gets
 
--- one more of those behind the first so many
+-- one more of those after the first so many
 pub one_lost : (catalogue : Catalogue) (w : WorldState) (done : List Event) (before i : ℕ) (steps : Steps) (now : Known) → before ≤ i
     → HaveDone catalogue done (pass_over (range_with_len (before + 1) (i - before)) w) steps
     → now ≡ record steps.world { world = passed_over (i + 1) steps.world.world }
@@ -86,7 +86,7 @@ module _ (self : Steps) (site : ℕ) (e : Event) (takes : taker self.world.catal
           h.1 ∙ ap (λ (d : List Event). d ++ crash_event ∷ []) did.1 ∙ append_assoc self.done (e ∷ []) (crash_event ∷ []),
         )
 
-  -- ---- behind the crash
+  -- ---- after the crash
 
   module _ (kept : Bool) (taken : Option ℕ) (taken_is : option_to_list taken ≡ message_taken e) (crashed : Steps) (did : Crashed kept crashed) where
     there : (o : Option ℕ) (e : Event) → option_to_list o ≡ message_taken e → taker c e w ≡ Some site → IfSome o (λ k. IsSome (message_at w k))
@@ -116,7 +116,7 @@ module _ (self : Steps) (site : ℕ) (e : Event) (takes : taker self.world.catal
     pub taken_sent : IfSome taken (λ k. IsSome (message_at crashed.world.world k))
     taken_sent = still taken (there taken e taken_is takes)
 
-    -- and counts as delivered
+    -- and it counts as delivered
     module _ (passed : Steps) (then_ : HaveDone crashed.world.catalogue crashed.done (pass_over (option_to_list taken) crashed.world.world) passed) where
       same_sent : passed.world.world.sent ≡ (run_in_place c kept site e w).world.sent
       same_sent = ap (λ (k : Known). k.world.sent) then_.0 ∙ ap (λ (v : WorldState). v.sent) world_is

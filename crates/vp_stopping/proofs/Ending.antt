@@ -1,4 +1,4 @@
--- What the run of a schedule comes to that is stopped within a step.
+-- What the run of a schedule becomes that is stopped within a step.
 use Rattle.std.proofs.Common.{◌≡◌, ◌∙◌, ap, sym, subst, ℕ, zero, suc, ◌-◌, Bool, List, [], ◌∷◌, take, drop, refl}
 use Rattle.std.specs.Prelude.{Option, Some, None, Result, Ok, Err, slice_get}
 use Rattle.std.specs.Option.{option_map_or}
@@ -16,9 +16,9 @@ use Rattle.vp_schedule.specs.Document.{IsSchedule}
 use Rattle.vp_schedule.specs.Events.{IsEvent as IsReadable}
 use Rattle.vp_stable.specs.Halves.{HaveBatches}
 use Rattle.vp_stable.specs.Stops.{with_batch}
-use Rattle.vp_kept.specs.Kept.{forced_at, kept_in}
-use Rattle.vp_hosts.specs.declared.host.StoppedLog.{StoppedLog}
-use Rattle.vp_stops.specs.Stopped.{moment_of, appender, left_of_line, stopped_world}
+use Rattle.vp_runs.specs.Kept.{forced_at, kept_in}
+use Rattle.vp_cluster.specs.declared.host.StoppedLog.{StoppedLog}
+use Rattle.vp_runs.specs.Stopped.{moment_of, appender, left_of_line, stopped_world}
 use Rattle.vp_world.specs.Known.{Known}
 use Rattle.vp_world.specs.Limits.{limit_of, Ends}
 use Rattle.vp_world.specs.Steps.{taker}
@@ -101,7 +101,7 @@ module _ (s : Schedule) (is : IsSchedule s) (step : ℕ) (front : Front) (e : Ev
   site_is : (id : ℕ) (site : SiteState) → site_of m.before id ≡ Some site → site_of front.steps.world.world id ≡ Some site
   site_is id site up = ap (λ (k : Known). site_of k.world id) h.before.done.0 ∙ up
 
-  -- ---- what a stop of the nodes tells
+  -- ---- what a stop of the nodes says
 
   pub nobody : StopsIn e front None → appender s.catalogue m ≡ None
   nobody stops =
@@ -112,7 +112,7 @@ module _ (s : Schedule) (is : IsSchedule s) (step : ℕ) (front : Front) (e : Ev
     stops_here : (site : SiteState) → site_of m.before at.site ≡ Some site → StopsOf m.line.event site (Some at.left) front.nodes at.nodes
     stops_here site up = subst (λ e. StopsOf e site (Some at.left) front.nodes at.nodes) (sym h.before.event_is) (stops.1 site (site_is at.site site up))
 
-    -- what the site has left is what it has to keep
+    -- what the site has left is its durable part
     pub has_waited : Waits s.catalogue (stopped_world s.catalogue at.left.kept at.site m) at.site at.nodes
     has_waited =
         site_waits s.catalogue is.catalogue_is m (take (step - 1) (moments_of s)) front.nodes its_facts h.tied h.folds at.site at.left at.nodes (taker_there at.site stops.0) stops_here stops.2
@@ -192,12 +192,12 @@ module _ (s : Schedule) (is : IsSchedule s) (step : ℕ) (front : Front) (e : Ev
       subst (λ (left : List Event). AllByRecursion CanRise left) (sym h.before.left_is)
       (all_append CanRise (option_map_or (left_of_line _) (slice_get s.events (m.number - 1)) []) (drop m.number s.events) (line_rise _ (slice_get s.events (m.number - 1))) (behind_rise (sites_of s.catalogue) m.number s.events is.events_are))
 
--- the site that stopped in the step takes it, where the run has come there once more
+-- the site that stopped in the step does it, if the run has come there once more
 pub taker_again : (s : Schedule) (is : IsSchedule s) (step : ℕ) (front : Front) (e : Event) (h : IsBefore s step front e) (again : Front) (f : Event) (g : IsBefore s step again f) (site : ℕ)
     → taker front.steps.world.catalogue e front.steps.world.world ≡ Some site → taker again.steps.world.catalogue f again.steps.world.world ≡ Some site
 taker_again s is step front e h again f g site takes = taker_is s is step again f g site (same_taker s is step front e h again f g site (taker_there s is step front e h site takes))
 
--- what it has left is what it has to keep there
+-- what it has left is its durable part there
 pub waits_again : (s : Schedule) (is : IsSchedule s) (step : ℕ) (front : Front) (e : Event) (h : IsBefore s step front e) (at : StoppedSite) (stops : StopsIn e front (Some at)) (again : Front) (f : Event) (g : IsBefore s step again f)
     → IsAfterStop again.steps.world.catalogue (stopped_world again.steps.world.catalogue at.left.kept at.site (moment_in again.steps.world.catalogue f again.steps.world.world)) (record { nodes = at.nodes; stopped = Some at.site })
 waits_again s is step front e h at stops again f g =

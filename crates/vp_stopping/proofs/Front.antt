@@ -10,13 +10,13 @@ use Rattle.vp_text.proofs.Items.{all_push}
 use Rattle.vp_model.specs.Types.{Event}
 use Rattle.vp_model.specs.Types.event
 use Rattle.vp_model.specs.World.{WorldState, Run, Moment, Schedule, next, moment, one_step, run_of, start_run, start_world}
-use Rattle.vp_kept.proofs.Through.{Follow, one_more}
-use Rattle.vp_stops.specs.Stopped.{left_of_line, follow}
-use Rattle.vp_stops.proofs.Delivered.{IsSingle}
+use Rattle.vp_runs.proofs.Through.{Follow, one_more}
+use Rattle.vp_runs.specs.Stopped.{left_of_line, follow}
+use Rattle.vp_runs.proofs.Delivered.{IsSingle}
 use Rattle.vp_stopping.specs.Left.{next_single, left_then}
 use Rattle.vp_stopping.proofs.Walking.{left_at, left_of, fresh_lines, ends, fresh_ends, walk, Goes}
 
--- ---- places in lists
+-- ---- indices in lists
 
 at_dropped : {A : Type 0} (n : ℕ) (xs : List A) (x : A) (rest : List A) → drop n xs ≡ x ∷ rest → (slice_get xs n ≡ Some x) × (drop (suc n) xs ≡ rest)
 at_dropped zero [] x rest e = cc
@@ -92,7 +92,7 @@ module _ (s : Schedule) (ms : List Moment) (w : WorldState) (left : List Event) 
   pub came_goes : Goes s.catalogue (run_of s) ms w left
   came_goes = record { n = h.index + 1; done = h.done; lines = drop h.index s.events; left_is = h.left_is; goes = h.goes }
 
-  -- the next moment, with what is left behind it
+  -- the next moment, with what is left after it
   pub record Next (e : Event) : Type 0 where
     pub number : ℕ
     pub came : Came s (ms ++ moment number w e (next s.catalogue e w) ∷ []) (next s.catalogue e w).world (left_then w left)

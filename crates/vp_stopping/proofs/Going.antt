@@ -8,14 +8,14 @@ use Rattle.vp_model.specs.Types.event
 use Rattle.vp_model.specs.Catalogue.{Catalogue}
 use Rattle.vp_model.specs.Limits.{world_limits, exceeded, limit_in, limit_reached, refused}
 use Rattle.vp_model.specs.World.{WorldState, Run, Moment, Schedule, next, moment, flowing, moments_of, run_from, journal_of}
-use Rattle.vp_stops.specs.Stopped.{appender, stopped, stopped_world, stop_at, run_in, raised, singles, follow, lost, first_lost}
+use Rattle.vp_runs.specs.Stopped.{appender, stopped, stopped_world, stop_at, run_in, raised, singles, follow, lost, first_lost}
 use Rattle.vp_world.specs.Known.{Known}
 use Rattle.vp_world.specs.Limits.{Ends}
 use Rattle.vp_world.specs.Steps.{taker}
 use Rattle.vp_world.specs.declared.end.WorldEnd.{WorldEnd}
 use Rattle.vp_world.specs.declared.end.WorldEnd.TheVariants as end
 use Rattle.vp_stopping.specs.declared.stopped.Steps.{Steps}
-use Rattle.vp_hosts.specs.declared.host.StoppedLog.{StoppedLog}
+use Rattle.vp_cluster.specs.declared.host.StoppedLog.{StoppedLog}
 use Rattle.vp_stopping.specs.declared.stopped.Stopped.{Stopped}
 use Rattle.vp_stopping.specs.Left.{next_single, left_then}
 use Rattle.vp_stopping.specs.Singles.{HaveDone, AreBefore, GoesOn, moment_in, run_in_place}

@@ -1,4 +1,4 @@
--- What is done in the place of a step that is stopped.
+-- What is done instead of a step that is stopped.
 use Rattle.std.proofs.Common.{◌≡◌, ◌∙◌, ap, sym, subst, ℕ, zero, suc, ◌+◌, ◌-◌, ◌≤◌, Bool, true, false, cond, List, [], ◌∷◌, ◌++◌, length, refl, arith, append_assoc, append-nil}
 use Rattle.std.specs.Prelude.{Option, Some, None, IsSome, ◌==◌, slice_get, option_map, option_and_then, if◌then◌else◌}
 use Rattle.std.specs.Option.{option_map_or, option_or}
@@ -12,14 +12,14 @@ use Rattle.vp_model.specs.Site.{SiteState}
 use Rattle.vp_model.specs.Told.{is_step}
 use Rattle.vp_model.specs.World.{Place, WorldState, shows, site_of, message_at, change_place, crash, happens, next, moment}
 use Rattle.vp_model.specs.Limits.{world_limits, exceeded, limit_in}
-use Rattle.vp_stops.specs.Stopped.{stop_at, lost, message_taken, pass_over, stopped_world, run_in}
-use Rattle.vp_stops.proofs.Delivered.{IsSingle, steps_to, run_is}
-use Rattle.vp_kept.proofs.Happened.{Effect, effect}
+use Rattle.vp_runs.specs.Stopped.{stop_at, lost, message_taken, pass_over, stopped_world, run_in}
+use Rattle.vp_runs.proofs.Delivered.{IsSingle, steps_to, run_is}
+use Rattle.vp_runs.proofs.Happened.{Effect, effect}
 use Rattle.vp_world.specs.Steps.{taker, passed_over}
 use Rattle.vp_stopping.specs.Singles.{moment_in, run_in_place}
 use Rattle.vp_stopping.proofs.SingleLimits.{limit_at, limit_run, or_none}
 
--- ---- messages that are passed over
+-- ---- messages that count as delivered without being given to a site
 
 range_on : (a n : ℕ) → range_with_len a (suc n) ≡ range_with_len a n ++ (a + n) ∷ []
 range_on a zero = ap (λ k. k ∷ []) (none a)
@@ -34,7 +34,7 @@ range_on a (suc n) = ap (λ rest. a ∷ rest) (range_on (a + 1) n ∙ ap (λ k. 
 pub pass_more : (ns : List ℕ) (k : ℕ) (w : WorldState) → passed_over k (pass_over ns w) ≡ pass_over (ns ++ k ∷ []) w
 pass_more ns k w = ap (λ (d : List ℕ). record w { delivered = d }) (append_assoc w.delivered ns (k ∷ []))
 
--- one more of the messages behind the first so many
+-- one more of the messages after the first so many
 pub lose_more : (before i : ℕ) (w : WorldState) → before ≤ i → passed_over (i + 1) (pass_over (range_with_len (before + 1) (i - before)) w) ≡ pass_over (range_with_len (before + 1) ((i + 1) - before)) w
 lose_more before i w le =
     pass_more (range_with_len (before + 1) (i - before)) (i + 1) w
@@ -48,7 +48,7 @@ lose_more before i w le =
     longer : (before i : ℕ) → before ≤ i → suc (i - before) ≡ (i + 1) - before
     longer before i le = omega (arith, le)
 
--- ---- who takes a step
+-- ---- who does a step
 
 module _ (catalogue : Catalogue) (w : WorldState) (site : ℕ) where
   pub taken_single : (e : Event) → taker catalogue e w ≡ Some site → IsSingle e
@@ -69,7 +69,7 @@ module _ (catalogue : Catalogue) (w : WorldState) (site : ℕ) where
       go None e = cc
       go (Some sent) e = refl
 
--- ---- messages last
+-- ---- messages stay sent
 
 grown : (xs ys : List Sent) (i : ℕ) → IsSome (slice_get xs i) → IsSome (slice_get (xs ++ ys) i)
 grown [] ys i there = cc
@@ -105,7 +105,7 @@ module _ (catalogue : Catalogue) where
       go None = refl
       go (Some x) = refl
 
-  -- ---- the place
+  -- ---- what replaces the step
 
   module _ (kept : Bool) (site : ℕ) (e : Event) (w : WorldState) (single : IsSingle e) where
     all_single : AllByRecursion IsSingle (stop_at kept site e)
@@ -145,7 +145,7 @@ module _ (catalogue : Catalogue) where
         let longer : length v.sent ≡ length w.sent + length sends.0 = ap length sends.1 ∙ length-append w.sent sends.0 in
         omega (arith, longer)
 
-    -- the world after the stop: the message that was taken is passed over, and then those that are lost
+    -- the world after the stop: the message that was taken counts as delivered, and then those that are lost
     pub place_stopped : (taken : List ℕ) → taken ≡ message_taken e → pass_over (range_with_len (length w.sent + 1) (length v.sent - length w.sent)) (pass_over taken v) ≡ stopped_world catalogue kept site (moment_in catalogue e w)
     place_stopped taken is =
         ap (λ n. pass_over (range_with_len (length w.sent + 1) n) (pass_over taken v)) place_sends.2
@@ -162,7 +162,7 @@ module _ (catalogue : Catalogue) (site : ℕ) (e : Event) (w : WorldState) (sing
   pub lost_limit : limit_in world_limits (run_in_place catalogue false site e w).moments ≡ exceeded world_limits (next catalogue crash_event w).world
   lost_limit = place_limit catalogue false site e w single ∙ or_none (exceeded world_limits (next catalogue crash_event w).world)
 
-  -- with it: a limit may end it, or the crash behind it
+  -- with it: a limit may end it, or the crash after it
   pub kept_limit_first : (what : Counted) → exceeded world_limits (next catalogue e w).world ≡ Some what → limit_in world_limits (run_in_place catalogue true site e w).moments ≡ Some what
   kept_limit_first what some = place_limit catalogue true site e w single ∙ ap (λ o. option_or o (limit_at catalogue (crash_event ∷ []) (next catalogue e w).world)) some
 

@@ -1,4 +1,4 @@
--- What a run comes to that was stopped within a step, and went on.
+-- What a run becomes that was stopped within a step, and went on.
 use Rattle.std.proofs.Common.{◌≡◌, ◌∙◌, ap, sym, subst, ℕ, zero, suc, ◌-◌, Bool, false, cond, List, [], ◌∷◌, ◌++◌, take, drop, refl, arith}
 use Rattle.std.specs.Prelude.{Option, Some, None, ◌==◌, slice_get, option_map, option_and_then}
 use Rattle.std.specs.Option.{option_map_or, option_or}
@@ -9,12 +9,12 @@ use Rattle.vp_model.specs.Types.{Counted}
 use Rattle.vp_model.specs.Catalogue.{Catalogue}
 use Rattle.vp_model.specs.World.{WorldState, Run, Moment, Schedule, moment, next, start_world, run_from, run_of, moments_of}
 use Rattle.vp_model.specs.Limits.{world_limits, exceeded, limit_in, limit_reached}
-use Rattle.vp_kept.proofs.Through.{Follow}
-use Rattle.vp_stops.specs.Stopped.{moment_of, appender, stopped, stopped_events, stop_at, stopped_world, passed_numbers, pass_over, run_behind, run_in, singles}
-use Rattle.vp_stops.specs.Laws.{SameButDelivered}
-use Rattle.vp_stops.proofs.Delivered.{IsSingle, steps_to, run_is}
-use Rattle.vp_stops.proofs.Behind.{schedule_goes, behind_goes, led_to}
-use Rattle.vp_stops.proofs.Coming.{whole_single, stop_single, stopped_runs}
+use Rattle.vp_runs.proofs.Through.{Follow}
+use Rattle.vp_runs.specs.Stopped.{moment_of, appender, stopped, stopped_events, stop_at, stopped_world, passed_numbers, pass_over, run_behind, run_in, singles}
+use Rattle.vp_runs.specs.StopLaws.{SameButDelivered}
+use Rattle.vp_runs.proofs.Delivered.{IsSingle, steps_to, run_is}
+use Rattle.vp_runs.proofs.Behind.{schedule_goes, behind_goes, led_to}
+use Rattle.vp_runs.proofs.StoppedRuns.{whole_single, stop_single, stopped_runs}
 use Rattle.vp_stopping.proofs.SingleLimits.{limit_at, limit_more, limit_same, limit_followed, limit_run, limit_of_singles, limit_append, limit_one}
 use Rattle.vp_stopping.specs.RanStopped.{limit_stopped}
 
@@ -26,7 +26,7 @@ at_step (suc n) ms m at =
     let less : suc n - 1 ≡ n = omega arith in
     (n, refl, ap (slice_get ms) (sym less) ∙ sym (ap (λ (b : Bool). cond b None (slice_get ms (suc n - 1))) some) ∙ at)
 
--- moments that follow each other, up to one of them
+-- moments that follow each other, until one of them
 front_follows : (catalogue : Catalogue) (n : ℕ) (ms : List Moment) (m : Moment) (w v : WorldState) → Follow catalogue w ms v → slice_get ms n ≡ Some m → Follow catalogue w (take n ms) m.before
 front_follows catalogue n [] m w v h at = cc
 front_follows catalogue zero (x ∷ ms) m w v h at = let same : x ≡ m = cc in sym (ap (λ (y : Moment). y.before) (sym same ∙ h.0))
@@ -84,7 +84,7 @@ module _ (s : Schedule) (step : ℕ) (kept : Bool) (m : Moment) (site : ℕ) (at
   pub limit_before : (what : Counted) → limit_in world_limits (take (step - 1) (moments_of s)) ≡ Some what → limit_reached world_limits comes_to ≡ Some what
   limit_before what some = limit_whole ∙ ap (λ o. option_or o (option_or (limit_in world_limits in_place.moments) (limit_in world_limits rest.moments))) some
 
-  -- the schedule that the run comes to
+  -- the schedule that the run becomes
   pub stopped_is : appender s.catalogue m ≡ Some site → stopped step kept s ≡ Some comes_to
   unfolding stopped
   stopped_is by =
@@ -94,7 +94,7 @@ module _ (s : Schedule) (step : ℕ) (kept : Bool) (m : Moment) (site : ℕ) (at
   pub journal_is : appender s.catalogue m ≡ Some site → rest.world.journal ≡ (run_of comes_to).world.journal
   journal_is by = ap (λ (w : WorldState). w.journal) (stopped_runs s step kept m site at by).1
 
--- there is none where no site appends
+-- there is none if no site appends
 pub stopped_none : (s : Schedule) (step : ℕ) (kept : Bool) → moment_of step (moments_of s) ≡ None → stopped step kept s ≡ None
 unfolding stopped
 stopped_none s step kept none =
@@ -108,7 +108,7 @@ stopped_nobody s step kept m at none =
 
 -- ---- the limit that ends the run
 
--- of the steps up to one and those behind it
+-- the moments until a step, and those after it
 front_grows : (step : ℕ) (ms : List Moment) → (more : List Moment) × (take step ms ≡ take (step - 1) ms ++ more)
 front_grows step ms = (drop (step - 1) (take step ms), sym (ap (λ (front : List Moment). front ++ drop (step - 1) (take step ms)) (fewer step ms) ∙ take-append-drop (step - 1) (take step ms)))
   where
@@ -184,7 +184,7 @@ module _ (s : Schedule) (step : ℕ) (m : Moment) (at : moment_of step (moments_
       subst (λ k. take step (moments_of s) ≡ take k (moments_of s) ++ m ∷ []) (omega (arith, is))
       (subst (λ k. take k (moments_of s) ≡ take n (moments_of s) ++ m ∷ []) (sym is) (one_taken n (moments_of s) m there))
 
-  -- the limit of its step, where none was exceeded before
+  -- the limit of its step, if none was exceeded before
   pub limit_of_it : limit_in world_limits (take (step - 1) (moments_of s)) ≡ None → limit_in world_limits (take step (moments_of s)) ≡ exceeded world_limits (next s.catalogue m.line.event m.before).world
   limit_of_it none =
       ap (limit_in world_limits) up_to_it ∙ limit_append (take (step - 1) (moments_of s)) (m ∷ [])

@@ -8,10 +8,10 @@ use Rattle.vp_model.specs.Types.event
 use Rattle.vp_model.specs.Catalogue.{Catalogue}
 use Rattle.vp_model.specs.World.{WorldState, Run, Moment, Schedule, next, moment, one_step, one_event, run_from, run_of, start_run, start_world}
 use Rattle.vp_model.specs.Limits.{world_limits, exceeded, is_over, limit_in, limit_reached}
-use Rattle.vp_kept.proofs.Through.{Follow}
-use Rattle.vp_stops.specs.Stopped.{singles}
-use Rattle.vp_stops.specs.Laws.{SameButDelivered}
-use Rattle.vp_stops.proofs.Delivered.{IsSingle, steps_to, next_same}
+use Rattle.vp_runs.proofs.Through.{Follow}
+use Rattle.vp_runs.specs.Stopped.{singles}
+use Rattle.vp_runs.specs.StopLaws.{SameButDelivered}
+use Rattle.vp_runs.proofs.Delivered.{IsSingle, steps_to, next_same}
 
 -- ---- of moments
 
@@ -45,7 +45,7 @@ limit_one m = limit_first m [] ∙ or_none (over m)
 -- ---- of single steps
 
 module _ (catalogue : Catalogue) where
-  -- the limit that the first of them exceeds that exceeds one
+  -- the limit of the first of them that exceeds one
   abbrev pub limit_at : List Event → WorldState → Option Counted
   limit_at [] w = None
   limit_at (e ∷ events) w = option_or (exceeded world_limits (next catalogue e w).world) (limit_at events (next catalogue e w).world)

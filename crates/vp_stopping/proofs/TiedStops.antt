@@ -17,17 +17,17 @@ use Rattle.vp_stable.specs.Halves.{HaveBatches}
 use Rattle.vp_runs.specs.Keeping.{durable_in}
 use Rattle.vp_runs.specs.Turns.{Turn}
 use Rattle.vp_runs.proofs.Checkpoints.{batch_folds}
-use Rattle.vp_kept.specs.Kept.{input_of, forced, forced_at, kept_in as batches_in}
-use Rattle.vp_kept.proofs.Happened.{Acts, Effect, effect, named, put_down}
-use Rattle.vp_stops.specs.Stopped.{appends, appender, stopped_world}
+use Rattle.vp_runs.specs.Kept.{input_of, forced, forced_at, kept_in as batches_in}
+use Rattle.vp_runs.proofs.Happened.{Acts, Effect, effect, named, put_down}
+use Rattle.vp_runs.specs.Stopped.{appends, appender, stopped_world}
 use Rattle.vp_world.specs.Steps.{taker}
-use Rattle.vp_hosts.specs.declared.letter.Letter.{Letter}
-use Rattle.vp_hosts.specs.Letters.{as_received}
-use Rattle.vp_hosts.specs.declared.host.StoppedLog.{StoppedLog}
+use Rattle.vp_cluster.specs.declared.letter.Letter.{Letter}
+use Rattle.vp_cluster.specs.Letter.{as_received}
+use Rattle.vp_cluster.specs.declared.host.StoppedLog.{StoppedLog}
 use Rattle.vp_cluster.specs.Letters.{letter_of}
 use Rattle.vp_stable.specs.Stops.{with_batch}
-use Rattle.vp_hosts.specs.Hosts.{HostValue, IsAt, Stops, turn_at, log_in}
-use Rattle.vp_hosts.specs.Ports.{LendsAt, host_at}
+use Rattle.vp_cluster.specs.Hosts.{HostValue, IsAt, Stops, turn_at, log_in}
+use Rattle.vp_cluster.specs.Ports.{LendsAt, host_at}
 use Rattle.vp_cluster.specs.Nodes.{NodesValue}
 use Rattle.vp_cluster.specs.Clusters.{AreTied}
 use Rattle.vp_cluster.proofs.Acting.{Facts, Folds}
@@ -37,7 +37,7 @@ use Rattle.vp_stopping.specs.AfterStop.{Waits}
 use Rattle.vp_stopping.proofs.InPlace.{taken_single}
 use Rattle.vp_stopping.proofs.Waiting.{stopped_place}
 
--- where a site is named, it may be this one
+-- if a site is named, it may be this one
 appender_by : (catalogue : Catalogue) (m : Moment) (o : Option ℕ) → site_named m.before m.line.event ≡ o → appender catalogue m ≡ option_and_then (λ site. if appends catalogue m site then Some site else None) o
 appender_by catalogue m o e = ap (option_and_then (λ site. if appends catalogue m site then Some site else None)) e
 
@@ -74,7 +74,7 @@ module _ (catalogue : Catalogue) (m : Moment) (s : ℕ) (a : Acts catalogue m s)
   appender_is : appender catalogue m ≡ (if not (is_empty records) then Some s else None)
   appender_is = appender_by catalogue m (Some s) names ∙ ap (λ (b : Bool). if b then Some s else None) appends_is
 
--- the site is the one that appends, and its log has what was in it, with the batch of the moment's step or without
+-- the site is the one that appends, and its log has what was in it, with or without the batch of the moment's step
 abbrev pub Left : Catalogue → Moment → List Moment → StoppedLog → ℕ → Type 0
 Left catalogue m moments it s = (appender catalogue m ≡ Some s) × (it.log.0 ≡ s)
     × HaveBatches (with_batch it.kept (forced_at catalogue s m) (batches_in catalogue s moments)) (it.log.1, it.log.2)
@@ -137,7 +137,7 @@ module _ (catalogue : Catalogue) (k : IsCatalogue catalogue) (m : Moment) (momen
   taker_acts : (s : ℕ) (a : Acts catalogue m s) → taker catalogue e m.before ≡ Some s
   taker_acts s a = taker_by (Some s) (names catalogue m s a) ∙ ap (λ b. if b then Some s else None) (steps catalogue m s a)
 
-  -- what the site has left is what it has to keep, in the world after the stop
+  -- what the site has left is its durable part, in the world after the stop
   module _ (folds : (id : ℕ) (place : Place) → place_of id m.before.places ≡ Some place → durable_in catalogue id (batches_in catalogue id moments) ≡ place.durable) (s : ℕ) (a : Acts catalogue m s) where
     abbrev stood : Place
     stood = (acting.own catalogue k m moments old facts tied s a).place
@@ -174,7 +174,7 @@ module _ (catalogue : Catalogue) (k : IsCatalogue catalogue) (m : Moment) (momen
           same_catalogue = same ∙ tied.catalogue_is;
         }
 
-  -- nobody is named
+  -- no site is named
   unnamed : site_named m.before e ≡ None → (taker catalogue e m.before ≡ None) × (appender catalogue m ≡ None)
   unnamed none = (taker_by None none, appender_by catalogue m None none)
 

@@ -1,4 +1,4 @@
--- After a stop: what the site that stopped has left is what it has to keep, until it starts.
+-- After a stop, what the site that stopped has left is its durable part, until it starts.
 use Rattle.std.proofs.Common.{◌≡◌, ◌≢◌, ◌∙◌, ap, sym, subst, ℕ, Bool, true, false, cond, refl}
 use Rattle.std.specs.Prelude.{◌==◌, Option, Some, None, IfSome, is_some, if◌then◌else◌, option_map, option_and_then}
 use Rattle.std.specs.Option.{option_map_or}
@@ -12,11 +12,11 @@ use Rattle.vp_model.specs.World.{Place, WorldState, Moment, place_of, site_of, m
 use Rattle.vp_laws.proofs.Worlds.Scenes.{place-id}
 use Rattle.vp_laws.proofs.Lists.Numbers.{eq_self}
 use Rattle.vp_runs.specs.Keeping.{durable_in}
-use Rattle.vp_kept.proofs.Happened.{Effect, IsPlain, effect, named, put_down}
-use Rattle.vp_stops.specs.Stopped.{stop_at, stopped_world}
-use Rattle.vp_stops.proofs.Delivered.{IsSingle, steps_to}
-use Rattle.vp_places.specs.Asked.{Asked, started, restart_asked}
-use Rattle.vp_places.specs.Places.{Did}
+use Rattle.vp_runs.proofs.Happened.{Effect, IsPlain, effect, named, put_down}
+use Rattle.vp_runs.specs.Stopped.{stop_at, stopped_world}
+use Rattle.vp_runs.proofs.Delivered.{IsSingle, steps_to}
+use Rattle.vp_world.specs.Asked.{Asked, started, restart_asked}
+use Rattle.vp_world.specs.Places.{Did}
 use Rattle.vp_world.specs.Steps.{step_at, step_by, IsReady, DoesEvent}
 use Rattle.vp_cluster.specs.Nodes.{MayRestart}
 use Rattle.vp_stopping.specs.declared.after_stop.AfterStop.{AfterStop}
@@ -172,7 +172,7 @@ module _ (catalogue : Catalogue) (w : WorldState) (old new : AfterStop) where
     abbrev It : Type 0
     It = Effect catalogue (moment 0 w e (next catalogue e w))
 
-    -- no site stopped that hasn't started since
+    -- no site that stopped is still to start
     none_waits : old.stopped ≡ None → It → IsAfterStop catalogue v new
     none_waits none it = subst (λ (b : AfterStop). IsAfterStop catalogue v b) (sym (stays it)) (subst (λ o. IfSome o (λ id. Waits catalogue v id old.nodes)) (sym none) tt)
       where
@@ -236,7 +236,7 @@ module _ (catalogue : Catalogue) (w : WorldState) (old new : AfterStop) where
               let differ : id ≢ s = (λ same. let z : (id == s) ≡ true = ap (λ n. id == n) (sym same) ∙ eq_self id in let y = sym z ∙ t in cc) in
               unchanged (other_stays s (λ other. differ (let z = sym is_it ∙ other in cc)) (place_of s w.places) refl (subst (λ (e : Event). IfDone e) is d)) (others id differ).place_is
 
-    -- so it is behind each step
+    -- this holds after each step
     pub behind_on : IsAfterStop catalogue w old → IsAfterStop catalogue v new
     behind_on h = go old.stopped refl h
       where

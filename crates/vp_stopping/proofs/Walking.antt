@@ -8,10 +8,10 @@ use Rattle.vp_model.specs.Words.{for_some}
 use Rattle.vp_model.specs.Catalogue.{Catalogue}
 use Rattle.vp_model.specs.World.{WorldState, Run, Moment, next, moment, flowing, one_step, flow, one_event, run_from}
 use Rattle.vp_playing.proofs.Turns.{run_grows}
-use Rattle.vp_stops.proofs.Delivered.{IsSingle}
+use Rattle.vp_runs.proofs.Delivered.{IsSingle}
 use Rattle.vp_stopping.specs.Left.{next_single, left_then}
 
--- ---- places in a schedule
+-- ---- how far a schedule is done
 
 -- what is left of a line of which so many steps were done
 abbrev pub left_at : ℕ → Event → List Event
@@ -75,7 +75,7 @@ module _ (catalogue : Catalogue) where
 
   -- ---- the next step
 
-  -- it is of this line, and what is left behind it is this
+  -- it is of this line, and this is left after it
   pub record Found (n done : ℕ) (lines : List Event) (run : Run) (e : Event) : Type 0 where
     pub skipped : ℕ
     pub steps : ℕ
@@ -285,7 +285,7 @@ module _ (catalogue : Catalogue) where
       go (event.Crash s) done = on (event.Crash s) (plain (event.Crash s) tt) done
       go (event.Restart s) done = on (event.Restart s) (plain (event.Restart s) tt) done
 
--- ---- a run on its way
+-- ---- a run in progress
 
 -- These moments came, and this is left, so that the whole run comes in the end.
 pub record Goes (catalogue : Catalogue) (whole : Run) (ms : List Moment) (w : WorldState) (left : List Event) : Type 0 where
@@ -304,7 +304,7 @@ module _ (catalogue : Catalogue) (whole : Run) (ms : List Moment) (w : WorldStat
       let more = run_grows catalogue on.0 (left_of h.done h.lines) run in
       (more.0, ap (λ (r : Run). r.moments) (sym h.goes ∙ on.1) ∙ more.1)
 
-  -- the next one, under some number
+  -- the next one, with some number
   pub goes_step : (e : Event) → next_single w left ≡ Some e → IsSingle e × ((number : ℕ) × Goes catalogue whole (ms ++ moment number w e (next catalogue e w) ∷ []) (next catalogue e w).world (left_then w left))
   unfolding one_step
   goes_step e at =

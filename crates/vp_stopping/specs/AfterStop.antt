@@ -1,13 +1,13 @@
--- What goes on after a stop: the site that stopped starts from the log that it has left.
+-- What happens after a stop: the site that stopped starts from the log that it has left.
 use Rattle.std.specs.Prelude.{◌≡◌, ◌≢◌, ℕ, List, Some, None, IfSome}
 use Rattle.vp_model.specs.Types.{LogRecord}
 use Rattle.vp_model.specs.Words.{value_at}
 use Rattle.vp_model.specs.Catalogue.{Catalogue}
 use Rattle.vp_model.specs.World.{WorldState, Place, place_of}
 use Rattle.vp_runs.specs.Keeping.{durable_in}
-use Rattle.vp_places.specs.Asked.{Asked}
-use Rattle.vp_hosts.specs.Hosts.{HostValue, IsAt}
-use Rattle.vp_hosts.specs.Ports.{host_at}
+use Rattle.vp_world.specs.Asked.{Asked}
+use Rattle.vp_cluster.specs.Hosts.{HostValue, IsAt}
+use Rattle.vp_cluster.specs.Ports.{host_at}
 use Rattle.vp_cluster.specs.Nodes.{NodesValue, MayDo, Does}
 use Rattle.vp_stopping.specs.declared.after_stop.AfterStop.{AfterStop}
 
@@ -17,14 +17,14 @@ MayAfterStop catalogue (Asked.steps e site given) behind = Unit {0}
 MayAfterStop catalogue (Asked.crashes id) behind = Unit {0}
 MayAfterStop catalogue (Asked.restarts id site) behind = behind.stopped ≡ Some id → MayDo catalogue (Asked.restarts id site) behind.nodes
 
--- That one starts from its log as the stop has left it, whatever batches that has; and nothing else is done to the nodes.
+-- That site starts from its log as the stop has left it, whatever batches that has; and nothing else is done to the nodes.
 abbrev pub DoesAfterStop : Asked → AfterStop → AfterStop → Type 0
 DoesAfterStop (Asked.steps e site given) old new = new ≡ old
 DoesAfterStop (Asked.crashes id) old new = new ≡ old
 DoesAfterStop (Asked.restarts id site) old new =
     (old.stopped ≡ Some id → Does (Asked.restarts id site) old.nodes new.nodes × (new.stopped ≡ None)) × (old.stopped ≢ Some id → new ≡ old)
 
--- The site is down, and the batches that its node has left fold to what it has to keep.
+-- The site is down, and the batches that its node has left fold to its durable part.
 pub record Waits (catalogue : Catalogue) (w : WorldState) (id : ℕ) (nodes : NodesValue) : Type 0 where
   pub place : Place
   pub place_is : place_of id w.places ≡ Some place
@@ -39,6 +39,6 @@ pub record Waits (catalogue : Catalogue) (w : WorldState) (id : ℕ) (nodes : No
   pub folds : durable_in catalogue id batches ≡ place.durable
   pub same_catalogue : nodes.catalogue ≡ catalogue
 
--- so it is with the site that stopped, until it starts
+-- this holds of the site that stopped, until it starts
 abbrev pub IsAfterStop : Catalogue → WorldState → AfterStop → Type 0
 IsAfterStop catalogue w behind = IfSome behind.stopped (λ id. Waits catalogue w id behind.nodes)

@@ -1,4 +1,4 @@
--- A run of single steps, before a stop and behind it.
+-- A run of single steps, before a stop and after it.
 use Rattle.std.specs.Prelude.{◌≡◌, ℕ, ◌-◌, Bool, List, [], take, Option, Some, None, Result, Ok, Err}
 use Rattle.vp_model.specs.Types.{Event}
 use Rattle.vp_model.specs.Catalogue.{Catalogue}
@@ -7,15 +7,15 @@ use Rattle.vp_model.specs.Site.{SiteState}
 use Rattle.vp_model.specs.World.{WorldState, Run, start_world, Place, Moment, Schedule, place_of, site_of, moment, next, run_from, moments_of, journal_of}
 use Rattle.vp_laws.specs.ShapeLaws.{IsEvent}
 use Rattle.vp_runs.specs.Keeping.{durable_in}
-use Rattle.vp_kept.specs.Kept.{kept_in}
-use Rattle.vp_stops.specs.Stopped.{moment_of, stop_at, run_in, follow, singles, stopped}
+use Rattle.vp_runs.specs.Kept.{kept_in}
+use Rattle.vp_runs.specs.Stopped.{moment_of, stop_at, run_in, follow, singles, stopped}
 use Rattle.vp_world.specs.Steps.{taker}
 use Rattle.vp_world.specs.Limits.{limit_of}
 use Rattle.vp_world.specs.declared.end.WorldEnd.{WorldEnd}
 use Rattle.vp_world.specs.declared.end.WorldEnd.TheVariants as end
-use Rattle.vp_hosts.specs.declared.letter.Letter.{Letter}
-use Rattle.vp_hosts.specs.declared.host.StoppedLog.{StoppedLog}
-use Rattle.vp_hosts.specs.Ports.{LendsAt}
+use Rattle.vp_cluster.specs.declared.letter.Letter.{Letter}
+use Rattle.vp_cluster.specs.declared.host.StoppedLog.{StoppedLog}
+use Rattle.vp_cluster.specs.Ports.{LendsAt}
 use Rattle.vp_stopping.specs.declared.stopped.Steps.{Steps}
 use Rattle.vp_stopping.specs.declared.stopped.Front.{Front}
 use Rattle.vp_stopping.specs.declared.stopped.Stopped.{Stopped}
@@ -32,7 +32,7 @@ HaveDone catalogue done w steps = (steps.world ≡ record { catalogue = catalogu
 abbrev pub moment_in : Catalogue → Event → WorldState → Moment
 moment_in catalogue e w = moment 0 w e (next catalogue e w)
 
--- what is done in the event's place where its step is stopped
+-- what is done instead of the event if its step is stopped
 abbrev pub run_in_place : Catalogue → Bool → ℕ → Event → WorldState → Run
 run_in_place catalogue kept site e w = run_from catalogue 1 (stop_at kept site e) (run_in w)
 
@@ -42,7 +42,7 @@ pub record IsBegun (s : Schedule) (front : Front) : Type 0 where
   pub left_is : front.left ≡ s.events
   pub nodes : Begin s.catalogue front.nodes
 
--- The steps before this one were done, and this event is its own; these events are left behind it.
+-- The steps before this one were done, and this is its event; these events are left after it.
 pub record AreBefore (s : Schedule) (step : ℕ) (e : Event) (steps : Steps) (left : List Event) : Type 0 where
   pub m : Moment
   pub is : moment_of step (moments_of s) ≡ Some m
@@ -56,7 +56,7 @@ abbrev pub MayStop : Event → Front → Type 0
 MayStop e front = (id : ℕ) (site : SiteState) → taker front.steps.world.catalogue e front.steps.world.world ≡ Some id → site_of front.steps.world.world id ≡ Some site
     → (letter : Letter) → letter_of front.nodes.catalogue front.nodes.letters e ≡ Some letter → LendsAt front.nodes.catalogue site letter.to front.nodes.hosts
 
--- The nodes have come so far too.
+-- The nodes have come as far too.
 pub record IsBefore (s : Schedule) (step : ℕ) (front : Front) (e : Event) : Type 0 where
   pub before : AreBefore s step e front.steps front.left
   pub formed : IsEvent e
@@ -71,11 +71,11 @@ ComesTo s step (Ok None) = (moment_of step (moments_of s) ≡ None) × (limit_in
 ComesTo s step (Err (end.Limit what limit)) = (limit ≡ limit_of what) × (limit_in world_limits (take (step - 1) (moments_of s)) ≡ Some what)
 ComesTo s step (Err end.NoMemory) = Unit {0}
 
--- The site stops within the append that the event's letter asks for, and leaves the nodes so.
+-- The site stops within the append of the turn of the event's letter, and leaves the nodes like this.
 abbrev pub StopsOf : Event → SiteState → Option StoppedLog → NodesValue → NodesValue → Type 0
 StopsOf e site left old new = (letter : Letter) → letter_of old.catalogue old.letters e ≡ Some letter → StopsWith letter site left old new
 
--- What a stop within the event's step answers: of its site, where it is one's, what the nodes say.
+-- The result of a stop within the event's step: what the nodes say of its site, if it is one's.
 abbrev pub StopsIn : Event → Front → Option StoppedSite → Type 0
 StopsIn e front None = (id : ℕ) (site : SiteState) → taker front.steps.world.catalogue e front.steps.world.world ≡ Some id → site_of front.steps.world.world id ≡ Some site → (new : NodesValue) × StopsOf e site None front.nodes new
 StopsIn e front (Some it) = (taker front.steps.world.catalogue e front.steps.world.world ≡ Some it.site)

@@ -6,11 +6,12 @@ ghost use Rattle.std.specs.Option.{option_map_or};
 use vp_base::{Effects, Event, Input, NoMemory, SiteId};
 use vp_catalog::Catalog;
 use vp_cluster::Nodes;
-use vp_places::{ByThemselves, Site, StartFault, Stepper};
 use vp_records::Durable;
+use vp_site::{Site, StartFault};
+use vp_world::{ByThemselves, Stepper};
 
-/// Who does the steps after a stop: the sites by themselves, but that the one that stopped is started by its node, from the log that the
-/// stop has left. From then on that site does its steps by itself too.
+/// Who does the steps after a stop: the sites by themselves; but the one that stopped is started by its node, from the log that the stop
+/// has left. From then on that site does its steps by itself too.
 #[derive(Drop)]
 pub struct AfterStop {
     pub nodes: Nodes,
@@ -19,7 +20,7 @@ pub struct AfterStop {
 }
 
 impl AfterStop {
-    /// Whether this site stopped, and wasn't started since.
+    /// Whether this site stopped, and has not started since.
     fn waits(&self, id: SiteId) -> bool
         ensures { result ≡ option_map_or (λ stopped. stopped == id) self.now.stopped false }
     {

@@ -1,9 +1,9 @@
-//! What is left of a schedule's events, of which one single step is done after the other.
+//! The events of a schedule that are left, done as one single step after the other.
 
 ghost use Rattle.std.specs.Prelude.{◌≡◌, ◌+◌, ◌≤◌, IfOk, OnOk, map};
 ghost use Rattle.std.specs.List.{AllByRecursion};
 ghost use Rattle.vp_stopping.specs.Left.{next_single, left_then, CanRise};
-ghost use Rattle.vp_stops.specs.Stopped.{raised};
+ghost use Rattle.vp_runs.specs.Stopped.{raised};
 
 use std::alloc::Global;
 use std::collections::VecDeque;
@@ -11,7 +11,7 @@ use std::marker::Model;
 use vp_base::{CopyOf, Event, NoMemory};
 use vp_world::World;
 
-/// The events that are left: of a flow in progress, the deliveries that are.
+/// The events that are left; of a flow in progress, the deliveries that are.
 #[derive(Drop)]
 pub struct Left {
     events: VecDeque<Event>,
@@ -26,7 +26,7 @@ impl Model for Left {
     ghost view = { λ l. l.events.items };
 }
 
-/// The event under the number that its message has where so many messages, from the first of them on, were put before it.
+/// Raises the number of the message in a delivery, if it is not below the first, by `count`.
 fn raised(event: Event, first: u32, count: u32) -> Event
     requires rises { CanRise event }
     requires few { count ≤ 2000000 }
@@ -39,7 +39,7 @@ fn raised(event: Event, first: u32, count: u32) -> Event
 }
 
 impl Left {
-    /// All of these.
+    /// Begins with all of these events left.
     pub fn of(alloc: Global, events: &[Event]) -> Result<Left, NoMemory>
         ensures { IfOk result (λ left. left ≡ events.now) }
     {
@@ -71,7 +71,7 @@ impl Left {
         Ok(None)
     }
 
-    /// The deliveries keep their messages, where so many were put before them, from the first of these on.
+    /// Raises the numbers of messages in the deliveries that are left, from the first number on, by `count`: so they keep their messages.
     pub fn raise(&mut self, first: u32, count: u32) -> Result<(), NoMemory>
         requires rise { AllByRecursion CanRise self.old }
         requires few { count ≤ 2000000 }

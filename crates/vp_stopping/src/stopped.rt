@@ -6,13 +6,13 @@ ghost use Rattle.vp_laws.specs.ShapeLaws.{IsEvent};
 ghost use Rattle.vp_model.specs.Limits.{world_limits, limit_in, refused};
 ghost use Rattle.vp_model.specs.World.{next, message_at, run_from};
 ghost use Rattle.vp_schedule.specs.Document.{IsSchedule};
-ghost use Rattle.vp_stops.specs.Stopped.{appender, message_taken, pass_over, run_in, singles, stop_at, stopped_world};
+ghost use Rattle.vp_runs.specs.Stopped.{appender, message_taken, pass_over, run_in, singles, stop_at, stopped_world};
 ghost use Rattle.vp_world.specs.Limits.{Ends};
 ghost use Rattle.vp_world.specs.Steps.{taker, DoesEvent, IsReady};
 ghost use Rattle.vp_stopping.specs.AfterStop.{IsAfterStop};
 ghost use Rattle.vp_stopping.specs.Left.{CanRise, left_then, next_single};
 ghost use Rattle.vp_cluster.specs.Nodes.{MayDo, Does};
-ghost use Rattle.vp_hosts.specs.Stops.{is_kept};
+ghost use Rattle.vp_cluster.specs.Stops.{is_kept};
 ghost use Rattle.vp_stopping.specs.RanStopped.{RunsStopped};
 ghost use Rattle.vp_stopping.specs.Singles.{AreBefore, ComesTo, GoesOn, HaveDone, IsBegun, MayStop, StopsIn, moment_in, run_in_place};
 
@@ -20,13 +20,12 @@ use crate::after_stop::AfterStop;
 use crate::left::Left;
 use vp_base::{Commits, CopyOf, Event, Events, NoMemory, SiteId};
 use vp_catalog::Catalog;
-use vp_cluster::Nodes;
-use vp_hosts::{SiteLog, Stop, StoppedLog};
+use vp_cluster::{Nodes, SiteLog, Stop, StoppedLog};
 use vp_schedule::Schedule;
 use vp_world::{ByThemselves, Stepper, World, WorldEnd};
 
-/// What a run comes to that stops within a step: a schedule, with its commits in the order of the steps; and the log of the site that
-/// stopped, as it was left then.
+/// What a run becomes that stops within a step: a schedule, with its commits in the order of the steps; and the log of the site that
+/// stopped, as the stop left it.
 #[derive(Drop)]
 pub struct Stopped {
     pub schedule: Schedule,
@@ -34,7 +33,7 @@ pub struct Stopped {
     pub log: SiteLog,
 }
 
-/// A site that stopped within a step, what it left, and the nodes, whose disks have that.
+/// A site that stopped within a step, its log, and the nodes, one of whose disks has that log.
 #[derive(Drop)]
 struct StoppedSite {
     site: SiteId,
@@ -42,7 +41,7 @@ struct StoppedSite {
     nodes: Nodes,
 }
 
-/// The message that the event delivers.
+/// The number of the message that the event delivers.
 fn message_taken(event: &Event) -> Option<u32>
     ensures { option_to_list result ≡ message_taken event.now }
 {
@@ -60,7 +59,7 @@ struct Steps {
 }
 
 impl Steps {
-    /// Does one step.
+    /// Does one step by the sites themselves.
     fn step(self, event: Event) -> Result<Steps, WorldEnd>
         ensures done { IfOk result (HaveDone self.world.catalogue (self.done ++ event ∷ []) (next self.world.catalogue event self.world.world).world) }
         ensures end { Ends (refused world_limits self.world.catalogue event self.world.world) result }
@@ -68,7 +67,7 @@ impl Steps {
         self.step_by(event, &mut ByThemselves)
     }
 
-    /// Does one step, whose site is lent to the stepper.
+    /// Does one step, for which the site is lent to the stepper.
     fn step_by<S: Stepper>(self, event: Event, stepper: &mut S) -> Result<Steps, WorldEnd>
         requires { IsReady S.may self.world.catalogue event self.world.world stepper.old }
         ensures done { IfOk result (HaveDone self.world.catalogue (self.done ++ event ∷ []) (next self.world.catalogue event self.world.world).world) }
@@ -81,7 +80,7 @@ impl Steps {
         Ok(Steps { world, done })
     }
 
-    /// The message counts as delivered.
+    /// Marks the message as delivered.
     fn pass(&mut self, taken: Option<u32>) -> Result<(), NoMemory>
         requires { IfSome taken (λ k. IsSome (message_at self.old.world.world k)) }
         ensures { OnOk result (HaveDone self.old.world.catalogue self.old.done (pass_over (option_to_list taken) self.old.world.world) self.new) }
@@ -92,7 +91,7 @@ impl Steps {
         }
     }
 
-    /// The messages behind the first so many are handed to nobody.
+    /// Marks the messages after the first so many as delivered, without giving them to a site.
     fn lose(&mut self, before: u32) -> Result<(), NoMemory>
         requires { before ≤ length self.old.world.world.sent }
         ensures { OnOk result (HaveDone self.old.world.catalogue self.old.done
@@ -104,7 +103,7 @@ impl Steps {
         Ok(())
     }
 
-    /// The site crashes in the step of the event, or after it where that is kept.
+    /// Crashes the site instead of the step of the event, or after it if the step is kept.
     fn crash(self, site: SiteId, event: Event, kept: bool) -> Result<Steps, WorldEnd>
         requires taken { taker self.world.catalogue event self.world.world ≡ Some site }
         ensures done { IfOk result (HaveDone self.world.catalogue (self.done ++ stop_at kept site event)
@@ -118,8 +117,8 @@ impl Steps {
         steps.step(Event::Crash { site })
     }
 
-    /// The site stops in the step of the event, with its batch in the log or not, and is down. The messages of that step are handed to
-    /// nobody, and the one that it took counts as delivered.
+    /// Stops the site in the step of the event, with or without its batch in the log, and leaves it down. The messages of that step are
+    /// given to nobody, and the one that it took counts as delivered.
     fn stop(self, site: SiteId, event: Event, kept: bool) -> Result<Steps, WorldEnd>
         requires taken { taker self.world.catalogue event self.world.world ≡ Some site }
         ensures done { IfOk result (HaveDone self.world.catalogue (self.done ++ stop_at kept site event)
@@ -152,7 +151,7 @@ impl Steps {
 }
 
 impl Steps {
-    /// What the run has come to, in which a site left this log.
+    /// What the run has become, in which a site left this log.
     fn stopped(self, catalog: &Catalog, log: SiteLog) -> Result<Stopped, NoMemory>
         ensures { IfOk result (λ it. it ≡ record { schedule = record { catalogue = catalog.now; events = self.done }; commits = self.world.world.journal; log = log }) }
     {
@@ -168,7 +167,7 @@ impl Steps {
     }
 }
 
-/// A run through nodes that has come up to some step.
+/// A run through nodes, until some step.
 #[derive(Drop)]
 struct Front {
     nodes: Nodes,
@@ -210,7 +209,7 @@ impl Front {
         Ok(Front { nodes, steps, left })
     }
 
-    /// Stops the site that takes the event within that step; none where it appends no batch. All else is dropped.
+    /// Stops the site that does the event's step within it; none where that appends no batch. All else is dropped.
     fn stop(self, event: &Event, stop: &Stop) -> Result<Option<StoppedSite>, NoMemory>
         requires event { IsEvent event.now }
         requires lent { MayStop event.now self }
@@ -239,7 +238,7 @@ impl Front {
     }
 }
 
-/// The run before a step, with the event of that step; none where there are fewer.
+/// Runs the schedule until this step, and returns the event of that step; none where there are fewer steps.
 fn come_to(schedule: &Schedule, step: u32) -> Result<Option<(Front, Event)>, WorldEnd>
     requires schedule { IsSchedule schedule.now }
     requires step { 1 ≤ step }
@@ -258,7 +257,7 @@ fn come_to(schedule: &Schedule, step: u32) -> Result<Option<(Front, Event)>, Wor
     }
 }
 
-/// The site stops in the step of the event, and the run goes on after that to the end; the site starts from what it has left.
+/// Stops the site in the step of the event, and does the rest of the run; the site starts from the log that it has left.
 fn go_on(
     schedule: &Schedule,
     front: Front,
@@ -293,9 +292,9 @@ fn go_on(
     Ok(ended.stopped(&schedule.catalog, log)?)
 }
 
-/// Runs the schedule through nodes up to a step, and stops the site that takes it within the append of its batch. The site is down then, and
-/// nothing that the step sends is handed over; the run goes on after that, and the site starts from its log as it was left, which is answered.
-/// None where there is no such step, or it appends no batch.
+/// Runs the schedule through nodes until a step, and stops the site that does it within the append of its batch. The site is down then,
+/// and nothing that the step sends is handed over; the run goes on after that, and the site starts from the log that it has left, which
+/// is returned. None where there is no such step, or it appends no batch.
 pub fn run_stopped(schedule: &Schedule, stop: &Stop) -> Result<Option<Stopped>, WorldEnd>
     requires schedule { IsSchedule schedule.now }
     requires calls { stop.now.calls ≤ 4 }
@@ -308,7 +307,7 @@ pub fn run_stopped(schedule: &Schedule, stop: &Stop) -> Result<Option<Stopped>, 
         return Ok(None);
     };
     let stopped = front.stop(&event, stop)?;
-    // the site went with that; the steps before are done once more
+    // the stop consumed the site; the steps before are done once more
     let Some((front, event)) = come_to(schedule, stop.step)? else {
         return Ok(None);
     };

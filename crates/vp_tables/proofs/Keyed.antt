@@ -1,4 +1,4 @@
--- What a map from keys of transactions to items is, as the list of its items.
+-- A map from the keys of transactions to items, as the list of its items.
 use Rattle.std.proofs.Common.{◌≡◌, ◌∙◌, ap, sym, subst, ℕ, Bool, true, false, cond, not, ◌&&◌, ◌||◌, ◌==◌, if◌then◌else◌, List, [], ◌∷◌, ◌++◌, filter, find, Some, None, is_some, Ordering, Less, Equal, Greater, refl, arith}
 use Rattle.std.specs.Prelude.{nat_eq, nat_lt}
 use Rattle.std.specs.List.{list_any, AllByRecursion}
@@ -16,14 +16,14 @@ use Rattle.vp_tables.specs.Keys.{key_of, key_cmp, AreKeyed, AreAscending}
 abbrev Key : Type 0
 Key = ℕ × ℕ × ℕ
 
--- the test of keys
+-- whether two keys are the same
 abbrev pub key_eq : Key → Key → Bool
 key_eq x y = (nat_eq x.0 y.0 && nat_eq x.1 y.1) && nat_eq x.2 y.2
 
 apart : (m n : ℕ) → nat_lt m n ≡ true → (m == n) ≡ false
 apart m n h = grind (arith, nat_tests, h)
 
--- they are those of transactions
+-- keys are the same exactly where their transactions are
 chosen : {X : Type 0} (t u : TxnId) (a b c : X) → match_ordering (key_cmp (key_of t) (key_of u)) a b c ≡ (if same_txn t u then b else (if txn_before t u then a else c))
 chosen {X} t u a b c =
     go (nat_lt t.site u.site) (t.site == u.site) (nat_lt t.life u.life) (t.life == u.life) (nat_lt t.seq u.seq) (t.seq == u.seq)
@@ -101,7 +101,7 @@ module _ {T : Type 0} (txn : T → TxnId) where
         go true r = h.1
         go false r = (h.0, r)
 
-    -- none is left where none is found
+    -- where none is found, removing it changes nothing
     none_left : (es : Entries) → AreKeyed txn es → lookup test es ≡ None → filter (λ t. not (same_txn (txn t) n)) (values_of es) ≡ values_of es
     none_left [] h e = refl
     none_left (x ∷ es) h e = go (test x.0) (passes x h.0) e (none_left es h.1)
@@ -121,7 +121,7 @@ module _ {T : Type 0} (txn : T → TxnId) where
         let kept : AreKeyed txn new = subst (AreKeyed txn) (sym e) (removed_keyed old h) in
         sym (none_left new kept none) ∙ ap (λ es. filter (λ t. not (same_txn (txn t) n)) (values_of es)) e ∙ others_left old h
 
-  -- an item in the place of the one of its transaction
+  -- an item replaces the one of its transaction
   module _ (item : T) (test : Key → Bool) (says : (t : TxnId) → test (key_of t) ≡ same_txn t (txn item)) where
     pub changed : (es : Entries) → AreKeyed txn es → values_of (set_value test es item) ≡ change_first (λ t. same_txn (txn t) (txn item)) (λ _. item) (values_of es)
     changed [] h = refl
@@ -135,7 +135,7 @@ module _ {T : Type 0} (txn : T → TxnId) where
         go true p r = (h.0 ∙ ap key_of (same_txn-is (txn e.1) (txn item) (sym p)), h.1)
         go false p r = (h.0, r)
 
-  -- transactions ascend as their keys do
+  -- the order of transactions is that of their keys
   all_after : (n : TxnId) (es : Entries) → AreKeyed txn es → AllByRecursion (λ k. key_cmp (key_of n) k ≡ Less) (keys_of es) → AllByRecursion (λ t. txn_before n (txn t) ≡ true) (values_of es)
   all_after n [] h a = tt
   all_after n (e ∷ es) h a = (before_by_key n (txn e.1) (ap (key_cmp (key_of n)) (sym h.0) ∙ a.0), all_after n es h.1 a.1)
@@ -145,7 +145,7 @@ module _ {T : Type 0} (txn : T → TxnId) where
   ascending [] h s = tt
   ascending (e ∷ es) h s = (all_after (txn e.1) es h.1 (subst (λ k. AllByRecursion (λ y. key_cmp k y ≡ Less) (keys_of es)) h.0 s.0), ascending es h.1 s.1)
 
-  -- an item that is put behind others
+  -- an item is inserted after others
   is_after : (n : TxnId) (item : T) (done rest : List T) → AllByRecursion (λ t. txn_before n (txn t) ≡ true) (done ++ item ∷ rest) → txn_before n (txn item) ≡ true
   is_after n item [] rest a = a.0
   is_after n item (t ∷ done) rest a = is_after n item done rest a.1
@@ -156,7 +156,7 @@ module _ {T : Type 0} (txn : T → TxnId) where
       let after = is_after (txn t) item done rest a.0 in
       rw (not_same (txn t) (txn item) after, not_before (txn t) (txn item) after) (ap (λ ts. t ∷ ts) (put_behind item done rest a.1))
 
-  -- an item that is put under the key of its transaction
+  -- an item is inserted by the key of its transaction
   pub put_there : (item : T) (es : Entries) → AreKeyed txn es → values_of (tree.insert_entry key_cmp es (key_of (txn item)) item) ≡ put (λ a b. same_txn (txn a) (txn b)) (λ a b. txn_before (txn a) (txn b)) item (values_of es)
   put_there item [] h = refl
   put_there item (e ∷ es) h =
@@ -184,12 +184,12 @@ module _ {T : Type 0} (txn : T → TxnId) where
       go Equal k r = (k refl, h.1)
       go Greater k r = (h.0, r)
 
--- where none is found nothing changes
+-- where none is found, nothing changes
 pub changed_none : {T : Type 0} (test : T → Bool) (f : T → T) (ts : List T) → find test ts ≡ None → change_first test f ts ≡ ts
 changed_none test f [] e = refl
 changed_none test f (t ∷ ts) e = let rest = changed_none test f ts in grind (arith, nat_tests, e, rest)
 
--- a transaction that is noted behind others
+-- a transaction is noted after the others
 pub noted_keyed : (n : TxnId) (es : List (Key × TxnId)) → AreKeyed (λ t. t) es → AreKeyed (λ t. t) (es ++ (key_of n, n) ∷ [])
 noted_keyed n [] h = (refl, tt)
 noted_keyed n (e ∷ es) h = (h.0, noted_keyed n es h.1)

@@ -1,4 +1,4 @@
--- Items under the keys of their transactions.
+-- Items by the keys of their transactions.
 use Rattle.std.specs.Prelude.{◌≡◌, ℕ, true, List, [], ◌∷◌, ⊤}
 use Rattle.std.specs.List.{AllByRecursion}
 use Rattle.std.specs.Ordering.{nat_cmp, ordering_then}
@@ -6,7 +6,7 @@ use Rattle.std.specs.declared.cmp.Ordering.{Ordering}
 use Rattle.vp_base.specs.Order.{txn_before}
 use Rattle.vp_base.specs.declared.ids.TxnId.{TxnId}
 
--- the numbers of the transaction, in the order in which they are compared
+-- the numbers of a transaction, in the order in which they are compared
 abbrev pub key_of : TxnId → ℕ × ℕ × ℕ
 key_of t = (t.site, t.life, t.seq)
 

@@ -1,6 +1,6 @@
-//! Lists of transactions, or of items that are known by their transactions, in which one is found without a walk over the others.
+//! Lists of transactions, or of items that each belong to one, in which one is found without a walk over the others.
 //!
-//! A contract sees each of them as the list alone: the keys by which items are found are the type's own.
+//! A contract sees each of them as a list: the keys are the type's own affair.
 #![tactic(auto)]
 
 mod key;

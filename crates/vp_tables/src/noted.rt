@@ -9,7 +9,7 @@ use std::alloc::Global;
 use std::marker::Model;
 use vp_base::{CopyOf, NoMemory, TxnId};
 
-/// Transactions in the order in which they were noted, each once.
+/// Transactions in the order in which they were noted, each one once.
 #[derive(Drop)]
 pub struct Noted {
     keyed: IndexMap<TxnKey, TxnId>,
@@ -30,6 +30,7 @@ impl Model for Noted {
 }
 
 impl Noted {
+    /// Makes an empty list, which takes no memory.
     pub fn new(alloc: Global) -> Noted
         ensures { result ≡ [] }
     {
@@ -39,13 +40,14 @@ impl Noted {
         }
     }
 
+    /// Whether the transaction was noted.
     pub fn has(&self, txn: &TxnId) -> bool
         ensures { result ≡ has_txn self.now txn.now }
     {
         self.keyed.contains_key(&key_of(txn))
     }
 
-    /// Notes the transaction behind the others, unless it was noted.
+    /// Appends the transaction, unless it is there already. Where memory is lacking, the list stays as it is.
     pub fn note(&mut self, txn: &TxnId) -> Result<(), NoMemory>
         ensures { OnOk result (self.new ≡ (if has_txn self.old txn.now then self.old else self.old ++ txn.now ∷ [])) }
     {
@@ -55,6 +57,7 @@ impl Noted {
         Ok(())
     }
 
+    /// Removes all of them.
     pub fn clear(&mut self)
         ensures { self.new ≡ [] }
     {

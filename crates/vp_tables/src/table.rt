@@ -12,12 +12,13 @@ use std::marker::Model;
 use std::mem;
 use vp_base::{CopyOf, Decision, NoMemory, Part, Seq, TxnId};
 
-/// An item that is known by its transaction.
+/// An item that belongs to one transaction.
 pub trait HasTxn {
     ghost use Rattle.vp_base.specs.declared.ids.TxnId.{TxnId};
 
     ghost txn: { Self → TxnId };
 
+    /// The transaction of the item.
     fn name(&self) -> TxnId
         ensures { result ≡ txn self.now };
 }
@@ -38,7 +39,7 @@ impl HasTxn for Decision {
     }
 }
 
-/// Items in the order of their transactions, one for each.
+/// Items in the order of their transactions, at most one for each.
 #[derive(Drop)]
 pub struct Table<T: HasTxn> {
     tree: BTreeMap<TxnKey, T>,
@@ -59,6 +60,7 @@ impl<T: HasTxn> Model for Table<T> {
 }
 
 impl<T: HasTxn + Drop> Table<T> {
+    /// Makes an empty table, which takes no memory.
     pub fn new(alloc: Global) -> Table<T>
         ensures { result ≡ [] }
     {
@@ -68,17 +70,19 @@ impl<T: HasTxn + Drop> Table<T> {
         }
     }
 
+    /// The allocator from which the table takes its memory.
     pub fn allocator(&self) -> Global {
         self.alloc
     }
 
+    /// Whether the transaction has an item.
     pub fn has(&self, txn: &TxnId) -> bool
         ensures { result ≡ list_any (λ t. same_txn (T.txn t) txn.now) self.now }
     {
         self.tree.contains_key(&key_of(txn))
     }
 
-    /// The item of the transaction.
+    /// Finds the item of the transaction.
     pub fn get(&self, txn: &TxnId) -> Option<&T>
         ensures found { option_copied result ≡ find (λ t. same_txn (T.txn t) txn.now) self.now }
         ensures ascending { AreAscending T.txn self.now }
@@ -86,7 +90,8 @@ impl<T: HasTxn + Drop> Table<T> {
         self.tree.get(&key_of(txn))
     }
 
-    /// The item takes its place, where one of the same transaction goes. Without memory nothing changes.
+    /// Puts the item in its place, where it replaces one of the same transaction. Where memory is lacking, the table stays as it
+    /// is.
     pub fn put(&mut self, item: T) -> Result<(), NoMemory>
         ensures ok { OnOk result (self.new ≡ put (λ a b. same_txn (T.txn a) (T.txn b)) (λ a b. txn_before (T.txn a) (T.txn b)) item self.old) }
         ensures err { OnErr result (self.new ≡ self.old) }
@@ -95,7 +100,7 @@ impl<T: HasTxn + Drop> Table<T> {
         Ok(())
     }
 
-    /// The item goes where one of the same transaction is, which is given back; nowhere, where there is none.
+    /// Replaces the item of the same transaction, and returns the old one. Where there is none, the new item is dropped.
     pub fn replace(&mut self, item: T) -> Option<T>
         ensures taken { result ≡ find (λ t. same_txn (T.txn t) (T.txn item)) self.old }
         ensures rest { self.new ≡ change_first (λ t. same_txn (T.txn t) (T.txn item)) (λ _. item) self.old }
@@ -107,20 +112,21 @@ impl<T: HasTxn + Drop> Table<T> {
         Some(mem::replace(place, item))
     }
 
-    /// The transaction has no item any more.
+    /// Removes the item of the transaction, if there is one.
     pub fn remove(&mut self, txn: &TxnId)
         ensures { self.new ≡ filter (λ t. not (same_txn (T.txn t) txn.now)) self.old }
     {
         self.tree.remove(&key_of(txn));
     }
 
+    /// Removes all items.
     pub fn clear(&mut self)
         ensures { self.new ≡ [] }
     {
         *self = Table::new(self.alloc);
     }
 
-    /// The transactions of the items.
+    /// The transactions of the items, ascending, in a list of their own.
     pub fn names(&self) -> Result<Vec<TxnId>, NoMemory>
         ensures { IfOk result (λ names. names.items ≡ map T.txn self.now) }
     {
@@ -134,7 +140,7 @@ impl<T: HasTxn + Drop> Table<T> {
 }
 
 impl<T: HasTxn + CopyOf> Table<T> {
-    /// A copy of the items.
+    /// Copies the items to a list of their own.
     pub fn to_list(&self) -> Result<Seq<T>, NoMemory>
         ensures { IfOk result (λ items. items ≡ self.now) }
     {

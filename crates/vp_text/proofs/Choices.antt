@@ -1,4 +1,4 @@
--- A text of one language or of another, where no text of one begins one of the other.
+-- A text of one language or of another, where no text of one begins a text of the other.
 use Rattle.std.proofs.Common.{◌≡◌, ℕ, ◌^◌, ◌≤◌, ◌<◌, min, Bool, true, false, eqb, List, [], ◌∷◌, ◌++◌, length, Result, Ok, Err, refl, sym, ap, subst, ◌∙◌, append_assoc, arith, inl, inr, ◌⊎◌, cond}
 use Rattle.std.proofs.lemmas.List.{append-nil, length-append}
 use Rattle.std.proofs.lemmas.Bool.{false≢true, eq-eqb, cases_lt, and_from, le-leb}
@@ -32,7 +32,7 @@ behind : (s r g rest : List ℕ) → rest ≡ s ++ g → Parts (s ++ r) rest →
 behind [] r g rest e h = subst (Parts r) e h
 behind (c ∷ s) r g rest e h = absurd (let k : Parts ((c ∷ s) ++ r) ((c ∷ s) ++ g) = subst (Parts ((c ∷ s) ++ r)) e h in k refl)
 
--- from a place that lies behind this one, texts of the other language part too
+-- beyond this place, texts of the other language differ from the bytes too
 farther : {A : Type 0} (M : A → List ℕ → Type 0) (bytes front rest f g : List ℕ) → bytes ≡ front ++ rest → bytes ≡ f ++ g → length g ≤ length rest → ((b : A) (r : List ℕ) → M b (front ++ r) → Parts r rest) → (b : A) (r : List ℕ) → M b (f ++ r) → Parts r g
 farther M bytes front rest f g e h le diverges b r m =
     elim (cut front rest f g (sym e ∙ h)) [
@@ -94,7 +94,7 @@ either_right {A = A} {L = L} {M = M} {bytes = bytes} {p = p} {q = q} clear back 
 pub either_exact : {A : Type 0} {L M : A → List ℕ → Type 0} {P Q : List ℕ → Result (A × List ℕ) ℕ} → IsClear L M → IsClear M L → Exact L P → Exact M Q → Exact (Either L M) (λ bytes. either (P bytes) (Q bytes))
 either_exact clear back e f = exact_from (λ bytes. either_right clear back (right e bytes) (right f bytes))
 
--- ---- languages whose texts open differently
+-- ---- languages whose texts begin differently
 
 abbrev pub Opens : {A : Type 0} → List ℕ → (A → List ℕ → Type 0) → Type 0
 Opens {A = A} key L = (a : A) (t : List ℕ) → L a t → (r : List ℕ) × (t ≡ key ++ r)
@@ -126,7 +126,7 @@ literal_opens literal = λ b t m. (m.back, m.parts ∙ ap (λ (x : List ℕ). x 
 pub made_opens : {B : Type 0} {make : Unit {0} → B} (literal : List ℕ) → Opens literal (Made (IsLiteral literal) make)
 made_opens literal = λ b t m. ([], m.spelled ∙ sym (append-nil literal))
 
--- ---- with which bytes a text goes on to another
+-- ---- the bytes with which a text can go on to a longer one
 
 abbrev pub GoesOn : {A : Type 0} → (ℕ → Bool) → (A → List ℕ → Type 0) → Type 0
 GoesOn {A = A} has L = (a a2 : A) (text : List ℕ) (x : ℕ) (r : List ℕ) → L a text → L a2 (text ++ x ∷ r) → has x ≡ true

@@ -1,4 +1,4 @@
--- A text is read line by line in one way: where two readings of it can't go on, they stand at the same place.
+-- A text is read line by line in only one way: where two readings of it can't go on, they are at the same place.
 use Rattle.std.proofs.Common.{◌≡◌, ℕ, ◌≤◌, ◌<◌, List, [], ◌∷◌, ◌++◌, length, Result, refl, sym, ap, subst, ◌∙◌, append_assoc, arith, inl, inr}
 use Rattle.std.proofs.lemmas.List.{append-nil, length-append}
 use Rattle.std.proofs.lemmas.Bool.{cases_lt}
@@ -11,7 +11,7 @@ no_more : (t w : List ℕ) → IsLine t → IsLine (t ++ w) → w ≡ []
 no_more t [] h k = refl
 no_more t (x ∷ r) h k = absurd (no_prefix t x r h k)
 
--- a text begins with one line alone
+-- a text begins with only one line
 pub same_line : (t r u s : List ℕ) → IsLine t → IsLine u → t ++ r ≡ u ++ s → (t ≡ u) × (r ≡ s)
 same_line t r u s h k e =
     elim (cut t r u s e) [
@@ -31,16 +31,16 @@ module _ {S E : Type 0} (first : S) (after : S → E → S) (Line : S → E → 
   abbrev said : List E → S
   said = reached first after Line Onward
 
-  -- What the states of a text of at most `most` bytes have to be like: each text is that of one entry, and one line.
+  -- What must hold of the states for texts of at most `most` bytes: each text is the text of one entry, and is one line.
   pub record Plain (most : ℕ) : Type 0 where
     pub one : (es : List E) (t : List ℕ) → length t ≤ most → Lines es t → IsOne (Line (said es))
     pub lines : (es : List E) (t : List ℕ) → length t ≤ most → Lines es t → (e : E) (u : List ℕ) → Line (said es) e u → IsLine u
 
-  -- which they are where a reader is exact
+  -- it holds where a reader is exact
   pub plain : (read : S → List ℕ → Result (E × List ℕ) ℕ) (most : ℕ) → Readable first after Line Onward read most → Plain most
   plain read most r = record { one = λ es t le h. one_value (r.exact es t le h); lines = λ es t le h. r.lines es t le h }
 
-  -- Some lines stand at the beginning of the text, and a rest behind them.
+  -- The text is some lines, and then a rest.
   pub record Divided (text : List ℕ) : Type 0 where
     pub lines : List E
     pub front : List ℕ
@@ -48,7 +48,7 @@ module _ {S E : Type 0} (first : S) (after : S → E → S) (Line : S → E → 
     pub lines_are : Lines lines front
     pub parts : text ≡ front ++ rest
 
-  -- One more line stands behind these lines, and a line may follow it.
+  -- One more line comes after these lines, and a line may follow it.
   pub record OneMore (lines : List E) (rest : List ℕ) : Type 0 where
     pub entry : E
     pub line : List ℕ
@@ -57,7 +57,7 @@ module _ {S E : Type 0} (first : S) (after : S → E → S) (Line : S → E → 
     pub onward : Onward (said lines) entry
     pub parts : rest ≡ line ++ behind
 
-  -- no such line stands behind the lines
+  -- no such line comes after the lines
   abbrev pub IsLast : {text : List ℕ} → Divided text → Type 0
   IsLast d = OneMore d.lines d.rest → ⊥
 
@@ -73,7 +73,7 @@ module _ {S E : Type 0} (first : S) (after : S → E → S) (Line : S → E → 
   front_fits : (text f r : List ℕ) → text ≡ f ++ r → length f ≤ length text
   front_fits text f r a = omega (arith, ap length a, length-append f r)
 
-  -- as many lines are the same lines
+  -- readings with as many lines have the same lines
   same_at : (text : List ℕ) → Plain (length text) → (es fs : List E) (f g r s : List ℕ) → Lines es f → Lines fs g → text ≡ f ++ r → text ≡ g ++ s → length es ≡ length fs → Same es fs f g r s
   same_at text p [] [] f g r s h k a b n = record { lines = refl; front = h ∙ sym k; rest = sym (a ∙ ap (λ (x : List ℕ). x ++ r) h) ∙ b ∙ ap (λ (x : List ℕ). x ++ s) k }
   same_at text p [] (d ∷ fs) f g r s h k a b n = absurd (omega (arith, n))
@@ -88,7 +88,7 @@ module _ {S E : Type 0} (first : S) (after : S → E → S) (Line : S → E → 
       let entry : e ≡ d = p.one es h.0 fits h.2 e d h.1 h.3 (subst (Line (said es) d) (sym line.0) here) in
       record { lines = rw (entry, m.lines) refl; front = h.5 ∙ rw (m.front, line.0) (sym k.5); rest = line.1 }
 
-  -- where another reading has more lines, one more stands here
+  -- where another reading has more lines, one more line can follow here
   more_at : (text : List ℕ) → Plain (length text) → (es fs : List E) (f g r s : List ℕ) → Lines es f → Lines fs g → text ≡ f ++ r → text ≡ g ++ s → length es < length fs → OneMore es r
   more_at text p es [] f g r s h k a b lt = absurd (omega (arith, lt))
   more_at text p es (d ∷ fs) f g r s h k a b lt =
@@ -129,7 +129,7 @@ module _ {S E : Type 0} (first : S) (after : S → E → S) (Line : S → E → 
   abbrev pub whole_divided : (es : List E) (text : List ℕ) → Lines es text → Divided text
   whole_divided es text h = record { lines = es; front = text; rest = []; lines_are = h; parts = sym (append-nil text) }
 
-  -- a text is that of one list of lines
+  -- a text is the text of only one list of lines
   pub whole_same : (text : List ℕ) → Plain (length text) → (es fs : List E) → Lines es text → Lines fs text → es ≡ fs
   whole_same text p es fs h k =
       let c = whole_divided es text h in
@@ -152,7 +152,7 @@ module _ {S E : Type 0} (first : S) (after : S → E → S) (Line : S → E → 
       let longest = longest_same (first_line c.rest) b.longest.0 c.longest.0 there c.longest.2 in
       (omega (arith, b.number, c.number, ap length same.lines), omega (arith, b.longest.1, c.longest.1, longest))
 
-  -- ---- a line of which some fact holds, behind which no line may follow
+  -- ---- a faulty line, after which no line may follow
 
   abbrev pub Stops : (S → E → Type 0) → Type 0
   Stops Faulty = (s : S) (e : E) → Faulty s e → Onward s e → ⊥
@@ -167,7 +167,7 @@ module _ {S E : Type 0} (first : S) (after : S → E → S) (Line : S → E → 
       let entry : more.entry ≡ f.entry = p.one f.lines f.front fits f.lines_are more.entry f.entry more.line more.line_is (subst (Line (said f.lines) f.entry) one.0 f.faulty_is) in
       stops (said f.lines) f.entry f.fault (subst (Onward (said f.lines)) entry more.onward)
 
-  -- the same line behind the same lines, and the same rest
+  -- the same line after the same lines, and the same rest
   pub record SameFault (es fs : List E) (e d : E) (r s : List ℕ) : Type 0 where
     pub lines : es ≡ fs
     pub entry : e ≡ d
@@ -185,14 +185,14 @@ module _ {S E : Type 0} (first : S) (after : S → E → S) (Line : S → E → 
         rest = one.1;
       }
 
-  -- ---- one kind of end excludes the other
+  -- ---- one kind of ending excludes the other
 
   pub bad_not_faulty : (Faulty : S → E → Type 0) → Stops Faulty → (text : List ℕ) → Plain (length text) → (l m i : ℕ) → IsBadLine first after Line Onward text l i → IsFaultyLine first after Line Onward Faulty text m → ⊥
   bad_not_faulty Faulty stops text p l m i b f =
       let same = last_same text p (bad_divided text l i b) (faulty_divided Faulty text m f) (bad_last text l i b) (faulty_last Faulty stops text p m f) in
       b.none f.entry f.faulty f.rest (subst (λ (x : List E). Line (said x) f.entry f.faulty) (sym same.lines) f.faulty_is) same.rest
 
-  -- where the text is some lines, a line that isn't allowed could only stand behind all of them
+  -- where the text is some lines, a line that isn't allowed could only come after all of them
   pub bad_behind_all : (text : List ℕ) → Plain (length text) → (es : List E) → Lines es text → (l i : ℕ) (b : IsBadLine first after Line Onward text l i) → Same b.lines es b.front text b.rest []
   bad_behind_all text p es h l i b =
       let d = whole_divided es text h in

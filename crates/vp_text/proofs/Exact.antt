@@ -1,16 +1,16 @@
--- Readers that answer exactly for a language, with the exact place of each fault, and how they are put together.
+-- Readers that give exactly the texts of a language, with the exact place of each fault, and how they are combined.
 use Rattle.std.proofs.Common.{◌≡◌, ◌≢◌, ℕ, List, [], ◌∷◌, ◌++◌, length, Result, Ok, Err, refl, sym, ap, subst, ◌∙◌, append_assoc, inl, inr, ◌⊎◌}
 use Rattle.std.proofs.lemmas.List.{append-nil}
 use Rattle.vp_text.specs.Meaning.{Begins}
 use Rattle.vp_text.specs.Reading.{◌>>=◌}
 
--- What a text goes on with isn't what the bytes go on with, if the text goes on at all.
+-- Where the text goes on at all, it doesn't go on as the bytes do.
 abbrev pub Apart : List ℕ → List ℕ → Type 0
 Apart [] rest = Unit {0}
 Apart (x ∷ r) [] = Unit {0}
 Apart (x ∷ r) (c ∷ rest) = x ≢ c
 
--- The text goes on, and not as the bytes do.
+-- The text goes on, but not as the bytes do.
 abbrev pub Parts : List ℕ → List ℕ → Type 0
 Parts [] rest = ⊥
 Parts (x ∷ r) [] = Unit {0}
@@ -23,7 +23,7 @@ pub record IsRead {A : Type 0} (L : A → List ℕ → Type 0) (bytes : List ℕ
   pub parts : bytes ≡ text ++ rest
   pub ends : (b : A) (r : List ℕ) → L b (text ++ r) → Apart r rest
 
--- The bytes before the rest begin a text, and each text that they begin goes on, and not as the rest does.
+-- The bytes before the rest begin a text, and each text that they begin goes on, but not as the rest does.
 pub record IsFault {A : Type 0} (L : A → List ℕ → Type 0) (bytes : List ℕ) (left : ℕ) : Type 0 where
   pub front : List ℕ
   pub rest : List ℕ
@@ -37,13 +37,13 @@ pub record Exact {A : Type 0} (L : A → List ℕ → Type 0) (read : List ℕ �
   pub err : (bytes : List ℕ) (left : ℕ) → read bytes ≡ Err left → IsFault L bytes left
   pub again : (a : A) (text rest : List ℕ) → L a text → ((b : A) (r : List ℕ) → L b (text ++ r) → Apart r rest) → read (text ++ rest) ≡ Ok (a, rest)
 
--- ---- plain facts
+-- ---- facts on lists
 
 apart_from_parts : (k rest : List ℕ) (x : ℕ) (s : List ℕ) → Parts k (x ∷ s) → Apart (x ∷ s) (k ++ rest)
 apart_from_parts [] rest x s h = absurd h
 apart_from_parts (c ∷ k) rest x s h = λ e. h (sym e)
 
--- two ways to cut one list in two
+-- two ways to divide one list in two
 abbrev pub Cut : List ℕ → List ℕ → List ℕ → List ℕ → Type 0
 Cut x y u v = ((r : List ℕ) × (u ≡ x ++ r) × (y ≡ r ++ v)) ⊎ ((c : ℕ) × (r : List ℕ) × (x ≡ u ++ c ∷ r) × (v ≡ (c ∷ r) ++ y))
 
@@ -75,9 +75,9 @@ ok_value x y e = cc
 pub at_err : {A : Type 0} (r : Result A ℕ) (y : A) (n : ℕ) → r ≡ Ok y → r ≡ Err n → ⊥
 at_err r y n e f = cc
 
--- ---- what an exact reader says of its language
+-- ---- what follows for the language of an exact reader
 
--- It has a text.
+-- some text is in the language
 pub inhabited : {A : Type 0} {L : A → List ℕ → Type 0} {read : List ℕ → Result (A × List ℕ) ℕ} → Exact L read → Begins L []
 inhabited {L = L} {read = read} e =
     let f : (r : Result _ ℕ) → read [] ≡ r → Begins L [] = λ r. elim r as (λ s. read [] ≡ s → Begins L []) [
@@ -86,7 +86,7 @@ inhabited {L = L} {read = read} e =
     ] in
     f (read []) refl
 
--- A text is that of one value.
+-- a text is the text of only one value
 pub one_value : {A : Type 0} {L : A → List ℕ → Type 0} {read : List ℕ → Result (A × List ℕ) ℕ} → Exact L read → (a b : A) (text : List ℕ) → L a text → L b text → a ≡ b
 one_value {L = L} {read = read} e a b text la lb =
     let none : (c : _) (r : List ℕ) → L c (text ++ r) → Apart r [] = λ c r. elim r as (λ s. L c (text ++ s) → Apart s []) [ [] ↦ λ h. tt | x ∷ s ↦ λ h. tt ] in
@@ -97,7 +97,7 @@ one_value {L = L} {read = read} e a b text la lb =
 abbrev pub IsOne : {A : Type 0} → (A → List ℕ → Type 0) → Type 0
 IsOne {A = A} L = (a b : A) (text : List ℕ) → L a text → L b text → a ≡ b
 
--- the answer is right for these bytes
+-- the result is right for these bytes
 pub record IsRight {A : Type 0} (L : A → List ℕ → Type 0) (bytes : List ℕ) (r : Result (A × List ℕ) ℕ) : Type 0 where
   pub ok : (a : A) (rest : List ℕ) → r ≡ Ok (a, rest) → IsRead L bytes a rest
   pub err : (left : ℕ) → r ≡ Err left → IsFault L bytes left
@@ -117,9 +117,9 @@ exact_from f = record {
   again = λ a text rest l ends. (f (text ++ rest)).again a text rest refl l ends;
 }
 
--- ---- one after the other
+-- ---- one text after another
 
--- A text of a, and behind it a text of the value in the language that stands after a.
+-- A text of a, and after it a text of the value in the language that follows a.
 pub record Then {A B : Type 0} (L : A → List ℕ → Type 0) (M : A → B → List ℕ → Type 0) (b : B) (text : List ℕ) : Type 0 where
   pub first : A
   pub front : List ℕ
@@ -128,7 +128,7 @@ pub record Then {A B : Type 0} (L : A → List ℕ → Type 0) (M : A → B → 
   pub after : M first b back
   pub parts : text ≡ front ++ back
 
--- Where a text of the first goes on, it doesn't go on as one of the second begins.
+-- Where a text of the first goes on to a longer one, it doesn't go on as a text of the second begins.
 abbrev pub Follows : {A B : Type 0} → (A → List ℕ → Type 0) → (A → B → List ℕ → Type 0) → Type 0
 Follows {A = A} {B = B} L M = (a a2 : A) (text : List ℕ) (x : ℕ) (r : List ℕ) (b : B) (t : List ℕ) → L a text → L a2 (text ++ x ∷ r) → M a b t → Parts t (x ∷ r)
 
@@ -149,7 +149,7 @@ parts_on (x ∷ s) k (c ∷ rest) h = h
 head_again : (c : ℕ) (s t u : List ℕ) → Parts ((c ∷ s) ++ t) (c ∷ u) → ⊥
 head_again c s t u h = h refl
 
--- the second stands where the first ended and another text of the first goes on
+-- the second begins where the first ended and where another text of the first goes on
 on_with : (back more r rest s k : List ℕ) (x : ℕ) → Parts (back ++ more) (x ∷ s) → back ++ r ≡ (x ∷ s) ++ k → Apart (x ∷ s) (back ++ rest) → Parts r rest
 on_with [] more r rest s k x p e h = rw e (parts_from_apart x s k rest h)
 on_with (c ∷ back) more r rest s k x p e h = absurd (p (let head : c ≡ x = cc in head))
@@ -157,8 +157,8 @@ on_with (c ∷ back) more r rest s k x p e h = absurd (p (let head : c ≡ x = c
 here_again : (c : ℕ) (s t : List ℕ) → Parts ((c ∷ s) ++ t) (c ∷ s) → ⊥
 here_again c s t h = h refl
 
--- Where a text of the first is read, and the bytes behind it begin a text of the second,
--- all that goes on from there goes on in the second, or else than the bytes do.
+-- Where a text of the first is read, and the bytes after it begin a text of the second, whatever goes on from there is in the
+-- second, or goes on otherwise than the bytes do.
 after_first : {A B : Type 0} {L : A → List ℕ → Type 0} {M : A → B → List ℕ → Type 0} → IsOne L → Follows L M
     → (a : A) (front : List ℕ) → L a front → (back rest : List ℕ) → ((b : A) (r : List ℕ) → L b (front ++ r) → Apart r (back ++ rest))
     → (seen : B) (more : List ℕ) → M a seen (back ++ more) → (b : B) (r : List ℕ) → Then L M b ((front ++ back) ++ r) → M a b (back ++ r) ⊎ Parts r rest
@@ -181,7 +181,7 @@ after_first {L = L} {M = M} one follows a front la back rest ends seen more ms b
           absurd (here_again w.0 w.1 (back ++ r) (subst (λ (t : List ℕ). Parts t (w.0 ∷ w.1)) w.3 p))
     ]
 
--- what the second reads, where the first read a
+-- what the second reads after the first read a
 abbrev pub IsRightAfter : {A B : Type 0} → Result (A × List ℕ) ℕ → (A → B → List ℕ → Type 0) → (A → List ℕ → Result (B × List ℕ) ℕ) → Type 0
 IsRightAfter {A = A} r M Q = (a : A) (mid : List ℕ) → r ≡ Ok (a, mid) → IsRight (M a) mid (Q a mid)
 
@@ -281,7 +281,7 @@ then_right one follows has e f = record {
 pub then_exact : {A B : Type 0} {L : A → List ℕ → Type 0} {M : A → B → List ℕ → Type 0} {P : List ℕ → Result (A × List ℕ) ℕ} {Q : A → List ℕ → Result (B × List ℕ) ℕ} → Follows L M → Exact L P → ((a : A) → Exact (M a) (Q a)) → Exact (Then L M) (λ bytes. P bytes >>= λ x. Q x.0 x.1)
 then_exact follows e f = exact_from (λ bytes. then_right (one_value e) follows (λ a. inhabited (f a)) (right e bytes) (λ a mid h. right (f a) mid))
 
--- ---- a value made of the last one
+-- ---- a function of the value that was read
 
 pub record Made {A B : Type 0} (L : A → List ℕ → Type 0) (make : A → B) (b : B) (text : List ℕ) : Type 0 where
   pub from : A
@@ -319,7 +319,7 @@ made_exact {L = L} {P = P} make e = record {
       rw (one, m.is) refl;
 }
 
--- ---- the same language in other words
+-- ---- the same language, defined by other words
 
 pub exact_as : {A : Type 0} {L K : A → List ℕ → Type 0} {P : List ℕ → Result (A × List ℕ) ℕ} → ((a : A) (t : List ℕ) → L a t → K a t) → ((a : A) (t : List ℕ) → K a t → L a t) → Exact L P → Exact K P
 exact_as to from e = record {

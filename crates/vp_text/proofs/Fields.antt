@@ -1,4 +1,4 @@
--- Fields one after the other: what stands behind a number or a word begins with a byte that belongs to neither.
+-- Fields one after the other: what follows a number or a word begins with a byte that belongs to neither.
 use Rattle.std.proofs.Common.{◌≡◌, ℕ, ◌^◌, ◌≤◌, ◌<◌, Bool, true, false, List, [], ◌∷◌, ◌++◌, length, Result, sym, ap, subst, ◌∙◌, arith}
 use Rattle.std.proofs.lemmas.List.{length-append}
 use Rattle.std.proofs.lemmas.Bool.{false≢true, and_from, le-leb}
@@ -9,7 +9,7 @@ use Rattle.vp_text.proofs.Items.{all_at}
 use Rattle.vp_text.proofs.Words.{literal_exact, word_exact}
 use Rattle.vp_text.proofs.Numbers.{number_exact, digit_on}
 
--- The text begins with a byte that the test doesn't admit.
+-- The text begins with a byte that the test doesn't allow.
 abbrev pub Outside : (ℕ → Bool) → List ℕ → Type 0
 Outside has [] = ⊥
 Outside has (c ∷ cs) = has c ≡ false
@@ -18,7 +18,7 @@ outside_append : (has : ℕ → Bool) (p q : List ℕ) → Outside has p → Out
 outside_append has [] q h = absurd h
 outside_append has (c ∷ p) q h = h
 
--- Each text of the language does.
+-- Each text of the language begins with such a byte.
 abbrev pub IsOutside : {B : Type 0} → (ℕ → Bool) → (B → List ℕ → Type 0) → Type 0
 IsOutside {B = B} has M = (b : B) (t : List ℕ) → M b t → Outside has t
 

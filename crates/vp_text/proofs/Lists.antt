@@ -12,7 +12,7 @@ in_body : (body s : List ℕ) (x : ℕ) (r : List ℕ) → HasNoNewline (body ++
 in_body body [] x r h e = omega (arith, ap length e)
 in_body body (c ∷ s) x r h e = all_at (λ c. c ≡ 10 → ⊥) body c s h (let head : 10 ≡ c = cc in sym head)
 
--- a line doesn't go on to another
+-- a line is no beginning of a longer line
 pub no_prefix : (t : List ℕ) (x : ℕ) (r : List ℕ) → IsLine t → IsLine (t ++ x ∷ r) → ⊥
 no_prefix t x r h k =
     let e : h.0 ++ (10 ∷ x ∷ r) ≡ k.0 ++ 10 ∷ [] = sym (append_assoc h.0 (10 ∷ []) (x ∷ r)) ∙ ap (λ (z : List ℕ). z ++ x ∷ r) (sym h.2) ∙ k.2 in
@@ -25,7 +25,7 @@ parts_front : (s r : List ℕ) → Parts s (s ++ r) → ⊥
 parts_front [] r h = h
 parts_front (c ∷ s) r h = h refl
 
--- where the reading fails, no line stands
+-- where the reading fails, there is no line
 pub fault_no_line : {E : Type 0} (L : E → List ℕ → Type 0) → ((e : E) (t : List ℕ) → L e t → IsLine t) → (rest : List ℕ) (left : ℕ) → IsFault L rest left → (e : E) (t r : List ℕ) → L e t → rest ≡ t ++ r → ⊥
 fault_no_line L lines rest left f e t r l at =
     elim (cut f.front f.rest t r (sym f.parts ∙ at)) [
@@ -35,7 +35,7 @@ fault_no_line L lines rest left f e t r l at =
           no_prefix t w.0 (w.1 ++ f.begins.more) (lines e t l) (lines f.begins.value (t ++ w.0 ∷ (w.1 ++ f.begins.more)) longer)
     ]
 
--- ---- what is longest in the rest is longest in its first line
+-- ---- the longest prefix in the rest is the longest prefix in its first line
 
 line_tail_at : (c : ℕ) (t body : List ℕ) → c ≢ 10 → HasNoNewline body → c ∷ t ≡ body ++ 10 ∷ [] → IsLine t
 line_tail_at c t [] other h e = absurd (other (let head : c ≡ 10 = cc in head))
@@ -92,12 +92,12 @@ longest_in_line {L = L} lines rest k l =
     }
 
 module _ {S E : Type 0} (first : S) (after : S → E → S) (Line : S → E → List ℕ → Type 0) (Onward : S → E → Type 0) (read : S → List ℕ → Result (E × List ℕ) ℕ) where
-  -- what the states of a text of at most `most` bytes have to be like
+  -- what must hold of the states for texts of at most `most` bytes
   pub record Readable (most : ℕ) : Type 0 where
     pub exact : (es : List E) (t : List ℕ) → length t ≤ most → LinesText first after Line Onward es t → Exact (Line (reached first after Line Onward es)) (read (reached first after Line Onward es))
     pub lines : (es : List E) (t : List ℕ) → length t ≤ most → LinesText first after Line Onward es t → (e : E) (u : List ℕ) → Line (reached first after Line Onward es) e u → IsLine u
 
-  -- where the reading stands, in the state s, before the line of this number
+  -- the place that the reading has reached, in the state s, before the line of this number
   pub record SoFar (text rest : List ℕ) (s : S) (line : ℕ) : Type 0 where
     pub lines : List E
     pub front : List ℕ

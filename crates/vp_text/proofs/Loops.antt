@@ -1,4 +1,4 @@
--- The loops of a cursor's methods, a turn at a time.
+-- The loops of a cursor's methods, one turn at a time.
 use Rattle.std.proofs.Common.{◌≡◌, ℕ, zero, suc, ◌+◌, ◌*◌, ◌-◌, ◌≤◌, ◌<◌, Bool, true, false, ltb, ◌&&◌, List, [], ◌∷◌, length, get_or, take, drop, Some, None, Result, Ok, Err, refl, sym, ap, ◌∙◌, arith, inl, inr}
 use Rattle.std.proofs.lemmas.List.{length-take, drop_more, take_more, drop_all, nil_from_length}
 use Rattle.std.proofs.lemmas.Bool.{eq-eqb, ne_eqb, lt-ltb, le-ltb, lt-leb, and_left, and_right, cases_lt}
@@ -72,7 +72,7 @@ word_ends has most bytes n some le stops = word_stops has most bytes n le stops 
 pub word_fails : (has : ℕ → Bool) (most : ℕ) (bytes : List ℕ) (n : ℕ) → n ≡ 0 → (n < length bytes → n < most → has (get_or bytes n 0) ≡ false) → word_from has most bytes n ≡ Err (length bytes)
 word_fails has most bytes n e stops = word_stops has most bytes n (omega arith) stops ∙ rw e refl
 
--- ---- a number too large
+-- ---- a number that is too large
 
 begins_past : (least most n : ℕ) → most < suc n → begins_number least most (suc n) ≡ false
 unfolding begins_number

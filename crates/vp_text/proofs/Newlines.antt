@@ -17,7 +17,7 @@ abbrev pub clean : List ℕ → Bool
 clean [] = true
 clean (c ∷ key) = nat_lt 10 c && clean key
 
--- a short text without newlines
+-- a short text without newlines, found by computing
 pub key_clean : (key : List ℕ) → clean key ≡ true → HasNoNewline key
 key_clean [] e = tt
 key_clean (c ∷ key) e = let h = and_parts (nat_lt 10 c) (clean key) e in (λ same. let lt = ltb-true 10 c h.0 in omega arith, key_clean key h.1)

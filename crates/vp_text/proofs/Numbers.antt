@@ -15,7 +15,7 @@ use Rattle.vp_text.proofs.Scan.{scan_exact}
 use Rattle.vp_text.proofs.Items.{all_append, all_push, all_back, all_at}
 use Rattle.vp_text.proofs.Words.{chose, chose_none}
 
--- the number that decimal digits stand for, behind the digits of n
+-- the number whose decimal digits are those of n and then these
 abbrev pub decimal_value : ℕ → List ℕ → ℕ
 decimal_value n [] = n
 decimal_value n (c ∷ cs) = decimal_value (n * 10 + (c - 48)) cs
@@ -49,7 +49,7 @@ tens_some : (k : ℕ) → 1 ≤ tens k
 tens_some zero = omega arith
 tens_some (suc k) = omega (arith, tens_some k)
 
--- ---- the test of a range
+-- ---- the test whether a number in the range begins so
 
 meets_sound : (least most fuel low high : ℕ) → meets least most fuel low high ≡ true → (k : ℕ) × (low * tens k ≤ most) × (least < (high + 1) * tens k)
 meets_sound least most zero low high e = absurd (false≢true e)
@@ -80,7 +80,7 @@ meets_complete (suc fuel) (suc k) least most low high some far under over =
     let f : (b : Bool) → cond b true (meets least most fuel (low * 10) (high * 10 + 9)) ≡ true = λ b. elim b as (λ b. cond b true (meets least most fuel (low * 10) (high * 10 + 9)) ≡ true) [ true ↦ refl | false ↦ more ] in
     rw in_range (f (leb least high))
 
--- ---- what digits stand for
+-- ---- the value of digits
 
 pub decimal_value-append : (n : ℕ) (xs ys : List ℕ) → decimal_value n (xs ++ ys) ≡ decimal_value (decimal_value n xs) ys
 decimal_value-append n [] ys = refl
@@ -157,7 +157,7 @@ number_text least most n fits above below =
     let w = written n fits in
     record { digits = w.digits; first = no_zero n (decimal n) w; value = w.value; above = above; below = below }
 
--- ---- the state behind some digits
+-- ---- the state after some digits
 
 record Digits (least most n : ℕ) (p : List ℕ) : Type 0 where
   digits : AllByRecursion IsDigit p
@@ -170,7 +170,7 @@ At least most None p = p ≡ []
 At least most (Some zero) p = (p ≡ 48 ∷ []) × (least ≡ 0)
 At least most (Some (suc n)) p = Digits least most (suc n) p
 
--- where digits can go on, so that the number lies in the range
+-- where more digits can follow so that the number is in the range
 begins_complete : (least most n : ℕ) (r : List ℕ) → most < 2 ^ 64 → AllByRecursion IsDigit r → least ≤ decimal_value (suc n) r → decimal_value (suc n) r ≤ most → begins_number least most (suc n) ≡ true
 unfolding begins_number
 begins_complete least most n r fits digits above below =
@@ -344,7 +344,7 @@ number_exact least most range fits = exact_as
     (λ n text h. subst (HasDigits least most n) (sym h.is) (number_text least most n (omega (arith, h.below)) h.above h.below))
     (digits_exact least most range fits)
 
--- what stands behind a number is no digit
+-- what follows a number is no digit
 pub digit_on : (least most m : ℕ) (text : List ℕ) (x : ℕ) (r : List ℕ) → most < 2 ^ 64 → IsNumber least most m (text ++ x ∷ r) → IsDigit x
 digit_on least most m text x r fits h = all_at IsDigit text x r (subst (HasDigits least most m) (sym h.is) (number_text least most m (omega (arith, h.below)) h.above h.below)).digits
 

@@ -1,4 +1,4 @@
--- Texts that are put down part by part: where a part fails, a beginning of the whole stands there.
+-- Texts that are printed part by part: where a part fails, a beginning of the whole was printed.
 use Rattle.std.proofs.Common.{◌≡◌, ℕ, true, nat_eq, List, [], ◌∷◌, ◌++◌, length, get_or, take, drop, zero, suc, ◌<◌, refl, sym, ap, subst, ◌∙◌, append_assoc, arith}
 use Rattle.std.specs.Prelude.{⊤, Result, Ok, Err, IsErr, OnOk, OnErr}
 use Rattle.std.specs.List.{starts_with, flat_map}
@@ -8,14 +8,14 @@ use Rattle.std.proofs.lemmas.Bool.Decides.{Decides-eqb}
 use Rattle.std.proofs.lemmas.Slice.Eq.{starts_is}
 use Rattle.vp_text.specs.Printing.{Appends, is_begun}
 
--- what stands behind the old bytes, and what is missing of the text
+-- what was appended to the old bytes, and what is missing of the text
 pub record IsBegun (old text new : List ℕ) : Type 0 where
   pub front : List ℕ
   pub rest : List ℕ
   pub is : new ≡ old ++ front
   pub parts : text ≡ front ++ rest
 
--- where a text starts with another one, the rest stands behind that
+-- where a text starts with another one, the rest follows that
 pub starts_Decides : (w p : List ℕ) → (starts_with nat_eq w p ≡ true → w ≡ p ++ drop (length p) w) × ((r : List ℕ) → w ≡ p ++ r → starts_with nat_eq w p ≡ true)
 starts_Decides w p = starts_is Decides-eqb w p (starts_with nat_eq w p) refl
 
@@ -66,7 +66,7 @@ begun_then old first more new h =
 pub begun_byte : (old : List ℕ) (byte : ℕ) (more new : List ℕ) → is_begun (old ++ byte ∷ []) more new ≡ true → is_begun old (byte ∷ more) new ≡ true
 begun_byte old byte more new h = begun_then old (byte ∷ []) more new h
 
--- the texts of some items of a list, and a beginning of the text of the next
+-- the texts of the first items of a list, and a beginning of the text of the next
 items_at : {X : Type 0} (f : X → List ℕ) (xs : List X) (i : ℕ) (x : X) → i < length xs → x ≡ get_or xs i x → flat_map f xs ≡ flat_map f (take i xs) ++ (f x ++ flat_map f (drop (suc i) xs))
 items_at f [] i x lt e = absurd (omega (arith, lt))
 items_at f (y ∷ ys) zero x lt e = ap (λ z. f z ++ flat_map f ys) (sym e)
@@ -93,7 +93,7 @@ begun_on old text mid rest new all before h =
       parts = b.parts ∙ ap (λ (x : List ℕ). b.front ++ x) (sym same ∙ m.parts) ∙ sym (append_assoc b.front m.front m.rest);
     })
 
--- ---- what a printer answers
+-- ---- what a printer returns
 
 -- all of the text
 pub all_of : {E : Type 0} (old text new : List ℕ) → new ≡ old ++ text → Appends {E = E} (Ok tt) old text new

@@ -1,4 +1,4 @@
--- Any number of items is read exactly, where each item opens otherwise than the ending.
+-- Any number of items is read exactly, where each item begins otherwise than the ending.
 use Rattle.std.proofs.Common.{◌≡◌, ℕ, zero, suc, ◌<◌, Bool, true, false, List, [], ◌∷◌, ◌++◌, length, Option, Some, None, Result, Ok, Err, refl, sym, ap, subst, ◌∙◌, append_assoc, arith, inl, inr, cond}
 use Rattle.std.proofs.lemmas.List.{append-nil, length-append}
 use Rattle.std.proofs.lemmas.Bool.{false≢true}
@@ -10,7 +10,7 @@ use Rattle.vp_text.proofs.Words.{literal_exact}
 use Rattle.vp_text.proofs.Fields.{Outside, parts_outside}
 use Rattle.vp_text.proofs.Choices.{IsClear, either_exact, Opens, differ, clear_keys, made_opens, GoesOn}
 
--- the same answers in other words
+-- the same result for a language in other words
 pub right_as : {A : Type 0} {L K : A → List ℕ → Type 0} {bytes : List ℕ} {r : Result (A × List ℕ) ℕ} → ((a : A) (t : List ℕ) → L a t → K a t) → ((a : A) (t : List ℕ) → K a t → L a t) → IsRight L bytes r → IsRight K bytes r
 right_as to from e = record {
   ok = λ a rest h. let p = e.ok a rest h in record { text = p.text; spelled = to a p.text p.spelled; parts = p.parts; ends = λ b r k. p.ends b r (from b (p.text ++ r) k) };
@@ -57,7 +57,7 @@ made_right {L = L} {r = r} make e = record {
 }
 
 module _ {S X : Type 0} (may : S → Bool) (next : S → X → S) (L : S → X → List ℕ → Type 0) (item : S → List ℕ → Result (X × List ℕ) ℕ) (key ending : List ℕ) (has : ℕ → Bool) where
-  -- what the items have to be like
+  -- what must hold of the items
   pub record Repeats : Type 0 where
     pub exact : (s : S) → may s ≡ true → Exact (L s) (item s)
     pub opens : (s : S) → Opens key (L s)
@@ -74,12 +74,12 @@ module _ {S X : Type 0} (may : S → Bool) (next : S → X → S) (L : S → X �
   abbrev Item : S → Option X → List ℕ → Type 0
   Item s = Made (L s) (λ x. Some x)
 
-  -- what may stand next
+  -- what may come next
   abbrev pub Next : S → Option X → List ℕ → Type 0
   Next s None text = text ≡ ending
   Next s (Some x) text = (may s ≡ true) × L s x text
 
-  -- and behind it
+  -- and after it
   After : S → Option X → List X → List ℕ → Type 0
   After s None xs text = (xs ≡ []) × (text ≡ [])
   After s (Some x) xs text = Made (HasItems may next L ending (next s x)) (λ xs. x ∷ xs) xs text
@@ -133,7 +133,7 @@ module _ {S X : Type 0} (may : S → Bool) (next : S → X → S) (L : S → X �
       ] in
       f (may s) refl
 
-  -- the ending goes on to nothing, and an item goes on with bytes that open neither
+  -- the ending is final, and an item goes on only with bytes that begin neither another item nor the ending
   follows : Repeats → (s : S) → Follows (Next s) (After s)
   unfolding After
   follows w s None None text x r xs t before longer after = absurd (omega (arith, ap length before, ap length longer, length-append text (x ∷ r)))
@@ -191,7 +191,7 @@ module _ {S X : Type 0} (may : S → Bool) (next : S → X → S) (L : S → X �
 
 -- ---- a loop over the items
 
--- what was read before, and what is still read
+-- the items that were read before, and those that are read from here on
 abbrev pub with_front : {X : Type 0} → List X → Result (List X × List ℕ) ℕ → Result (List X × List ℕ) ℕ
 with_front front read = read >>= λ x. Ok (front ++ x.0, x.1)
 

@@ -5,7 +5,7 @@ use Rattle.vp_text.specs.Meaning.{Begins}
 use Rattle.vp_text.specs.Reading.{scan, ended}
 use Rattle.vp_text.proofs.Exact.{Apart, Parts, IsRead, IsFault, Exact, done, ok_value}
 
--- What one step of a scan says of the language, where `At s front` says that s is the state behind the front.
+-- What one step of a scan says of the language, where `At s front` means that s is the state after the front.
 pub record Scans {S A : Type 0} (L : A → List ℕ → Type 0) (step : S → ℕ → Option S) (finish : S → Option A) (At : S → List ℕ → Type 0) : Type 0 where
   pub viable : (s : S) (p : List ℕ) → At s p → Begins L p
   pub more : (s : S) (p : List ℕ) (c : ℕ) (t : S) → At s p → step s c ≡ Some t → At t (p ++ c ∷ [])
@@ -77,7 +77,7 @@ scan_err {L = L} {step = step} {finish = finish} w s p (c ∷ cs) left at h0 =
     ] in
     record { front = p; rest = c ∷ cs; parts = refl; left_is = v.1; begins = w.viable s p at; diverges = diverges }) h0
 
--- a state behind a whole text of a has the value a
+-- a state after a whole text of a has the value a
 finished : {S A : Type 0} {L : A → List ℕ → Type 0} {step : S → ℕ → Option S} {finish : S → Option A} {At : S → List ℕ → Type 0} → Scans L step finish At
     → (s : S) (p : List ℕ) (a : A) → At s p → L a p → finish s ≡ Some a
 finished {finish = finish} w s p a at l =

@@ -6,7 +6,7 @@ use Rattle.vp_text.specs.Meaning.{Begins, IsLongest, IsRefused}
 use Rattle.vp_text.specs.Reading.{◌>>=◌, end_at, whole}
 use Rattle.vp_text.proofs.Exact.{Apart, Parts, IsRead, IsFault, Exact, bind_ok, bind_err, ok_value}
 
--- a longer prefix has a byte of the rest behind the front
+-- a longer prefix has a byte of the rest after the front
 longer : (n : ℕ) (front rest : List ℕ) → length front < n → n ≤ length (front ++ rest) → (c : ℕ) × (cs r : List ℕ) × (rest ≡ c ∷ cs) × (take n (front ++ rest) ≡ front ++ c ∷ r)
 longer zero front rest lt le = absurd (omega arith)
 longer (suc n) [] [] lt le = absurd (omega arith)
@@ -56,7 +56,7 @@ fault_left bytes left f = omega (arith, ap length f.parts, length-append f.front
 pub fault_none : {A : Type 0} {L : A → List ℕ → Type 0} (bytes : List ℕ) (left : ℕ) → IsFault L bytes left → (a : A) → L a bytes → ⊥
 fault_none {L = L} bytes left f a l = parts_same f.rest (f.diverges a f.rest (subst (λ (x : List ℕ). L a x) f.parts l))
 
--- a value's text, and then more
+-- a value's text, and then more bytes
 more_refused : {A : Type 0} {L : A → List ℕ → Type 0} (bytes : List ℕ) (a : A) (c : ℕ) (cs : List ℕ) → IsRead L bytes a (c ∷ cs) → IsRefused L bytes (length bytes - length (c ∷ cs))
 more_refused {L = L} bytes a c cs p =
     let at : length p.text ≡ length bytes - length (c ∷ cs) = omega (arith, ap length p.parts, length-append p.text (c ∷ cs)) in

@@ -10,7 +10,7 @@ use Rattle.vp_text.proofs.Exact.{Exact}
 use Rattle.vp_text.proofs.Items.{all_at, all_push}
 use Rattle.vp_text.proofs.Scan.{scan_exact}
 
--- what a test that chose `Some` says, and one that chose `None`
+-- what follows where a test chose `Some`, and where it chose `None`
 pub chose : {A : Type 0} (b : Bool) (x y : A) → cond b (Some x) None ≡ Some y → (b ≡ true) × (x ≡ y)
 chose true x y e = (refl, cc)
 chose false x y e = absurd cc

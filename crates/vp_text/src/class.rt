@@ -3,17 +3,17 @@
 ghost use Rattle.std.specs.Prelude.{◌≡◌};
 ghost use Rattle.vp_text.specs.Classes.{has, most};
 
-/// A kind of words: which bytes a word has, and how many of them at most. A word has at least one byte.
+/// A kind of words: which bytes a word may have, and how many of them at most. Every word has at least one byte.
 #[derive(Clone, Copy, Debug, PartialEq, Eq)]
 pub enum Class {
     /// 1 to 16 bytes, each a lower-case letter of ASCII, a digit or an underscore.
     Name,
-    /// 1 to 64 bytes, each a printed byte of ASCII that is no space.
+    /// 1 to 64 bytes, each printable ASCII and not a space.
     Value,
 }
 
 impl Class {
-    /// Whether a word of this kind may have the byte, at any place.
+    /// Whether a word of this kind may contain the byte; the place in the word makes no difference.
     pub fn has(self, byte: u8) -> bool
         ensures { result ≡ has self byte }
     {
@@ -23,7 +23,7 @@ impl Class {
         }
     }
 
-    /// The length in bytes of the longest words of this kind.
+    /// The length in bytes of the longest words of this kind: 16 for names, 64 for values.
     pub fn most(self) -> usize
         ensures { result ≡ most self }
     {

@@ -1,4 +1,4 @@
-//! A place in a text, from which fields are taken.
+//! A cursor: a place in a text, from which fields are read.
 
 ghost use Rattle.std.specs.Prelude.{◌≡◌, ◌≤◌, length, drop, min, IfOk, IfErr};
 ghost use Rattle.vp_text.specs.Reading.{Reads, end_at, literal_at, word_at, number_at};
@@ -9,15 +9,15 @@ use crate::class::Class;
 use crate::digits::with_digit;
 use std::marker::Model;
 
-/// A fault: with so many bytes left, no text that may stand here goes on as the bytes do.
+/// The fault where `left` bytes are still unread: no allowed text goes on from there as the bytes do.
 #[derive(Clone, Copy, Debug, PartialEq, Eq)]
 pub struct Unexpected {
     pub left: usize,
 }
 
 impl Unexpected {
-    /// Of two faults in one text the one that lies farther on: where two readings of it fail, nothing allowed goes
-    /// on as the bytes do from there, and what went wrong before is no fault.
+    /// Chooses, of two faults in one text, the one farther on. Where two readings of a text both fail, only the farther one's place
+    /// is a fault: up to there one of them could go on.
     pub fn farther(self, other: Unexpected) -> Unexpected
         ensures { result.left ≡ min self.left other.left }
     {
@@ -27,10 +27,10 @@ impl Unexpected {
     }
 }
 
-/// A place in a text: contracts see the bytes from there on.
+/// A place in a text. A contract sees it as the bytes from there to the end.
 ///
-/// Each method that takes a field moves the cursor behind it. After an `Err` the cursor stands at the fault, so that what was
-/// taken of the field is gone: to try another reading, `fork` the cursor first.
+/// Each method that reads a field moves the cursor to the end of that field. After an `Err` the cursor is at the fault, and the
+/// bytes before the fault are passed: to try another reading, `fork` the cursor first.
 #[derive(Drop)]
 pub struct Cursor<'a> {
     rest: &'a [u8],
@@ -45,35 +45,35 @@ impl<'a> Model for Cursor<'a> {
 }
 
 impl<'a> Cursor<'a> {
-    /// The start of the text.
+    /// Makes a cursor at the start of the text.
     pub fn new(text: &'a [u8]) -> Cursor<'a>
         ensures { result ≡ text.now }
     {
         Cursor { rest: text }
     }
 
-    /// How many bytes are left.
+    /// The number of bytes that are left.
     pub fn left(&self) -> usize
         ensures { result ≡ length self.now }
     {
         self.rest.len()
     }
 
-    /// The bytes that are left. They outlive the cursor.
+    /// The bytes that are left. They may be used for longer than the cursor.
     pub fn rest(&self) -> &'a [u8]
         ensures { result.now ≡ self.now }
     {
         self.rest
     }
 
-    /// Another cursor at the same place, which moves by itself.
+    /// Makes another cursor at the same place; moving one does not move the other.
     pub fn fork(&self) -> Cursor<'a>
         ensures { result ≡ self.now }
     {
         Cursor { rest: self.rest }
     }
 
-    /// Passes over so many bytes, whatever they are.
+    /// Passes over `count` bytes, whatever they are.
     pub fn advance(&mut self, count: usize)
         requires { count ≤ length self.old }
         ensures { self.new ≡ drop count self.old }
@@ -81,7 +81,7 @@ impl<'a> Cursor<'a> {
         self.rest = &self.rest[count..];
     }
 
-    /// Takes the end of the text: nothing is left. The cursor stays where it is.
+    /// Succeeds at the end of the text, where nothing is left. The cursor doesn't move.
     pub fn end(&mut self) -> Result<(), Unexpected>
         ensures read { Reads (λ x. x) (λ e. e.left) result self.new (end_at self.old) }
         ensures unmoved { self.new ≡ self.old }
@@ -96,7 +96,7 @@ impl<'a> Cursor<'a> {
         }
     }
 
-    /// Takes the bytes of this text.
+    /// Reads exactly these bytes.
     pub fn literal(&mut self, text: &[u8]) -> Result<(), Unexpected>
         ensures read { Reads (λ x. x) (λ e. e.left) result self.new (literal_at text.now self.old) }
         ensures stands { IfErr result (λ e. length self.new ≡ e.left) }
@@ -114,7 +114,7 @@ impl<'a> Cursor<'a> {
         Ok(())
     }
 
-    /// Takes a word of the kind, as long as it goes: up to the first byte that it can't have, or that would make it too long.
+    /// Reads a word of the kind, as long as it goes: up to the first byte that is not allowed in it or would make it too long.
     pub fn word(&mut self, class: Class) -> Result<&'a [u8], Unexpected>
         ensures read { Reads (λ x. x.now) (λ e. e.left) result self.new (word_at (has class) (most class) self.old) }
         ensures allowed { IfOk result (λ w. IsWord (has class) (most class) w.now w.now) }
@@ -134,7 +134,7 @@ impl<'a> Cursor<'a> {
         Ok(word)
     }
 
-    /// Takes a number of 8 bits from `least` to `most`, as `number` does.
+    /// Reads a number from `least` to `most` that has 8 bits, as `number` does.
     pub fn number_u8(&mut self, least: u8, most: u8) -> Result<u8, Unexpected>
         ensures read { Reads (λ x. x) (λ e. e.left) result self.new (number_at least most self.old) }
         ensures range { IfOk result (λ n. (least ≤ n) × (n ≤ most)) }
@@ -144,7 +144,7 @@ impl<'a> Cursor<'a> {
         Ok(number as u8)
     }
 
-    /// Takes a number of 32 bits from `least` to `most`, as `number` does.
+    /// Reads a number from `least` to `most` that has 32 bits, as `number` does.
     pub fn number_u32(&mut self, least: u32, most: u32) -> Result<u32, Unexpected>
         ensures read { Reads (λ x. x) (λ e. e.left) result self.new (number_at least most self.old) }
         ensures range { IfOk result (λ n. (least ≤ n) × (n ≤ most)) }
@@ -154,10 +154,10 @@ impl<'a> Cursor<'a> {
         Ok(number as u32)
     }
 
-    /// Takes a number from `least` to `most`, in decimal digits without leading zeros.
+    /// Reads a number from `least` to `most`, in decimal digits without leading zeros.
     ///
-    /// It takes a digit only where some number of the range begins so: from 1 to 16 it takes the 1 of `17` and leaves the 7,
-    /// and from 5 to 9 it takes nothing of `30`.
+    /// It reads a digit only where some number of the range begins with the digits up to it: from 1 to 16 it reads the 1 of `17`
+    /// and leaves the 7, and from 5 to 9 it reads nothing of `30`.
     pub fn number(&mut self, least: u64, most: u64) -> Result<u64, Unexpected>
         ensures read { Reads (λ x. x) (λ e. e.left) result self.new (number_at least most self.old) }
         ensures range { IfOk result (λ n. (least ≤ n) × (n ≤ most)) }

@@ -3,7 +3,7 @@
 ghost use Rattle.std.specs.Prelude.{◌≡◌};
 ghost use Rattle.vp_text.specs.Reading.{begins_number, number_step, stepped};
 
-/// The number with one digit more, where the digits of some number of the range begin so.
+/// Adds a digit to the number: `None` where the byte is no digit, or no number of the range begins with these digits.
 pub fn with_digit(number: Option<u64>, byte: u8, least: u64, most: u64) -> Option<u64>
     ensures { stepped result ≡ number_step least most number byte }
 {
@@ -19,7 +19,7 @@ pub fn with_digit(number: Option<u64>, byte: u8, least: u64, most: u64) -> Optio
     begins_some(next, least, most).then_some(next)
 }
 
-/// Whether the digits of some number of the range begin with those of this one.
+/// Whether some number of the range begins with the digits of this one.
 #[tactic(auto, unfolding(crate::specs::Reading::begins_number))]
 fn begins_some(number: u64, least: u64, most: u64) -> bool
     ensures { result ≡ begins_number least most number }

@@ -1,4 +1,4 @@
-//! Printing.
+//! Prints numbers.
 
 ghost use Rattle.std.specs.Prelude.{◌≡◌, ◌++◌, OnOk, OnErr};
 ghost use Rattle.std.specs.Fmt.{decimal};
@@ -6,7 +6,7 @@ ghost use Rattle.std.specs.Fmt.{decimal};
 use itoa::Buffer;
 use std::alloc::AllocError;
 
-/// Appends the number in decimal digits. Without memory the bytes stay as they are.
+/// Appends the number in decimal digits. Where memory is lacking, `out` stays as it is.
 #[tactic(auto, using(std::proofs::lemmas::Fmt::decimal_digit))]
 pub fn print_number(out: &mut Vec<u8>, number: u64) -> Result<(), AllocError>
     ensures ok { OnOk result (out.new.items ≡ out.old.items ++ decimal number) }

@@ -1,7 +1,7 @@
 use crate::{Class, Cursor, Unexpected, print_number};
 use std::alloc::AllocError;
 
-/// What a field of this text leads to: how many bytes are left behind it, or at its fault.
+/// Whether the field was read, with the number of bytes that are left after it or at its fault.
 fn left(taken: bool, cursor: &Cursor) -> (bool, usize) {
     (taken, cursor.left())
 }

@@ -2,7 +2,7 @@
 
 use std::alloc::Global;
 use vp_base::{NoMemory, RecId, SiteId, Sites};
-use vp_catalog::{Catalog, CatalogFault, take_site};
+use vp_catalog::{Catalog, CatalogFault, parse_site};
 use vp_text::{Cursor, print_number};
 
 /// The weight inside these members, and whether the record is accessible there.
@@ -31,11 +31,11 @@ fn weights_are_those_of_the_text(rt: HostRuntime) {
     assert_eq!(rt; catalog.total(RecId::new(0)), 2);
 }
 
-/// The site that is taken of these two where it has to be above a number, and how many bytes are left: 0 where none is taken.
+/// The site that is read of these two, which must be above a number, and how many bytes are left: 0 where none is read.
 fn taken(first: u8, second: u8, above: u8, text: &[u8]) -> Option<(u8, usize)> {
     let mut cursor = Cursor::new(text);
     let sites = [SiteId::new(first)?, SiteId::new(second)?];
-    Some(match take_site(&mut cursor, &sites, above) {
+    Some(match parse_site(&mut cursor, &sites, above) {
         Ok(site) => (site.get(), cursor.left()),
         Err(fault) => (0, fault.left),
     })
@@ -57,7 +57,7 @@ fn the_number_of_a_site_is_at_fault_where_no_site_goes_on(rt: HostRuntime) {
     assert!(rt; taken(3, 5, 3, b"3:") == Some((0, 2)));
 }
 
-/// Appends how the text is answered.
+/// Appends what the text is read as.
 fn tell(alloc: Global, text: &[u8], out: &mut Vec<u8>) -> Result<(), NoMemory> {
     let (word, line, at) = match Catalog::read(alloc, text) {
         Ok(_) => (b'a', 0, 0),
@@ -73,8 +73,8 @@ fn tell(alloc: Global, text: &[u8], out: &mut Vec<u8>) -> Result<(), NoMemory> {
     Ok(out.push(b' ')?)
 }
 
-/// How each of the texts, which end with a bar, is answered behind these lines: a catalogue (a), a bad line (b), a line twice (t), a
-/// line too many (m), with the line and the place.
+/// What each of the texts, which end with a bar, is read as after these lines: a catalogue (a), a bad line (b), a repeated line (t), a
+/// line too many (m), with the line and the byte.
 fn told(alloc: Global, lines: &[u8], texts: &[u8]) -> Result<Vec<u8>, NoMemory> {
     let mut out = Vec::new(alloc);
     let mut text = Vec::from_slice(alloc, lines)?;
@@ -175,7 +175,7 @@ fn what_was_read_is_printed(rt: HostRuntime) {
     assert_eq!(rt; out.as_slice(), text.as_slice());
 }
 
-/// Two sites and three records, of which site 1 has a copy of the first and the last.
+/// Two sites and three records; site 1 has a copy of the first and the last.
 fn three_records(alloc: Global) -> Result<Catalog, CatalogFault> {
     Catalog::read(
         alloc,
@@ -183,7 +183,7 @@ fn three_records(alloc: Global) -> Result<Catalog, CatalogFault> {
     )
 }
 
-/// The records of which the site has a copy, and 255 for each copy of another view than the opening one.
+/// The records of which the site has a copy, and 255 for each copy whose date isn't the opening view.
 fn starting(alloc: Global, catalog: &Catalog, site: SiteId) -> Result<Vec<u8>, NoMemory> {
     let mut recs = Vec::new(alloc);
     for (rec, stored) in catalog.copies(site)?.as_slice() {

@@ -2,10 +2,10 @@
 
 use std::alloc::Global;
 use std::process::Abort;
-use vp_base::{Name, NameFault, NoMemory, SiteId, TxnId, Value, ViewId, place, take_place};
+use vp_base::{Name, NameFault, NoMemory, SiteId, TxnId, Value, ViewId, parse_place, place};
 use vp_text::Cursor;
 
-/// The place of the fault, where there is one. Want of memory is no case of these tests.
+/// The byte of the fault, where there is one. These tests never run out of memory.
 fn fault_of<T: Drop>(read: Result<T, NameFault>) -> Option<usize> {
     match read {
         Ok(_word) => None,
@@ -53,7 +53,7 @@ fn printed_view(alloc: Global, view: ViewId) -> Result<Vec<u8>, NoMemory> {
     Ok(out)
 }
 
-/// Whether the text is a view that is printed as it was read, or is refused at the place.
+/// Whether the text is a view that is printed as it was read, or is refused at this byte.
 fn is_view(alloc: Global, text: &[u8], at: Option<usize>) -> Result<bool, NoMemory> {
     match ViewId::read(text) {
         Ok(view) => Ok(at.is_none() && printed_view(alloc, view)?.as_slice() == text),
@@ -89,7 +89,7 @@ fn printed_txn(alloc: Global, txn: TxnId) -> Result<Vec<u8>, NoMemory> {
     Ok(out)
 }
 
-/// Whether the text is a transaction that is printed as it was read, or is refused at the place.
+/// Whether the text is a transaction that is printed as it was read, or is refused at this byte.
 fn is_txn(alloc: Global, text: &[u8], at: Option<usize>) -> Result<bool, NoMemory> {
     match TxnId::read(text) {
         Ok(txn) => Ok(at.is_none() && printed_txn(alloc, txn)?.as_slice() == text),
@@ -129,30 +129,30 @@ fn later_views_are_taken(rt: HostRuntime) {
     ];
     for (text, taken, left) in cases {
         let mut cursor = Cursor::new(text);
-        let view = ViewId::take_from(&mut cursor, last);
+        let view = ViewId::parse_from(&mut cursor, last);
         assert_eq!(rt; (view.is_ok(), cursor.left()), (taken, left));
     }
 }
 
-/// Prints the name `ab` that is taken; false where it is none.
+/// Reads the name `ab` and prints it; false where it isn't there.
 fn takes_name(alloc: Global, cursor: &mut Cursor, out: &mut Vec<u8>) -> Result<bool, NoMemory> {
-    let Ok(name) = Name::take(alloc, cursor) else {
+    let Ok(name) = Name::parse(alloc, cursor) else {
         return Ok(false);
     };
     name.print(out)?;
     Ok(name.is(b"ab"))
 }
 
-/// Prints the value `=x~` that is taken; false where it is none.
+/// Reads the value `=x~` and prints it; false where it isn't there.
 fn takes_value(alloc: Global, cursor: &mut Cursor, out: &mut Vec<u8>) -> Result<bool, NoMemory> {
-    let Ok(value) = Value::take(alloc, cursor) else {
+    let Ok(value) = Value::parse(alloc, cursor) else {
         return Ok(false);
     };
     value.print(out)?;
     Ok(value.is(b"=x~"))
 }
 
-/// What is printed of a name and a value behind it; nothing where they are others.
+/// Reads a name and a value after it, and prints them; nothing where they are others.
 fn taken(alloc: Global, cursor: &mut Cursor) -> Result<Vec<u8>, NoMemory> {
     let mut out = Vec::new(alloc);
     if takes_name(alloc, cursor, &mut out)? && takes_value(alloc, cursor, &mut out)? {
@@ -171,7 +171,7 @@ fn words_are_taken_and_printed(rt: HostRuntime) {
         b"ab=x~".as_slice()
     );
     assert!(rt; cursor.literal(b" ").is_ok());
-    assert!(rt; SiteId::take(&mut cursor).is_ok());
+    assert!(rt; SiteId::parse(&mut cursor).is_ok());
     assert_eq!(rt; cursor.left(), 0);
 }
 
@@ -185,10 +185,10 @@ fn two_names(rt: &impl Abort, alloc: Global) -> Vec<Name> {
     names
 }
 
-/// The place of the name that is taken of these, and how many bytes are left.
+/// The index among these of the name that is read, and how many bytes are left.
 fn taken_place(names: &[Name], text: &[u8]) -> (Option<usize>, usize) {
     let mut cursor = Cursor::new(text);
-    match take_place(&mut cursor, names) {
+    match parse_place(&mut cursor, names) {
         Ok(found) => (Some(found), cursor.left()),
         Err(e) => (None, e.left),
     }

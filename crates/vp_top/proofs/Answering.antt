@@ -1,4 +1,4 @@
--- What a run prints is what its words define for its whole input, where neither its source nor its sink fails.
+-- A run prints what its words define for its whole input, if neither its source nor its sink fails.
 use Rattle.std.proofs.Common.{◌≡◌, ◌∙◌, ap, sym, subst, refl, arith, ℕ, ◌≤◌, ◌<◌, List, ◌++◌, length, append-nil, inl, inr, ◌⊎◌}
 use Rattle.std.specs.Prelude.{Option, Some, None, codes}
 use Rattle.std.proofs.Math.ListN.{length-append}
@@ -8,8 +8,8 @@ use Rattle.vp_outside.specs.Input.{SourceState, IsEnded}
 use Rattle.vp_serving.specs.Serving.{Outside}
 use Rattle.vp_words.specs.Commands.{command_of}
 use Rattle.vp_top.specs.Complete.{IsGiven}
-use Rattle.vp_top.specs.Ends.{Ends, EndsAsAudit, EndsAsNode, EndsInText, EndsOnDisk, IsPrinted}
-use Rattle.vp_top.specs.Program.{AreOf, CallsDisk, HasRead, IsAnswer, IsAnswered, IsDefined, IsNoCommand, IsTooLong, Reads, most_bytes, usage_text}
+use Rattle.vp_top.specs.Ends.{Ends, EndsAsAudit, EndsAsGateway, EndsAsNode, EndsInText, EndsOnDisk, IsPrinted}
+use Rattle.vp_top.specs.Program.{AreOf, CallsDisk, HasRead, IsAnswer, IsAnswered, IsDefined, IsForGateway, IsNoCommand, IsTooLong, Reads, most_bytes, usage_text}
 use Rattle.vp_status.specs.declared.status.Status.{Status}
 use Rattle.vp_status.specs.declared.status.Status.TheVariants as status
 use Rattle.vp_words.specs.declared.words.Command.{Command}
@@ -17,14 +17,14 @@ use Rattle.vp_words.specs.declared.words.Command.TheVariants as commands
 
 -- ---- the bytes that were taken
 
-taken_all : (left after : Option (List ℕ)) (given bytes : List ℕ) → left ≡ Some given → Consumes left after bytes → IsAtEnd after → bytes ≡ given
+pub taken_all : (left after : Option (List ℕ)) (given bytes : List ℕ) → left ≡ Some given → Consumes left after bytes → IsAtEnd after → bytes ≡ given
 taken_all None after given bytes e gone ended = cc
 taken_all (Some xs) None given bytes e gone ended = absurd gone
 taken_all (Some xs) (Some ys) given bytes e gone ended =
     let same : xs ≡ given = cc in
     sym (sym same ∙ gone ∙ ap (λ rest. bytes ++ rest) ended ∙ append-nil bytes)
 
-taken_few : (left after : Option (List ℕ)) (given bytes : List ℕ) → left ≡ Some given → Consumes left after bytes → length bytes ≤ length given
+pub taken_few : (left after : Option (List ℕ)) (given bytes : List ℕ) → left ≡ Some given → Consumes left after bytes → length bytes ≤ length given
 taken_few None after given bytes e gone = cc
 taken_few (Some xs) None given bytes e gone = absurd gone
 taken_few (Some xs) (Some ys) given bytes e gone =
@@ -43,7 +43,13 @@ no_command words c w none = let bad : Some c ≡ None = sym w ∙ none in cc
 reads_all : (c : Command) (bytes : List ℕ) (ended : Type 0) → Reads c → HasRead c bytes ended → (length bytes ≤ most_bytes) × ended
 reads_all (commands.Generate seed count) bytes ended reads read = absurd reads
 reads_all (commands.Soak seed count) bytes ended reads read = absurd reads
+reads_all (commands.Gateway own turns site) bytes ended reads read = absurd reads
 reads_all _ bytes ended reads read = read
+
+-- a gateway doesn't read its input to the end before it does anything
+reads_no_gateway : (c : Command) → Reads c → IsForGateway c → ⊥
+reads_no_gateway (commands.Gateway own turns site) reads is = reads
+reads_no_gateway _ reads is = is
 
 -- ---- what was printed
 
@@ -51,7 +57,7 @@ module _ (words : List (List ℕ)) (source source' : SourceState) (o : Outside) 
   abbrev Printed : Status → Type 0
   Printed end = IsPrinted words source source' o.link o.link' o.sink o.sink' end
 
-  -- a text that is so told was printed, or there was no memory
+  -- a text with this property was printed, or memory ran out
   abbrev pub Comes : (Status → List ℕ → Type 0) → Status → Type 0
   Comes Told end = ((text : List ℕ) × Told end text × Appends o.sink.held o.sink'.held text) ⊎ (end ≡ status.NoMemory)
 
@@ -81,8 +87,9 @@ module _ (words : List (List ℕ)) (source source' : SourceState) (o : Outside) 
 
   pub usage_told : command_of words ≡ None → (Rose o.sink.faults o.sink'.faults → ⊥) → (end : Status) → Ends words source source' o end
       → Comes (λ end text. (end ≡ status.Usage) × (text ≡ usage_text)) end
-  usage_told none calm end (inr (inl node)) = absurd (no_command words _ node.node.words_are none)
-  usage_told none calm end (inr (inr audit)) = absurd (no_command words _ audit.audit.words_are none)
+  usage_told none calm end (inr (inl (inl node))) = absurd (no_command words _ node.node.words_are none)
+  usage_told none calm end (inr (inl (inr audit))) = absurd (no_command words _ audit.audit.words_are none)
+  usage_told none calm end (inr (inr gateway)) = absurd (no_command words _ gateway.words_are none)
   usage_told none calm end (inl e) = told (λ end text. (end ≡ status.Usage) × (text ≡ usage_text)) end (printed end e (λ reads rose. no_command words reads.0 reads.1 none) calm) tells
     where
       tells : (p : Printed end) → (end ≡ status.Usage) × (p.text ≡ usage_text)
@@ -100,7 +107,10 @@ module _ (words : List (List ℕ)) (source source' : SourceState) (o : Outside) 
     no_disk other end (inl n) = other (subst CallsDisk (same_command words c (commands.Node n.site n.log n.turns) w n.node.words_are) tt)
     no_disk other end (inr a) = other (subst CallsDisk (same_command words c (commands.Audit a.logs) w a.audit.words_are) tt)
 
-    are_of : (P : Command → Type 0) → AreOf P words → P c
+    pub no_gateway : (IsForGateway c → ⊥) → (end : Status) → EndsAsGateway words source source' o end → ⊥
+    no_gateway other end g = other (subst IsForGateway (same_command words c (commands.Gateway g.own g.turns g.site) w g.words_are) tt)
+
+    pub are_of : (P : Command → Type 0) → AreOf P words → P c
     are_of P are = subst P (same_command words c are.0 w are.1) are.2
 
     answered_by : (bytes : List ℕ) (ended : Type 0) (end : Status) (text : List ℕ) → IsAnswered words bytes ended o.link o.link' end text → HasRead c bytes ended × IsAnswer c bytes o.link o.link' end text
@@ -109,7 +119,7 @@ module _ (words : List (List ℕ)) (source source' : SourceState) (o : Outside) 
         (subst (λ c. HasRead c bytes ended) same a.read, subst (λ c. IsAnswer c bytes o.link o.link' end text) same a.answer)
 
     -- what was printed is the answer to what was taken, where that is not too long
-    answer_to : (end : Status) (p : Printed end) → (IsTooLong words p.defines.bytes p.text → ⊥) → HasRead c p.defines.bytes (IsEnded source') × IsAnswer c p.defines.bytes o.link o.link' end p.text
+    pub answer_to : (end : Status) (p : Printed end) → (IsTooLong words p.defines.bytes p.text → ⊥) → HasRead c p.defines.bytes (IsEnded source') × IsAnswer c p.defines.bytes o.link o.link' end p.text
     answer_to end p short = go (defined_is p.defines.bytes (IsEnded source') end p.text p.defines.defined)
       where
         go : Cases p.defines.bytes (IsEnded source') end p.text → HasRead c p.defines.bytes (IsEnded source') × IsAnswer c p.defines.bytes o.link o.link' end p.text
@@ -119,9 +129,10 @@ module _ (words : List (List ℕ)) (source source' : SourceState) (o : Outside) 
 
     -- a command that reads nothing
     module _ (unread : Reads c → ⊥) (calm : Rose o.sink.faults o.sink'.faults → ⊥) (Told : Status → List ℕ → Type 0) (tells : (bytes : List ℕ) (end : Status) (text : List ℕ) → IsAnswer c bytes o.link o.link' end text → Told end text) where
-      pub unread_told : (CallsDisk c → ⊥) → (end : Status) → Ends words source source' o end → Comes Told end
-      unread_told other end (inr called) = absurd (no_disk other end called)
-      unread_told other end (inl e) =
+      pub unread_told : (CallsDisk c → ⊥) → (IsForGateway c → ⊥) → (end : Status) → Ends words source source' o end → Comes Told end
+      unread_told other none end (inr (inl called)) = absurd (no_disk other end called)
+      unread_told other none end (inr (inr gateway)) = absurd (no_gateway none end gateway)
+      unread_told other none end (inl e) =
           told Told end (printed end e (λ reads rose. unread (are_of Reads reads)) calm)
           (λ p. tells p.defines.bytes end p.text (answer_to end p (λ long. unread (are_of Reads long.0))).1)
 
@@ -138,8 +149,9 @@ module _ (words : List (List ℕ)) (source source' : SourceState) (o : Outside) 
 
       -- they are too many
       pub limit_told : most_bytes < length bytes → (end : Status) → Ends words source source' o end → Comes (λ end text. (end ≡ status.Limit) × (text ≡ codes "limit bytes 16777216\n")) end
-      limit_told many end (inr (inl node)) = let fits = node.node.fits in let all = ap (λ (d : List ℕ). length d) (node_bytes end node) in absurd (omega (arith, many, fits, all))
-      limit_told many end (inr (inr audit)) = let fits = audit.audit.fits in let all = ap (λ (d : List ℕ). length d) (audit_bytes end audit) in absurd (omega (arith, many, fits, all))
+      limit_told many end (inr (inr gateway)) = absurd (no_gateway (reads_no_gateway c reads) end gateway)
+      limit_told many end (inr (inl (inl node))) = let fits = node.node.fits in let all = ap (λ (d : List ℕ). length d) (node_bytes end node) in absurd (omega (arith, many, fits, all))
+      limit_told many end (inr (inl (inr audit))) = let fits = audit.audit.fits in let all = ap (λ (d : List ℕ). length d) (audit_bytes end audit) in absurd (omega (arith, many, fits, all))
       limit_told many end (inl e) = told (λ end text. (end ≡ status.Limit) × (text ≡ codes "limit bytes 16777216\n")) end (printed end e (λ reads. given.no_source_fault) given.no_sink_fault) tells
         where
           tells : (p : Printed end) → (end ≡ status.Limit) × (p.text ≡ codes "limit bytes 16777216\n")
@@ -168,5 +180,6 @@ module _ (words : List (List ℕ)) (source source' : SourceState) (o : Outside) 
                 omega (arith, few, fits, more)
 
         pub answer_told : (Told : Status → List ℕ → Type 0) → ((end : Status) (text : List ℕ) → IsAnswer c bytes o.link o.link' end text → Told end text) → ((end : Status) → EndsOnDisk words source source' o end → ⊥) → (end : Status) → Ends words source source' o end → Comes Told end
-        answer_told Told tells other end (inr called) = absurd (other end called)
+        answer_told Told tells other end (inr (inl called)) = absurd (other end called)
+        answer_told Told tells other end (inr (inr gateway)) = absurd (no_gateway (reads_no_gateway c reads) end gateway)
         answer_told Told tells other end (inl e) = told Told end (printed end e (λ reads. given.no_source_fault) given.no_sink_fault) (λ p. tells end p.text (answer_is end p))

@@ -1,4 +1,4 @@
--- What an audit comes to, where nothing fails.
+-- What an audit prints, if nothing fails.
 use Rattle.std.proofs.Common.{◌≡◌, ◌∙◌, ap, sym, subst, refl, ℕ, true, false, List, inl, inr, ◌⊎◌}
 use Rattle.std.specs.Prelude.{Some, Ok}
 use Rattle.std.specs.Io.KnownBytes.{Appends}
@@ -7,7 +7,7 @@ use Rattle.vp_catalog.specs.Document.{Answered, IsOnly}
 use Rattle.vp_outside.specs.Causes.{Rose}
 use Rattle.vp_outside.specs.Input.{SourceState}
 use Rattle.vp_serving.specs.Serving.{Outside}
-use Rattle.vp_commands.specs.Audits.{AuditGives}
+use Rattle.vp_top.specs.Audits.{AuditGives}
 use Rattle.vp_status.specs.Printing.{Prints}
 use Rattle.vp_status.specs.declared.status.Status.{Status}
 use Rattle.vp_status.specs.declared.status.Status.TheVariants as status
@@ -16,7 +16,7 @@ use Rattle.vp_words.specs.declared.words.Command.TheVariants as commands
 use Rattle.vp_top.specs.Complete.{Fits, IsAudited, IsGiven}
 use Rattle.vp_top.specs.Ends.{Ends, EndsAsAudit, EndsAsNode, EndsOnDisk, IsPrinted, PrintsAudit}
 use Rattle.vp_top.specs.Program.{IsCatalogueOf, has_all}
-use Rattle.vp_top.proofs.Answering.{answer_is, audit_bytes, printed, same_command}
+use Rattle.vp_top.proofs.Answering.{answer_is, audit_bytes, no_gateway, printed, same_command}
 use Rattle.vp_top.proofs.Completing.{not_lacking, same_catalogue}
 
 module _ (words : List (List ℕ)) (logs : List (ℕ × List ℕ)) (bytes : List ℕ) (catalogue : Catalogue) (w : command_of words ≡ Some (commands.Audit logs))
@@ -34,7 +34,7 @@ module _ (words : List (List ℕ)) (logs : List (ℕ × List ℕ)) (bytes : List
   no_node end n =
       let bad : commands.Node n.site n.log n.turns ≡ commands.Audit logs = same_command words (commands.Audit logs) (commands.Node n.site n.log n.turns) w n.node.words_are in cc
 
-  -- nothing is audited where a site is missing
+  -- nothing is audited if a site is missing
   pub none_audited : has_all catalogue logs ≡ false → (end : Status) → EndsOnDisk words source source' o end → ⊥
   none_audited missing end (inl n) = no_node end n
   none_audited missing end (inr a) =
@@ -61,8 +61,9 @@ module _ (words : List (List ℕ)) (logs : List (ℕ × List ℕ)) (bytes : List
     by_logs end (inr memory) = from_memory end memory.0
 
     pub audit_ends : Fits bytes → has_all catalogue logs ≡ true → (end : Status) → Ends words source source' o end → IsAudited catalogue logs o end
-    audit_ends fits there end (inr (inl n)) = absurd (no_node end n)
-    audit_ends fits there end (inr (inr a)) =
+    audit_ends fits there end (inr (inr g)) = absurd (no_gateway words source source' o (commands.Audit logs) w (λ is. is) end g)
+    audit_ends fits there end (inr (inl (inl n))) = absurd (no_node end n)
+    audit_ends fits there end (inr (inl (inr a))) =
         by_logs end (subst (λ (c : Catalogue). PrintsAudit c logs o end) (same_sites end a) (subst (λ (l : List (ℕ × List ℕ)). PrintsAudit a.catalogue l o end) (same_logs end a) a.prints))
     audit_ends fits there end (inl e) = go (printed words source source' o end e (λ reads. given.no_source_fault) given.no_sink_fault)
       where

@@ -1,4 +1,4 @@
--- What the answer of each command is, by its input: the one that the input asks for, or its one fault.
+-- What each command prints, by its input: what the input asks for, or its one fault.
 use Rattle.std.proofs.Common.{◌≡◌, ◌≢◌, ◌∙◌, ap, sym, subst, refl, ℕ, true, false, List, ◌++◌, inl, inr, ◌⊎◌}
 use Rattle.std.specs.Prelude.{Some, None, Ok, Err}
 use Rattle.vp_model.specs.Types.{Counted}
@@ -28,7 +28,7 @@ use Rattle.vp_onecopy.specs.Passing.{AnsweredAll, IsOnly}
 use Rattle.vp_onecopy.specs.declared.map.History.{History}
 use Rattle.vp_onecopy.specs.declared.fault.HistoryFault.{HistoryFault}
 use Rattle.vp_onecopy.specs.declared.fault.HistoryFault.TheVariants as history_faults
-use Rattle.vp_commands.specs.Asked.{ClientGives, SignalGives}
+use Rattle.vp_top.specs.Asked.{ClientGives, SignalGives}
 use Rattle.vp_replay.specs.Checked.{IsCheckAnswer, IsVerdict, IsChecked, IsMisspelled, Finds}
 use Rattle.vp_replay.specs.Generated.{IsGenerated, IsSoaked}
 use Rattle.vp_replay.specs.Replayed.{Gives, IsPlayAnswer, IsPlayed, IsRefused, Tells, limit_of}
@@ -252,7 +252,7 @@ module _ (bytes : List ℕ) where
           let same = same_catalogue catalogue lacks.0.0 answered lacks.0.1.only in
           let bad : false ≡ true = sym lacks.0.1.there ∙ ap (λ (c : Catalogue). has_all c logs) same ∙ all in cc
 
--- ---- what is refused, of each command
+-- ---- what each command refuses
 
 module _ (bytes : List ℕ) (link link' : LinkState) where
   pub fault_told : (c : Command) → IsNoTextOf c bytes → (end : Status) (text : List ℕ) → IsAnswer c bytes link link' end text → TellsFaultOf c bytes end text
@@ -261,6 +261,7 @@ module _ (bytes : List ℕ) (link link' : LinkState) where
   fault_told commands.Check none end text a = misspelled bytes none end text a
   fault_told (commands.Generate seed count) none end text a = absurd none
   fault_told (commands.Soak seed count) none end text a = absurd none
+  fault_told (commands.Gateway own turns site) none end text a = absurd none
   fault_told (commands.Node site log turns) none end text a = no_catalogue bytes site link link' (λ port end text. ⊥) none end text a
   fault_told (commands.Client own turns site call) none end text a = no_catalogue bytes site link link' (λ port. ClientGives own turns port site call link link') none end text a
   fault_told (commands.Signal site given) none end text a = no_catalogue bytes site link link' (λ port. SignalGives port site given link link') none end text a
@@ -280,18 +281,21 @@ module _ (bytes : List ℕ) (link link' : LinkState) where
     missing_told (commands.Generate seed count) is end text a = cc
     missing_told (commands.Soak seed count) is end text a = cc
     missing_told (commands.Audit logs) is end text a = cc
+    missing_told (commands.Gateway own turns s) is end text a = cc
 
 pub text_reads : (c : Command) (bytes : List ℕ) → IsNoTextOf c bytes → Reads c
 text_reads (commands.Generate seed count) bytes none = none
 text_reads (commands.Soak seed count) bytes none = none
+text_reads (commands.Gateway own turns site) bytes none = none
 text_reads _ bytes none = tt
 
 pub site_reads : (c : Command) (site : ℕ) → site_of c ≡ Some site → Reads c
 site_reads (commands.Generate seed count) site is = cc
 site_reads (commands.Soak seed count) site is = cc
+site_reads (commands.Gateway own turns s) site is = cc
 site_reads _ site is = tt
 
--- ---- the disk is not called where the input is not fit for it
+-- ---- the disk is not called if the input is not fit for it
 
 module _ (words : List (List ℕ)) (source source' : SourceState) (o : Outside) (c : Command) (w : command_of words ≡ Some c) (bytes : List ℕ) (given : IsGiven bytes source source' o) where
   pub no_disk_on : IsNoTextOf c bytes → (end : Status) → EndsOnDisk words source source' o end → ⊥

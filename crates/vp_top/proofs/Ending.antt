@@ -1,4 +1,4 @@
--- What a run comes to at its ends.
+-- How a run ends.
 use Rattle.std.proofs.Common.{◌≡◌, ◌∙◌, ℕ, List, [], true, refl, sym, ap, subst, arith, inl, inr, ⊎_elim, is_some}
 use Rattle.std.proofs.KnownBytes.{Consumes-nil}
 use Rattle.std.specs.Prelude.{⊤, Some, Result, Ok, Err}
@@ -19,7 +19,7 @@ use Rattle.vp_status.specs.declared.status.Status.TheVariants as status
 use Rattle.vp_words.specs.Commands.{command_of}
 use Rattle.vp_words.specs.declared.words.Command.{Command}
 use Rattle.vp_words.specs.declared.words.Command.TheVariants as commands
-use Rattle.vp_commands.specs.Asked.{Tells, ClientGives, SignalGives}
+use Rattle.vp_top.specs.Asked.{Tells, ClientGives, SignalGives}
 use Rattle.vp_top.specs.Ends.{Defines, EndsInText}
 use Rattle.vp_top.specs.Plans.{Plans, PlansFor}
 use Rattle.vp_top.specs.Program.{HasRead, IsAnswer, IsAnswered, IsDefined, IsNowhere, LacksSites, Reads, TellsFault}
@@ -28,7 +28,7 @@ use Rattle.vp_top.specs.declared.plan.Plan.TheVariants as plans
 
 -- ---- the statuses of texts
 
--- No text has the status of a fault of the source or the sink, or of want of memory.
+-- No text has the status of a fault of the source or the sink, nor the one for memory that ran out.
 abbrev HasText : Status → Type 0
 HasText status.NoMemory = ⊥
 HasText status.SourceFault = ⊥
@@ -101,6 +101,7 @@ module _ (bytes text : List ℕ) (link link' : LinkState) where
   answer_has (commands.Client own turns site words) end a = ⊎_elim (λ nowhere. nowhere_has bytes site end text nowhere.0) (λ told. client_has own turns told.port site end words told.is) a
   answer_has (commands.Signal site given) end a = ⊎_elim (λ nowhere. nowhere_has bytes site end text nowhere.0) (λ told. signal_has told.port site end given told.is) a
   answer_has (commands.Audit logs) end a = lacking_has bytes logs end text a.0
+  answer_has (commands.Gateway own turns site) end a = absurd a
   answer_has _ _ a = tt
 
 -- ---- what is defined
@@ -121,6 +122,7 @@ module _ (words : List (List ℕ)) (source source' : SourceState) (link link' : 
   unread : (command : Command) → (Reads command → ⊥) → HasRead command [] (IsEnded source)
   unread (commands.Generate seed count) none = refl
   unread (commands.Soak seed count) none = refl
+  unread (commands.Gateway own turns site) none = refl
   unread commands.Replay none = absurd (none tt)
   unread commands.Check none = absurd (none tt)
   unread commands.Logs none = absurd (none tt)
@@ -137,6 +139,7 @@ plans_unread words source link link' command (plans.Print told) is none p = reco
 }
 plans_unread words source link link' command (plans.Serve catalogue site log turns) is none p = absurd (none (subst Reads (sym p.0) tt))
 plans_unread words source link link' command (plans.Audit catalogue logs) is none p = absurd (none (subst Reads (sym p.0) tt))
+plans_unread words source link link' command (plans.Answer it) is none p = (is ∙ ap (λ (c : Command). Some c) p.0, refl, p.1)
 
 -- ---- what is printed
 

@@ -1,4 +1,8 @@
+mod Attached
+mod AuditedLogs
+mod Calm
 pub mod Answering
 pub mod Audits
 pub mod Completing
 pub mod Ending
+pub mod Sessions

@@ -1,4 +1,4 @@
--- What a run comes to by its words and its input, where nothing fails.
+-- What a run prints by its words and its input, if nothing fails.
 use Rattle.std.specs.Prelude.{◌≡◌, ◌≤◌, ◌<◌, ◌⊎◌, ℕ, true, false, List, [], ◌∷◌, ◌++◌, length, take, codes, Option, Some, None, Ok}
 use Rattle.std.specs.Io.KnownBytes.{Appends}
 use Rattle.vp_model.specs.Types.{Answer, Call, Counted}
@@ -23,9 +23,14 @@ use Rattle.vp_outside.specs.Output.{SinkState}
 use Rattle.vp_outside.specs.declared.datagram.Datagram.{Datagram}
 use Rattle.vp_runs.specs.Asking.{first_answer}
 use Rattle.vp_client.specs.Asked.{HasFailed}
+use Rattle.vp_gateway.specs.Lines.{all_lines}
+use Rattle.vp_gateway.specs.Opening.{IsHead, Refuses}
+use Rattle.vp_gateway.specs.Served.{bound_at}
+use Rattle.vp_gateway.specs.Sessions.{HasAnswered, talk}
+use Rattle.vp_gateway.specs.declared.end.GateEnd.{GateEnd}
 use Rattle.vp_serving.specs.Serving.{Outside, outside}
-use Rattle.vp_commands.specs.Audits.{AuditGives}
-use Rattle.vp_commands.specs.NodeEnds.{IsCalm, DecidedByLog}
+use Rattle.vp_top.specs.Audits.{AuditGives}
+use Rattle.vp_top.specs.NodeEnds.{IsCalm, DecidedByLog}
 use Rattle.vp_replay.specs.Checked.{IsVerdict, IsMisspelled}
 use Rattle.vp_replay.specs.Logged.{IsLogged}
 use Rattle.vp_replay.specs.Replayed.{IsRefused, limit_of}
@@ -35,6 +40,7 @@ use Rattle.vp_words.specs.declared.words.Command.{Command}
 use Rattle.vp_words.specs.declared.words.Command.TheVariants as commands
 use Rattle.vp_words.specs.declared.words.Signal.{Signal}
 use Rattle.vp_top.specs.Ends.{Ends}
+use Rattle.vp_top.specs.GatewayEnds.{last_line, status_of}
 use Rattle.vp_top.specs.Program.{AreOf, IsNoCatalogue, Reads, has_all, most_bytes, usage_text}
 use Rattle.vp_status.specs.Refused.{limit_text}
 use Rattle.vp_status.specs.declared.status.Status.{Status}
@@ -42,7 +48,7 @@ use Rattle.vp_status.specs.declared.status.Status.TheVariants as status
 
 -- ---- what a run is given
 
--- The source told that it had these bytes, and no count of failures rose, of the source or of the sink.
+-- The source said that it had these bytes, and no count of failures rose, of the source or of the sink.
 pub record IsGiven (bytes : List ℕ) (source source' : SourceState) (o : Outside) : Type 0 where
   pub left : source.left ≡ Some bytes
   pub no_source_fault : Rose source.faults source'.faults → ⊥
@@ -52,11 +58,11 @@ pub record IsGiven (bytes : List ℕ) (source source' : SourceState) (o : Outsid
 abbrev pub CanPrint : SourceState → SourceState → Outside → Type 0
 CanPrint source source' o = Rose o.sink.faults o.sink'.faults → ⊥
 
--- The source told so, neither count rose, and no call of the link failed.
+-- The source said so, neither count rose, and no call of the link failed.
 abbrev pub IsLinked : List ℕ → SourceState → SourceState → Outside → Type 0
 IsLinked bytes source source' o = IsGiven bytes source source' o × (HasFailed o.link o.link' → ⊥)
 
--- There are no more bytes than an input has.
+-- There are no more bytes than an input may have.
 abbrev pub Fits : List ℕ → Type 0
 Fits bytes = length bytes ≤ most_bytes
 
@@ -71,15 +77,17 @@ IsNoTextOf commands.Logs bytes = (schedule : Schedule) → IsScheduleText schedu
 IsNoTextOf commands.Check bytes = (history : History) → AnsweredAll bytes (Ok history) → ⊥
 IsNoTextOf (commands.Generate seed count) bytes = ⊥
 IsNoTextOf (commands.Soak seed count) bytes = ⊥
+IsNoTextOf (commands.Gateway own turns site) bytes = ⊥
 IsNoTextOf _ bytes = (catalogue : Catalogue) → Answered bytes (Ok catalogue) → ⊥
 
--- The one fault of the bytes, as a text of the command's, is told, with its place or with the limit that it exceeds.
+-- The one fault of the bytes, as a text of the command's, is printed, with its place or with the limit that it exceeds.
 abbrev pub TellsFaultOf : Command → List ℕ → Status → List ℕ → Type 0
 TellsFaultOf commands.Replay bytes end text = IsRefused bytes end text
 TellsFaultOf commands.Logs bytes end text = IsRefused bytes end text
 TellsFaultOf commands.Check bytes end text = IsMisspelled bytes end text
 TellsFaultOf (commands.Generate seed count) bytes end text = ⊥
 TellsFaultOf (commands.Soak seed count) bytes end text = ⊥
+TellsFaultOf (commands.Gateway own turns site) bytes end text = ⊥
 TellsFaultOf _ bytes end text = IsNoCatalogue bytes end text
 
 -- the site at which a command is done
@@ -89,22 +97,54 @@ site_of (commands.Client own turns site call) = Some site
 site_of (commands.Signal site given) = Some site
 site_of _ = None
 
--- What the logs of an audit give was printed, and that is no fault of the disk; or there was no memory.
+-- What the logs of an audit give was printed, and that is no fault of the disk; or memory ran out.
 abbrev pub IsAudited : Catalogue → List (ℕ × List ℕ) → Outside → Status → Type 0
 IsAudited catalogue logs o status.DiskFault = ⊥
 IsAudited catalogue logs o end = ((text : List ℕ) × AuditGives catalogue logs o.disk o.disk' end text × Appends o.sink.held o.sink'.held text) ⊎ (end ≡ status.NoMemory)
 
--- ---- the claims, over disks that tell such a state
+-- ---- what comes of a session
+
+-- The bytes are a session, all its lines were answered, and the answers alone were printed.
+pub record IsAnsweredSession (own turns site : ℕ) (bytes : List ℕ) (o : Outside) : Type 0 where
+  pub head : List ℕ
+  pub port : ℕ
+  pub is : IsHead site port head
+  pub body : List ℕ
+  pub parts : bytes ≡ head ++ body
+  pub answered : HasAnswered port site turns (talk o.sink o.sink' (bound_at own o.link) o.link') (all_lines body)
+
+-- A front of the bytes is no head with the site; that alone was told, and the link was not called.
+pub record IsRefusedSession (site : ℕ) (bytes : List ℕ) (source' : SourceState) (o : Outside) (told : Status) : Type 0 where
+  pub fault : GateEnd
+  pub front : List ℕ
+  pub rest : List ℕ
+  pub parts : bytes ≡ front ++ rest
+  pub refused : Refuses site source' front fault
+  pub told_is : told ≡ status_of fault
+  pub text : List ℕ
+  pub text_is : last_line fault ≡ Some text
+  pub printed : Appends o.sink.held o.sink'.held text
+  pub uncalled : o.link' ≡ o.link
+
+-- what the status says of a session of these bytes, unless the sink, the link or memory failed
+abbrev pub IsSessionOf : ℕ → ℕ → ℕ → List ℕ → SourceState → Outside → Status → Type 0
+IsSessionOf own turns site bytes source' o status.Done = IsAnsweredSession own turns site bytes o
+IsSessionOf own turns site bytes source' o status.SinkFault = Unit {0}
+IsSessionOf own turns site bytes source' o status.LinkFault = Unit {0}
+IsSessionOf own turns site bytes source' o status.NoMemory = Unit {0}
+IsSessionOf own turns site bytes source' o told = IsRefusedSession site bytes source' o told
+
+-- ---- the claims, over disks in such a state
 
 module _ {D : Type 0} (state : D → DiskState) where
-  -- Each run of the words over such objects prints the whole of a text that is so told with its status, or finds no memory.
+  -- Each run of the words over such objects prints all of a text with this property, with its status, or runs out of memory.
   abbrev pub ComesTo : List (List ℕ) → (SourceState → SourceState → Outside → Type 0) → (Status → List ℕ → Type 0) → Type 0
   ComesTo words Over Told =
       (source source' : SourceState) (link link' : LinkState) (sink sink' : SinkState) (disk disk' : D) (end : Status) →
       Ends words source source' (outside link link' sink sink' (state disk) (state disk')) end → Over source source' (outside link link' sink sink' (state disk) (state disk')) →
       ((text : List ℕ) × Told end text × Appends sink.held sink'.held text) ⊎ (end ≡ status.NoMemory)
 
-  -- Each such run ends with this status and prints this text, or finds no memory.
+  -- Each such run ends with this status and prints this text, or runs out of memory.
   abbrev pub EndsWith : List (List ℕ) → (SourceState → SourceState → Outside → Type 0) → Status → List ℕ → Type 0
   EndsWith words Over told printed = ComesTo words Over (λ end text. (end ≡ told) × (text ≡ printed))
 
@@ -117,7 +157,7 @@ module _ {D : Type 0} (state : D → DiskState) where
       command_of words ≡ Some commands.Replay → Fits bytes → IsScheduleText schedule bytes → IsWithinLimits schedule →
       EndsWith words (IsGiven bytes) status.Done (trace_text schedule ++ history_text schedule)
 
-  -- The logs that a schedule within the limits leaves are told.
+  -- The logs that a schedule within the limits leaves are printed.
   abbrev pub LogsAreTold : Type 0
   LogsAreTold =
       (words : List (List ℕ)) (bytes : List ℕ) (schedule : Schedule) →
@@ -131,7 +171,7 @@ module _ {D : Type 0} (state : D → DiskState) where
       command_of words ≡ Some commands.Check → Fits bytes → AnsweredAll bytes (Ok history) →
       ComesTo words (IsGiven bytes) (IsVerdict history)
 
-  -- The schedule of a seed and a count is made, where no limit of the world is reached.
+  -- The schedule of a seed and a count is made, if no limit of the world is reached.
   abbrev pub SchedulesAreGenerated : Type 0
   SchedulesAreGenerated =
       (words : List (List ℕ)) (seed count : ℕ) →
@@ -169,8 +209,8 @@ module _ {D : Type 0} (state : D → DiskState) where
       Ends words source source' (outside link link' sink sink' (state disk) (state disk')) end → IsGiven bytes source source' (outside link link' sink sink' (state disk) (state disk'))
       → IsCalm (outside link link' sink sink' (state disk) (state disk')) → DecidedByLog catalogue site log (outside link link' sink sink' (state disk) (state disk')) end
 
-  -- An audit whose sites are all in the catalogue, where no call of the disk fails, is told: the report on what the batches of the logs make, or the
-  -- first log that is none. One with a site that the catalogue lacks gets the usage line.
+  -- The result of an audit whose sites are all in the catalogue is printed, if no call of the disk fails: the report on what the batches
+  -- of the logs make, or the first damaged log. One with a site that the catalogue lacks gets the usage line.
   pub record LogsAreAudited : Type 0 where
     pub audited : (words : List (List ℕ)) (logs : List (ℕ × List ℕ)) (bytes : List ℕ) (catalogue : Catalogue) →
         command_of words ≡ Some (commands.Audit logs) → Fits bytes → Answered bytes (Ok catalogue) → has_all catalogue logs ≡ true →
@@ -181,7 +221,16 @@ module _ {D : Type 0} (state : D → DiskState) where
         command_of words ≡ Some (commands.Audit logs) → Fits bytes → Answered bytes (Ok catalogue) → has_all catalogue logs ≡ false →
         EndsWith words (IsGiven bytes) status.Usage usage_text
 
-  -- ---- what cannot be done is refused
+  -- A session of no more bytes than an input has, of a source that doesn't fail, is answered line by line to its end, or its head is refused.
+  abbrev pub SessionsAreAnswered : Type 0
+  SessionsAreAnswered =
+      (words : List (List ℕ)) (own turns site : ℕ) (bytes : List ℕ) →
+      command_of words ≡ Some (commands.Gateway own turns site) → Fits bytes →
+      (source source' : SourceState) (link link' : LinkState) (sink sink' : SinkState) (disk disk' : D) (end : Status) →
+      Ends words source source' (outside link link' sink sink' (state disk) (state disk')) end → source.left ≡ Some bytes → (Rose source.faults source'.faults → ⊥)
+      → IsSessionOf own turns site bytes source' (outside link link' sink sink' (state disk) (state disk')) end
+
+  -- ---- what can't be done is refused
 
   -- Words that are no command's get the usage line.
   abbrev pub OtherWordsAreRefused : Type 0
@@ -193,7 +242,7 @@ module _ {D : Type 0} (state : D → DiskState) where
       (words : List (List ℕ)) (bytes : List ℕ) → AreOf Reads words → most_bytes < length bytes →
       EndsWith words (IsGiven bytes) status.Limit (codes "limit bytes 16777216\n")
 
-  -- An input that is no text of the command's gets its fault told.
+  -- The fault of an input that is no text of the command's is printed.
   abbrev pub MalformedInputsAreRefused : Type 0
   MalformedInputsAreRefused =
       (words : List (List ℕ)) (bytes : List ℕ) (command : Command) → command_of words ≡ Some command → Fits bytes → IsNoTextOf command bytes →
@@ -206,7 +255,7 @@ module _ {D : Type 0} (state : D → DiskState) where
       command_of words ≡ Some command → site_of command ≡ Some site → Fits bytes → Answered bytes (Ok catalogue) → value_at site catalogue.sites ≡ None →
       EndsWith words (IsGiven bytes) status.Usage usage_text
 
-  -- A limit of the world that is reached is told, behind what is printed of the steps before.
+  -- A limit of the world that is reached is printed, after what is printed of the steps before.
   pub record LimitsAreTold : Type 0 where
     pub replayed : (words : List (List ℕ)) (bytes : List ℕ) (schedule : Schedule) (counted : Counted) →
         command_of words ≡ Some commands.Replay → Fits bytes → IsScheduleText schedule bytes → limit_reached world_limits schedule ≡ Some counted →

@@ -1,4 +1,4 @@
--- How a run ends: what was taken of the source, what the sink got, what the link and the disk tell, and which count rose.
+-- How a run ends: what was taken from the source, what the sink got, the states of the link and the disk, and which count rose.
 use Rattle.std.specs.Prelude.{◌≡◌, ◌≤◌, ◌⊎◌, ℕ, true, List, [], length, Some}
 use Rattle.std.specs.Io.KnownBytes.{Appends}
 use Rattle.vp_model.specs.Catalogue.{Catalogue}
@@ -10,21 +10,23 @@ use Rattle.vp_serving.specs.Serving.{Outside}
 use Rattle.vp_words.specs.Commands.{command_of}
 use Rattle.vp_words.specs.declared.words.Command.{Command}
 use Rattle.vp_words.specs.declared.words.Command.TheVariants as commands
-use Rattle.vp_commands.specs.Audits.{AuditGives, KeepsLogs}
-use Rattle.vp_commands.specs.NodeEnds.{NodeEnds, HasCause, DecidedIfCalm}
+use Rattle.vp_gateway.specs.Served.{gate}
+use Rattle.vp_top.specs.Audits.{AuditGives, KeepsLogs}
+use Rattle.vp_top.specs.GatewayEnds.{GatewayEnds}
+use Rattle.vp_top.specs.NodeEnds.{NodeEnds, HasCause, DecidedIfCalm}
 use Rattle.vp_top.specs.Program.{most_bytes, Reads, AreOf, IsCatalogueOf, IsDefined, IsPlaced, MayCall}
 use Rattle.vp_status.specs.Printing.{Prints}
 use Rattle.vp_status.specs.declared.status.Status.{Status}
 use Rattle.vp_status.specs.declared.status.Status.TheVariants as status
 
 module _ (words : List (List ℕ)) (source source' : SourceState) (link link' : LinkState) where
-  -- The run took these bytes of its source, and the words define this status and this text for them.
+  -- The run took these bytes from its source, and the words define this status and this text for them.
   pub record Defines (end : Status) (text : List ℕ) : Type 0 where
     pub bytes : List ℕ
     pub took : Took bytes source source'
     pub defined : IsDefined words bytes (IsEnded source') link link' end text
 
-  -- Without memory the link was not called, or what the command may leave of it is left.
+  -- If memory runs out, the link was not called, or was left as the command may leave it.
   abbrev pub LeavesLink : Type 0
   LeavesLink = (link' ≡ link) ⊎ ((command : Command) × (command_of words ≡ Some command) × ((bytes : List ℕ) × Took bytes source source' × MayCall command bytes link link'))
 
@@ -87,7 +89,7 @@ pub record IsAudit (words : List (List ℕ)) (source source' : SourceState) (cat
   pub ended : IsEnded source'
   pub placed : IsCatalogueOf bytes catalogue logs true
 
--- What the logs give was printed, or there was no memory before.
+-- What the logs give was printed, or memory ran out before.
 abbrev pub PrintsAudit : Catalogue → List (ℕ × List ℕ) → Outside → Status → Type 0
 PrintsAudit catalogue logs o end =
     ((told : Status) × (text : List ℕ) × AuditGives catalogue logs o.disk o.disk' told text × Prints told text o.sink o.sink' end)
@@ -101,12 +103,22 @@ pub record EndsAsAudit (words : List (List ℕ)) (source source' : SourceState) 
   pub kept : KeepsLogs o.disk o.disk'
   pub uncalled : o.link' ≡ o.link
 
+-- ---- a gateway answers a session
+
+-- The words are those of a gateway, which takes its input line by line.
+pub record EndsAsGateway (words : List (List ℕ)) (source source' : SourceState) (o : Outside) (end : Status) : Type 0 where
+  pub own : ℕ
+  pub turns : ℕ
+  pub site : ℕ
+  pub words_are : command_of words ≡ Some (commands.Gateway own turns site)
+  pub ends : GatewayEnds own turns site (gate source source' o.sink o.sink' o.link o.link') end
+
 -- ---- the run
 
 -- a node served, or logs were audited
 abbrev pub EndsOnDisk : List (List ℕ) → SourceState → SourceState → Outside → Status → Type 0
 EndsOnDisk words source source' o end = EndsAsNode words source source' o end ⊎ EndsAsAudit words source source' o end
 
--- what the status of a run says: a text was printed, or the disk was called
+-- what the status of a run says: a text was printed, or the disk was called, or a session was answered
 abbrev pub Ends : List (List ℕ) → SourceState → SourceState → Outside → Status → Type 0
-Ends words source source' o end = EndsInText words source source' o.link o.link' o.sink o.sink' end ⊎ EndsOnDisk words source source' o end
+Ends words source source' o end = EndsInText words source source' o.link o.link' o.sink o.sink' end ⊎ EndsOnDisk words source source' o end ⊎ EndsAsGateway words source source' o end

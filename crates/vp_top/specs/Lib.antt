@@ -1,3 +1,8 @@
+pub mod Asked
+pub mod Audits
+pub mod Claims
+pub mod NodeEnds
+pub mod GatewayEnds
 pub mod Complete
 pub mod Ends
 pub mod Plans

@@ -1,4 +1,4 @@
--- What the program defines for its words, for the bytes that it takes of its source, and for what its link tells.
+-- What the program defines for its words, for the bytes that it takes from its source, and for the state of its link.
 use Rattle.std.specs.Prelude.{◌≡◌, ◌<◌, ◌≤◌, ◌⊎◌, ⊤, ℕ, Bool, true, false, List, [], is_some, length, codes, Some, None, Ok, Err}
 use Rattle.std.specs.List.{list_all}
 use Rattle.vp_model.specs.Words.{value_at}
@@ -17,18 +17,18 @@ use Rattle.vp_replay.specs.Checked.{IsCheckAnswer}
 use Rattle.vp_replay.specs.Generated.{IsGenerated, IsSoaked}
 use Rattle.vp_replay.specs.Logged.{IsLogsAnswer}
 use Rattle.vp_replay.specs.Replayed.{IsReplayAnswer}
-use Rattle.vp_commands.specs.Asked.{ClientGives, ClientLeaves, SignalGives, SignalLeaves}
+use Rattle.vp_top.specs.Asked.{ClientGives, ClientLeaves, SignalGives, SignalLeaves}
 
--- the most bytes that an input has
+-- the most bytes that an input may have
 abbrev pub most_bytes : ℕ
 most_bytes = 16777216
 
 abbrev pub usage_text : List ℕ
-usage_text = codes "usage: vpdb replay|check|node|client|tick|probe|stop|generate|soak|logs|audit\n"
+usage_text = codes "usage: vpdb replay|check|node|client|tick|probe|stop|generate|soak|logs|audit|gateway\n"
 
 -- ---- at a site of a catalogue
 
--- what is told of a text that is no catalogue
+-- what is printed for a text that is no catalogue
 abbrev pub TellsFault : CatalogFault → Status → List ℕ → Type 0
 TellsFault (faults.BadLine line at) status.BadLine text = text ≡ bad_line_text line at
 TellsFault (faults.Twice line) status.BadLine text = text ≡ twice_text line
@@ -41,7 +41,7 @@ pub record IsNoCatalogue (bytes : List ℕ) (end : Status) (text : List ℕ) : T
   pub only : IsOnly bytes (Err fault)
   pub tells : TellsFault fault end text
 
--- The catalogue lacks the site, and the usage is told.
+-- The catalogue lacks the site, and the usage line is printed.
 pub record HasNoSite (bytes : List ℕ) (site : ℕ) (end : Status) (text : List ℕ) : Type 0 where
   pub catalogue : Catalogue
   pub answered : Answered bytes (Ok catalogue)
@@ -50,7 +50,7 @@ pub record HasNoSite (bytes : List ℕ) (site : ℕ) (end : Status) (text : List
   pub end_is : end ≡ status.Usage
   pub text_is : text ≡ usage_text
 
--- what is told where the input has no such site
+-- what is printed if the input has no such site
 abbrev pub IsNowhere : List ℕ → ℕ → Status → List ℕ → Type 0
 IsNowhere bytes site end text = IsNoCatalogue bytes end text ⊎ HasNoSite bytes site end text
 
@@ -64,18 +64,18 @@ pub record IsPlaced (bytes : List ℕ) (catalogue : Catalogue) (site port : ℕ)
 abbrev pub has_all : Catalogue → List (ℕ × List ℕ) → Bool
 has_all catalogue logs = list_all (λ log. is_some (value_at log.0 catalogue.sites)) logs
 
--- The input is this catalogue and no other, and has them or doesn't.
+-- The input is this catalogue and no other, and has all their sites, or hasn't.
 pub record IsCatalogueOf (bytes : List ℕ) (catalogue : Catalogue) (logs : List (ℕ × List ℕ)) (all : Bool) : Type 0 where
   pub answered : Answered bytes (Ok catalogue)
   pub only : IsOnly bytes (Ok catalogue)
   pub there : has_all catalogue logs ≡ all
 
--- what is told where the input has not all sites of these logs
+-- what is printed if the input lacks a site of these logs
 abbrev pub LacksSites : List ℕ → List (ℕ × List ℕ) → Status → List ℕ → Type 0
 LacksSites bytes logs end text =
     IsNoCatalogue bytes end text ⊎ (((catalogue : Catalogue) × IsCatalogueOf bytes catalogue logs false) × (end ≡ status.Usage) × (text ≡ usage_text))
 
--- what is told at a site, by its port; where the input has no such site, the link is not called
+-- what is printed at a site, by its port; if the input has no such site, the link is not called
 pub record IsToldAt (bytes : List ℕ) (site : ℕ) (told : ℕ → Type 0) : Type 0 where
   pub catalogue : Catalogue
   pub port : ℕ
@@ -87,8 +87,8 @@ AtSite bytes site link link' gives end text = (IsNowhere bytes site end text × 
 
 -- ---- the commands
 
--- The text that a command defines for its input at each status; other statuses are none of the command's. A node that serves prints as it
--- goes, and defines no text; an audit of sites that are there has its text by its logs.
+-- The text that a command defines for its input at each status; no other status is possible. A node that serves prints as it goes, and
+-- defines no text; an audit of sites that are there has its text by its logs.
 abbrev pub IsAnswer : Command → List ℕ → LinkState → LinkState → Status → List ℕ → Type 0
 IsAnswer commands.Replay bytes link link' end text = IsReplayAnswer bytes end text
 IsAnswer commands.Check bytes link link' end text = IsCheckAnswer bytes end text
@@ -99,17 +99,19 @@ IsAnswer (commands.Node site log turns) bytes link link' end text = AtSite bytes
 IsAnswer (commands.Client own turns site call) bytes link link' end text = AtSite bytes site link link' (λ port. ClientGives own turns port site call link link') end text
 IsAnswer (commands.Signal site given) bytes link link' end text = AtSite bytes site link link' (λ port. SignalGives port site given link link') end text
 IsAnswer (commands.Audit logs) bytes link link' end text = LacksSites bytes logs end text × (link' ≡ link)
+IsAnswer (commands.Gateway own turns site) bytes link link' end text = ⊥
 
--- what a command leaves of its link without memory
+-- how a command may leave its link if memory runs out
 abbrev pub MayCall : Command → List ℕ → LinkState → LinkState → Type 0
 MayCall (commands.Client own turns site call) bytes link link' = (link' ≡ link) ⊎ IsToldAt bytes site (λ port. ClientLeaves own turns port site call link link')
 MayCall (commands.Signal site given) bytes link link' = (link' ≡ link) ⊎ IsToldAt bytes site (λ port. SignalLeaves port site given link link')
 MayCall _ bytes link link' = link' ≡ link
 
--- the command reads its input
+-- the command reads its input to the end before it does anything
 abbrev pub Reads : Command → Type 0
 Reads (commands.Generate seed count) = ⊥
 Reads (commands.Soak seed count) = ⊥
+Reads (commands.Gateway own turns site) = ⊥
 Reads _ = ⊤
 
 -- the command calls its link
@@ -117,6 +119,7 @@ abbrev pub Calls : Command → Type 0
 Calls (commands.Node site log turns) = ⊤
 Calls (commands.Client own turns site call) = ⊤
 Calls (commands.Signal site given) = ⊤
+Calls (commands.Gateway own turns site) = ⊤
 Calls _ = ⊥
 
 -- the command calls its disk
@@ -125,14 +128,20 @@ CallsDisk (commands.Node site log turns) = ⊤
 CallsDisk (commands.Audit logs) = ⊤
 CallsDisk _ = ⊥
 
--- the words are a command's with this
+-- the command takes its input line by line
+abbrev pub IsForGateway : Command → Type 0
+IsForGateway (commands.Gateway own turns site) = ⊤
+IsForGateway _ = ⊥
+
+-- the words are those of a command with this property
 abbrev pub AreOf : (Command → Type 0) → List (List ℕ) → Type 0
 AreOf P words = (command : Command) × (command_of words ≡ Some command) × P command
 
--- A command reads its input to the end, and it is not too long; or it reads nothing.
+-- A command reads its input to the end, and that is not too long; or it reads nothing.
 abbrev pub HasRead : Command → List ℕ → Type 0 → Type 0
 HasRead (commands.Generate seed count) bytes ended = bytes ≡ []
 HasRead (commands.Soak seed count) bytes ended = bytes ≡ []
+HasRead (commands.Gateway own turns site) bytes ended = bytes ≡ []
 HasRead _ bytes ended = (length bytes ≤ most_bytes) × ended
 
 -- The words are a command's, its input was read, and this is its answer.
@@ -150,7 +159,7 @@ IsTooLong words bytes text = AreOf Reads words × (most_bytes < length bytes) ×
 abbrev pub IsNoCommand : List (List ℕ) → List ℕ → List ℕ → Type 0
 IsNoCommand words bytes text = (command_of words ≡ None) × (bytes ≡ []) × (text ≡ usage_text)
 
--- The text that the program defines for its words at each status, where it took these bytes of its source, and found its end or didn't.
+-- The text that the program defines for its words at each status, if it took these bytes from its source, and found its end or didn't.
 abbrev pub IsDefined : List (List ℕ) → List ℕ → Type 0 → LinkState → LinkState → Status → List ℕ → Type 0
 IsDefined words bytes ended link link' status.Usage text = (IsNoCommand words bytes text × (link' ≡ link)) ⊎ IsAnswered words bytes ended link link' status.Usage text
 IsDefined words bytes ended link link' status.Limit text = (IsTooLong words bytes text × (link' ≡ link)) ⊎ IsAnswered words bytes ended link link' status.Limit text

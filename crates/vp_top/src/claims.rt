@@ -1,10 +1,10 @@
-//! Functions that do nothing, with what follows from the contract of `run` as theirs, over any kind of disk. Each is of a run whose sink's
-//! count of failures doesn't rise, and, where the command reads an input, whose source tells its bytes and has a count that doesn't rise
-//! either; and each leaves the answer that there was no memory.
+//! What follows from the contract of `run`, over any kind of disk, as the contracts of functions that do nothing. Each is about a run
+//! whose sink's count of failures doesn't rise, and, if the command reads an input, whose source says what its bytes are and has a count
+//! that doesn't rise either. Memory may run out in each.
 
-ghost use Rattle.vp_top.specs.Complete.{AnswersArePrinted, HistoriesAreChecked, LimitsAreTold, LogsAreAudited, LogsAreTold, LongInputsAreRefused, MalformedInputsAreRefused, MissingSitesAreRefused, NodesEndByTheirLogs, OtherWordsAreRefused, RunsAreCounted, SchedulesAreGenerated, SchedulesAreReplayed, SignalsAreSent};
+ghost use Rattle.vp_top.specs.Complete.{AnswersArePrinted, HistoriesAreChecked, LimitsAreTold, LogsAreAudited, LogsAreTold, LongInputsAreRefused, MalformedInputsAreRefused, MissingSitesAreRefused, NodesEndByTheirLogs, OtherWordsAreRefused, RunsAreCounted, SchedulesAreGenerated, SchedulesAreReplayed, SessionsAreAnswered, SignalsAreSent};
 
-use vp_commands::{answers_are_told, signals_are_done};
+use crate::command_claims::{answers_are_told, signals_are_done};
 use vp_outside::Disk;
 
 /// Whoever runs `replay` on the text of a schedule within the limits gets its trace and its history.
@@ -32,30 +32,36 @@ pub fn runs_are_counted<D: Disk>()
     ensures { RunsAreCounted D.state }
 {}
 
-/// Whoever runs `client` at a site of the catalogue, where no call of the link fails, gets the first answer among the datagrams that the link
-/// had left, as many as are waited for.
+/// Whoever runs `client` at a site of the catalogue, if no call of the link fails, gets the first answer among the datagrams that the
+/// link had left, as many as are waited for.
 pub fn answers_are_printed<D: Disk>()
     ensures { AnswersArePrinted D.state }
 {
     answers_are_told();
 }
 
-/// Whoever runs `tick`, `probe` or `stop` at a site of the catalogue, where no call of the link fails, is done, and nothing is printed.
+/// Whoever runs `tick`, `probe` or `stop` at a site of the catalogue gets the status 0 and no text, if no call of the link fails.
 pub fn signals_are_sent<D: Disk>()
     ensures { SignalsAreSent D.state }
 {
     signals_are_done();
 }
 
-/// Whoever runs `node` at a site of the catalogue, where no call fails but those that send, gets the end that its log decides.
+/// Whoever runs `node` at a site of the catalogue, if no call but sends fails, gets the end that its log decides.
 pub fn nodes_end_by_their_logs<D: Disk>()
     ensures { NodesEndByTheirLogs D.state }
 {}
 
-/// Whoever runs `audit` on logs of sites of the catalogue, where no call of the disk fails, gets the report on what the batches of the logs make,
-/// or the first log that is none; at a site that the catalogue lacks, the usage line.
+/// Whoever runs `audit` on logs of sites of the catalogue, if no call of the disk fails, gets the report on what the batches of the logs
+/// make, or the first damaged log; at a site that the catalogue lacks, the usage line.
 pub fn logs_are_audited<D: Disk>()
     ensures { LogsAreAudited D.state }
+{}
+
+/// Whoever runs `gateway` on a session of no more bytes than an input has, where the source doesn't fail, gets the answers to all its lines, or is
+/// told the fault of its head, unless the sink, the link or memory fails.
+pub fn sessions_are_answered<D: Disk>()
+    ensures { SessionsAreAnswered D.state }
 {}
 
 /// Whoever gives words that are no command gets the usage line.
@@ -63,12 +69,12 @@ pub fn other_words_are_refused<D: Disk>()
     ensures { OtherWordsAreRefused D.state }
 {}
 
-/// Whoever runs a command on an input of more than 16,777,216 bytes is told this limit.
+/// Whoever runs a command on an input of more than 16,777,216 bytes gets this limit.
 pub fn long_inputs_are_refused<D: Disk>()
     ensures { LongInputsAreRefused D.state }
 {}
 
-/// Whoever runs a command on an input that is no text of the command's (a schedule, lines that a history ends, a catalogue) is told the one
+/// Whoever runs a command on an input that is no text of the command's (a schedule, lines that a history ends, a catalogue) gets the one
 /// fault of the input: its place, the line that repeats a name or a port, or the limit that the line exceeds.
 pub fn malformed_inputs_are_refused<D: Disk>()
     ensures { MalformedInputsAreRefused D.state }
@@ -79,8 +85,8 @@ pub fn missing_sites_are_refused<D: Disk>()
     ensures { MissingSitesAreRefused D.state }
 {}
 
-/// Whoever runs `replay`, `logs`, `generate` or `soak` on a schedule that reaches a limit is told the limit: behind the trace of the steps
-/// before it, alone, behind the events before it, and alone.
+/// Whoever runs `replay`, `logs`, `generate` or `soak` on a schedule that reaches a limit gets the limit: after the trace of the steps
+/// before it for `replay`, after the events before it for `generate`, and alone for the others.
 pub fn limits_are_told<D: Disk>()
     ensures { LimitsAreTold D.state }
 {}

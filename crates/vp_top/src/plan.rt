@@ -1,4 +1,4 @@
-//! What is to be done for a command and its input.
+//! What the program is to do for a command and its input.
 
 ghost use Rattle.std.specs.Prelude.{◌≡◌, None, IfOk, OnErr, codes};
 ghost use Rattle.vp_words.specs.Commands.{IsAllowed};
@@ -6,44 +6,55 @@ ghost use Rattle.vp_status.specs.declared.status.Status.TheVariants as status;
 ghost use Rattle.vp_top.specs.Plans.{IsAuditPlan, IsFound, PlansFor};
 ghost use Rattle.vp_top.specs.Program.{Calls, MayCall, TellsFault, has_all, usage_text};
 
+use crate::asking::call_site;
+use crate::signalling::signal_site;
 use std::alloc::Global;
 use vp_base::{NoMemory, SiteId, Word};
 use vp_catalog::{Catalog, CatalogFault};
-use vp_commands::{call_site, signal_site};
 use vp_outside::Link;
 use vp_replay::{checked, generated, logged, replayed, soaked};
 use vp_status::{Defined, Status, print_bad_line, print_limit, print_twice};
 use vp_words::{Command, Logs};
 
-/// What the program does once its words are tested and its input is read.
+/// What the program is to do once its words are tested and its input is read.
 #[derive(Drop)]
 pub enum Plan {
-    /// It prints a text.
+    /// Print a text.
     Print(Defined),
-    /// It serves a node on the log of this name.
+    /// Serve a node on the log of this name.
     Serve {
         catalog: Catalog,
         site: SiteId,
         log: Word,
         turns: u64,
     },
-    /// It audits the sites by their logs.
+    /// Audit the sites by their logs.
     Audit {
         catalog: Catalog,
         logs: Logs,
     },
+    /// It answers a session.
+    Answer(Gateway),
+}
+
+/// A gateway's own port, for how many datagrams it waits at most, and its site.
+#[derive(Drop)]
+pub struct Gateway {
+    pub port: u16,
+    pub turns: u64,
+    pub site: SiteId,
 }
 
 /// The site of a command in the catalogue that its input is.
 #[derive(Drop)]
 enum Found {
-    /// It has this port.
+    /// The catalogue has it, with this port.
     At { catalog: Catalog, port: u16 },
-    /// The input is no catalogue, or has no such site; this is told of it.
+    /// The input is no catalogue, or has no such site; this is printed then.
     Nowhere(Defined),
 }
 
-/// What is to be done for the command, once the link was called for a client's call or a signal.
+/// Makes the plan for the command and its input. A client's call and a signal are done already: their plan is to print the result.
 pub fn plan_of<L: Link>(
     alloc: Global,
     command: Command,
@@ -89,10 +100,13 @@ pub fn plan_of<L: Link>(
             Found::Nowhere(told) => Ok(Plan::Print(told)),
         },
         Command::Audit { logs } => audit_plan(alloc, input, logs),
+        Command::Gateway { port, turns, site } => {
+            Ok(Plan::Answer(Gateway { port, turns, site }))
+        }
     }
 }
 
-/// Reads the catalogue of an audit, which is to have all its sites.
+/// Reads the catalogue of an audit, which must have all its sites.
 fn audit_plan(alloc: Global, input: &[u8], logs: Logs) -> Result<Plan, NoMemory>
     ensures { IfOk result (IsAuditPlan input.now logs) }
 {
@@ -128,7 +142,7 @@ fn find(alloc: Global, input: &[u8], site: SiteId) -> Result<Found, NoMemory>
 }
 
 /// What is told of an input that is no catalogue.
-fn refused(alloc: Global, fault: CatalogFault) -> Result<Defined, NoMemory>
+pub fn refused(alloc: Global, fault: CatalogFault) -> Result<Defined, NoMemory>
     ensures { IfOk result (λ it. TellsFault fault it.status it.text.items) }
 {
     let mut text = Vec::new(alloc);
@@ -150,7 +164,7 @@ fn refused(alloc: Global, fault: CatalogFault) -> Result<Defined, NoMemory>
     Ok(Defined { status, text })
 }
 
-/// What is told of words that are no command, and of a site that the catalogue lacks.
+/// Makes the status and the line for words that are no command, and for a site that the catalogue lacks.
 pub fn usage(alloc: Global) -> Result<Defined, NoMemory>
     ensures status { IfOk result (λ it. it.status ≡ status.Usage) }
     ensures text { IfOk result (λ it. it.text.items ≡ usage_text) }
@@ -158,11 +172,11 @@ pub fn usage(alloc: Global) -> Result<Defined, NoMemory>
     Defined::new(
         alloc,
         Status::Usage,
-        b"usage: vpdb replay|check|node|client|tick|probe|stop|generate|soak|logs|audit\n",
+        b"usage: vpdb replay|check|node|client|tick|probe|stop|generate|soak|logs|audit|gateway\n",
     )
 }
 
-/// What is told of an input that is too long.
+/// Makes the status and the line for an input that is too long.
 pub fn too_long(alloc: Global) -> Result<Defined, NoMemory>
     ensures status { IfOk result (λ it. it.status ≡ status.Limit) }
     ensures text { IfOk result (λ it. it.text.items ≡ codes "limit bytes 16777216\n") }

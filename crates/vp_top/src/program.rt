@@ -1,4 +1,4 @@
-//! The top call: from the words and the source to the sink, the link, the disk and the status.
+//! The program: from the words and the source to the sink, the link, the disk and the status.
 
 ghost use Rattle.std.specs.Prelude.{◌≡◌, ◌≤◌, ◌<◌, ◌↔◌, IfOk, IfSome, IsErrOf, IsTrue, None, ℕ, List, length};
 ghost use Rattle.vp_outside.specs.Causes.{Rose};
@@ -6,18 +6,20 @@ ghost use Rattle.vp_outside.specs.Input.{IsEnded, Took};
 ghost use Rattle.vp_serving.specs.Serving.{outside};
 ghost use Rattle.vp_top.specs.Ends.{Ends, EndsInText, EndsOnDisk, LeavesLink};
 ghost use Rattle.vp_top.specs.Plans.{Plans};
-ghost use Rattle.vp_top.specs.Program.{AreOf, Calls, CallsDisk, Reads};
+ghost use Rattle.vp_top.specs.Program.{AreOf, Calls, CallsDisk, IsForGateway, Reads};
 ghost use Rattle.vp_top.specs.declared.program.PlanFault.TheVariants as plan_faults;
 
+use crate::auditing::audit_logs;
+use crate::gateway::serve_session;
+use crate::node::serve_log;
 use crate::plan::{Plan, plan_of, too_long, usage};
 use std::alloc::{AllocError, Global};
 use vp_base::{NoMemory, Word};
-use vp_commands::{audit_logs, serve_log};
 use vp_outside::{Disk, InputFault, Link, Sink, Source, read_to_end};
 use vp_status::Status;
 use vp_words::Command;
 
-/// The most bytes that an input has.
+/// The most bytes that an input may have.
 pub const MOST_BYTES: usize = 16_777_216;
 
 /// Why there is no plan.
@@ -43,9 +45,9 @@ impl From<AllocError> for PlanFault {
     }
 }
 
-/// Does all that the program does: tests the words, reads the source to its end where the command reads one, and prints what the words
-/// define for what was read and for the logs of an audit, or serves a node, which prints as it goes. Nothing is printed, and neither link nor disk is called, before
-/// the source was read.
+/// Does all that the program does: tests the words, reads the source to its end if the command reads one, and prints what the words
+/// define for what was read and for the logs of an audit, or serves a node, which prints as it goes. Before the source was read nothing
+/// is printed, and neither the link nor the disk is called.
 pub fn run<S: Source, K: Sink, L: Link, D: Disk>(
     alloc: Global,
     words: &[Word],
@@ -57,12 +59,12 @@ pub fn run<S: Source, K: Sink, L: Link, D: Disk>(
     requires fresh { (L.state link.old).asked ≡ None }
     ensures ends { Ends words.now (S.state source.old) (S.state source.new)
         (outside (L.state link.old) (L.state link.new) (K.state sink.old) (K.state sink.new) (D.state disk.old) (D.state disk.new)) result }
-    // Whatever is for no disk prints a text.
-    ensures text { (AreOf CallsDisk words.now → ⊥)
+    // Whatever is for no disk and for no gateway prints a text.
+    ensures text { (AreOf CallsDisk words.now → ⊥) → (AreOf IsForGateway words.now → ⊥)
         → EndsInText words.now (S.state source.old) (S.state source.new) (L.state link.old) (L.state link.new) (K.state sink.old) (K.state sink.new) result }
-    ensures source_uncalled { (AreOf Reads words.now → ⊥) → source.new ≡ source.old }
+    ensures source_uncalled { (AreOf Reads words.now → ⊥) → (AreOf IsForGateway words.now → ⊥) → source.new ≡ source.old }
     ensures link_uncalled { (AreOf Calls words.now → ⊥) → link.new ≡ link.old }
-    // Unless a node serves or logs are audited.
+    // The disk is called only if a node serves or logs are audited.
     ensures disk_uncalled { (EndsOnDisk words.now (S.state source.old) (S.state source.new)
         (outside (L.state link.old) (L.state link.new) (K.state sink.old) (K.state sink.new) (D.state disk.old) (D.state disk.new)) result → ⊥) → disk.new ≡ disk.old }
 {
@@ -80,12 +82,13 @@ pub fn run<S: Source, K: Sink, L: Link, D: Disk>(
             Ok(defined) => defined.print(sink),
             Err(NoMemory) => Status::NoMemory,
         },
+        Ok(Plan::Answer(gateway)) => serve_session(alloc, source, sink, link, &gateway),
         Err(PlanFault::SourceFault) => Status::SourceFault,
         Err(PlanFault::NoMemory) => Status::NoMemory,
     }
 }
 
-/// What is to be done for the words and for what the source has.
+/// Makes the plan for the words and for what the source has.
 fn plan<S: Source, L: Link>(
     alloc: Global,
     words: &[Word],
@@ -111,14 +114,17 @@ fn plan<S: Source, L: Link>(
     }
 }
 
-/// Whether the command reads its input.
+/// Whether the command reads its input to the end before it does anything.
 fn reads(command: &Command) -> bool
     ensures { IsTrue result ↔ Reads command.now }
 {
-    !matches!(command, Command::Generate { .. } | Command::Soak { .. })
+    !matches!(
+        command,
+        Command::Generate { .. } | Command::Soak { .. } | Command::Gateway { .. }
+    )
 }
 
-/// The input, read to its end; none where it is too long.
+/// Reads the input to its end; none where it is too long.
 fn input_of<S: Source>(alloc: Global, source: &mut S) -> Result<Option<Vec<u8>>, PlanFault>
     ensures whole { IfOk result (λ found. IfSome found (λ input. (length input.items ≤ 16777216)
         × IsEnded (S.state source.new) × Took input.items (S.state source.old) (S.state source.new))) }

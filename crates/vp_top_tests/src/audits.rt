@@ -10,26 +10,26 @@ use vp_outside::{SureLink, TextSink, TextSource};
 use vp_status::Status;
 use vp_top::run;
 
-/// Two records at two sites, of which the second has more weight of one.
+/// Two records at two sites; the second site has more weight of one of them.
 const CATALOGUE: &str = "site 1 7001\nsite 2 7002\nrecord x 10 1:1 2:1\nrecord y 5 1:1 2:3\n";
 
 /// Site 1 has accepted a transaction of site 2 that writes x, and is in doubt about it.
 const AT_1: &[u8] = b"\x01\0\0\0\0\0\0\0\x05\x01\0\0\0\x01\
     \x01\0\0\0\0\0\0\0\x18\x03\x02\0\0\0\x01\0\0\0\x01\0\0\0\0\0\0\0\0\0\x01\0\x0212\0";
 
-/// Site 2 so about one of site 1.
+/// Site 2 has accepted a transaction of site 1 that writes x, and is in doubt about it.
 const AT_2: &[u8] = b"\x01\0\0\0\0\0\0\0\x05\x01\0\0\0\x01\
     \x01\0\0\0\0\0\0\0\x18\x03\x01\0\0\0\x01\0\0\0\x01\0\0\0\0\0\0\0\0\0\x01\0\x0211\0";
 
-/// Site 2 has applied one of site 1 that wrote y, in the view 1@1.
+/// Site 2 has applied a transaction of site 1 that wrote y, in the view 1@1.
 const APPLIED: &[u8] = b"\x01\0\0\0\0\0\0\0\x05\x01\0\0\0\x01\
     \x01\0\0\0\0\0\0\0\x17\x03\x01\0\0\0\x01\0\0\0\x01\0\0\0\0\0\0\0\x01\x01\x01\x01\x016\
     \x01\0\0\0\0\0\0\0\x0b\x04\x01\0\0\0\x01\0\0\0\x01\x01\0";
 
-/// A batch without a gate behind it.
+/// A batch without a gate after it.
 const TORN: &[u8] = b"\x01\0\0\0\0\0\0\0\x05\x01\0\0\0\x01";
 
-/// The words of an audit, and what it answers. The logs of these names are there, but for `missing`.
+/// The words of an audit, and what it prints. The logs of these names are there, but for `missing`.
 const AUDITS: [(&str, Status, &str); 13] = [
     (
         "audit 1 missing 2 missing",
@@ -90,7 +90,7 @@ fn disk_with(rt: &impl Abort, alloc: Global, failing: u64) -> MemDisk {
     disk
 }
 
-/// Whether the words get this answer, where the call of the disk with this number fails.
+/// Whether the words get this result if the call of the disk with this number fails.
 fn audits(rt: &impl Abort, alloc: Global, audit: (&str, Status, &str), failing: u64) -> bool {
     let (line, status, text) = audit;
     let catalogue = CATALOGUE.as_bytes().to_vec(alloc).expect(rt, "memory");
@@ -108,7 +108,7 @@ fn stopped_sites_are_audited(rt: HostRuntime) {
     for audit in AUDITS {
         assert!(rt; audits(&rt, rt.alloc(), audit, 0), "{}", audit.0);
     }
-    // Of each log four calls: it is attached, its halves are measured, and what the first has is read.
+    // Each log takes four calls: it is attached, its halves are measured, and what the first one has is read.
     for call in 1..9 {
         let fault = ("audit 1 at1 2 at2", Status::DiskFault, "disk fault\n");
         assert!(rt; audits(&rt, rt.alloc(), fault, call), "at {call}");

@@ -1,4 +1,4 @@
-//! The tests of the program as one call, outside the crate that has it: a crate with tests is proved twice.
+//! The tests of the program as one call, outside its crate: a crate with tests is proved twice.
 #![tactic(auto)]
 
 #[cfg(test)]

@@ -1,4 +1,4 @@
-//! A node of one of two sites that serves a transaction and is stopped, of which each call of its link and of its sink fails in turn.
+//! A node of one of two sites that serves a transaction and is stopped, where each call of its link and of its sink fails in turn.
 
 use crate::words;
 use bytes::Bytes;
@@ -34,7 +34,7 @@ const COMING: [(u16, &[u8]); 9] = [
     (7100, b"\x56\x01\x24\0\x01"),
 ];
 
-/// What it prints where no call fails.
+/// What it prints if no call fails.
 const RECORDING: [&str; 17] = [
     "start 1\n",
     "in 560120000101\n",
@@ -55,9 +55,9 @@ const RECORDING: [&str; 17] = [
     "end\n",
 ];
 
-/// The call of the link and that of the sink that fail, where 0 is none, and what comes of it: the status, how many lines of the recording
-/// are printed, how many datagrams were handed over, and how long the log is: 15 bytes with the start of its life, 50 with the commit, 70
-/// with the acknowledgement.
+/// The call of the link and that of the sink that fail, where 0 is none, and how the run ends then: the status, how many lines of the
+/// recording are printed, how many datagrams were handed over, and how long the log is: 15 bytes with the start of its life, 50 with the
+/// commit, 70 with the acknowledgement.
 const FAULTS: [(u64, u64, Status, usize, usize, usize); 28] = [
     // Call 1 of the link binds; then each turn receives, and some send. What isn't sent is lost. There is no call 17.
     (1, 0, Status::LinkFault, 0, 0, 15),
@@ -77,7 +77,7 @@ const FAULTS: [(u64, u64, Status, usize, usize, usize); 28] = [
     (15, 0, Status::LinkFault, 14, 6, 50),
     (16, 0, Status::LinkFault, 15, 6, 70),
     (17, 0, Status::Done, 17, 6, 70),
-    // The first line, the lines of each turn and the last line are put by a call of the sink each, behind the turn's records.
+    // Each of the first line, the lines of a turn and the last line is put by one call of the sink, after the turn's records.
     (0, 1, Status::SinkFault, 0, 0, 15),
     (0, 2, Status::SinkFault, 1, 0, 15),
     (0, 3, Status::SinkFault, 3, 1, 15),
@@ -102,7 +102,7 @@ fn coming(rt: &impl Abort, alloc: Global) -> Vec<Datagram> {
     datagrams
 }
 
-/// The first lines of the recording, and behind them what is told of the status.
+/// The first lines of the recording, and after them the line of the status.
 fn printed(rt: &impl Abort, alloc: Global, lines: usize, status: Status) -> String {
     let mut text = String::new(alloc);
     for line in RECORDING.iter().take(lines) {
@@ -114,7 +114,7 @@ fn printed(rt: &impl Abort, alloc: Global, lines: usize, status: Status) -> Stri
     text
 }
 
-/// Whether the node ends so where the calls with these numbers fail.
+/// Whether the node ends like this if the calls with these numbers fail.
 fn ends(rt: &impl Abort, alloc: Global, fault: (u64, u64, Status, usize, usize, usize)) -> bool {
     let (link_call, sink_call, status, lines, sent, kept) = fault;
     let source = CATALOGUE.to_vec(alloc).expect(rt, "memory");

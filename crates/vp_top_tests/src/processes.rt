@@ -8,10 +8,10 @@ use vp_processes::{first_unheld, say_status, started};
 use vp_status::Status;
 use vp_top::run;
 
-/// The test that does what the words behind its name say.
+/// The test that does what the words after its name say.
 const BY_WORDS: &str = "processes::does_what_the_words_behind_its_name_say";
 
-/// As `main` of the program.
+/// The status, as `main` of the program makes it.
 fn status(rt: HostRuntime, words: &[Word]) -> Status {
     let Ok(closed) = ClosedStreams::hold(&rt) else {
         return Status::SinkFault;
@@ -29,7 +29,7 @@ fn status(rt: HostRuntime, words: &[Word]) -> Status {
     )
 }
 
-/// With no words it does nothing. Else the first names the file that it writes the status of the others into.
+/// With no words it does nothing. Else the first word names the file to which it writes the status of the others.
 #[test]
 fn does_what_the_words_behind_its_name_say(rt: HostRuntime) {
     let words = words_behind(&rt, 3).expect(&rt, "memory");

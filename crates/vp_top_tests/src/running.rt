@@ -7,7 +7,7 @@ use vp_outside::{SureLink, TextSink, TextSource};
 use vp_status::Status;
 use vp_top::run;
 
-/// The words of a command line, which blanks part.
+/// The words of a command line, with blanks between them.
 pub fn words(alloc: Global, line: &str) -> Result<Vec<Word>, AllocError> {
     let mut words = Vec::new(alloc);
     for text in line.split_ascii_whitespace() {
@@ -16,7 +16,7 @@ pub fn words(alloc: Global, line: &str) -> Result<Vec<Word>, AllocError> {
     Ok(words)
 }
 
-/// A run beside a link that has nothing to give and an empty log.
+/// Runs the command line over a link that has nothing to give and an empty log.
 pub fn run_alone(
     alloc: Global,
     words: &[Word],
@@ -41,7 +41,7 @@ pub fn run_on(
     Ok(run_alone(alloc, &words, &mut source, sink))
 }
 
-/// Whether the command line answers the input with this status, and prints this text.
+/// Whether the command line gets this status for the input, and prints this text.
 pub fn answers(
     alloc: Global,
     line: &str,

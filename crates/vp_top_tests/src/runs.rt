@@ -126,7 +126,7 @@ call 1 1.1.2 2 commit
 call 1 1.1.3 1 commit
 ";
 
-/// What refused its first call ends the second transaction: so the next call is told the same.
+/// The call that is refused first ends the second transaction, so the next call is answered the same.
 const A_LOCK_OF_ANOTHER_PRINTED: &str = "\
 1 call 1 begin
  reply begun 1.1.1 0@0
@@ -167,13 +167,13 @@ end 0
 ";
 
 pub(crate) const USAGE: &str =
-    "usage: vpdb replay|check|node|client|tick|probe|stop|generate|soak|logs|audit\n";
+    "usage: vpdb replay|check|node|client|tick|probe|stop|generate|soak|logs|audit|gateway\n";
 
-/// What `#` stands for in the inputs below.
+/// What `#` is replaced by in the inputs below.
 const HEAD_OF_THREE: &str =
     "site 1 7001\nsite 2 7002\nsite 3 7003\nrecord x 10 1:1 2:1 3:1\nevents\n";
 
-/// Command lines, their inputs, and what they are answered.
+/// Command lines, their inputs, and their results.
 const ANSWERED: [(&str, &str, Status, &str); 28] = [
     ("replay", HEAD, Status::Done, "history\nstart x 10\nend 0\n"),
     (
@@ -235,7 +235,7 @@ const ANSWERED: [(&str, &str, Status, &str); 28] = [
         "bad line 6 at 11\n",
     ),
     ("replay", "#flew 1\n", Status::BadLine, "bad line 6 at 3\n"),
-    // Histories have their verdict, also behind a trace, and other texts are no histories.
+    // Histories have their verdict, also after a trace, and other texts are no histories.
     (
         "check",
         TWO_TRANSACTIONS_PRINTED,
@@ -301,7 +301,7 @@ fn command_lines_are_answered(rt: HostRuntime) {
     }
 }
 
-/// The line once for each number from 1 up to the end, with the number in the place of `#`, and the next one in the place of `+`.
+/// The line once for each number from 1 up to the end, with the number instead of `#`, and the next one instead of `+`.
 fn numbered(rt: &impl Abort, alloc: Global, line: &str, end: u32) -> String {
     let mut lines = String::new(alloc);
     for number in 1..end {
@@ -387,7 +387,8 @@ fn too_many_records_events_and_bytes_are_refused(rt: HostRuntime) {
     }
 }
 
-/// A replay whose call of the source and whose call of the sink with these numbers fail; no call has number 0. The sink takes 5 bytes a call.
+/// A replay whose call of the source and whose call of the sink with these numbers fail; no call has number 0. The sink takes 5 bytes a
+/// call.
 fn failing(rt: &impl Abort, alloc: Global, source_call: u64, sink_call: u64) -> (Status, TextSink) {
     let text = Vec::from_slice(alloc, HEAD.as_bytes()).expect(rt, "memory");
     let words = words(alloc, "replay --").expect(rt, "memory");

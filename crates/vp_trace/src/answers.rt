@@ -1,4 +1,4 @@
-//! What a client is told.
+//! Printing answers to clients.
 
 ghost use Rattle.std.specs.Prelude.{◌++◌, ◌∷◌, [], codes};
 ghost use Rattle.vp_text.specs.Printing.{Appends};
@@ -29,7 +29,7 @@ fn print_weights(out: &mut Vec<u8>, name: &Name, inside: u32, total: u32) -> Res
     print_counted(out, b" of ", total)
 }
 
-/// Appends the weights of a record that may not be used.
+/// Appends the weights of a record that isn't accessible.
 fn print_inaccessible(
     out: &mut Vec<u8>,
     txn: &TxnId,
@@ -44,7 +44,7 @@ fn print_inaccessible(
     print_weights(out, name, inside, total)
 }
 
-/// Appends who has the lock, and where.
+/// Appends who holds the lock, and at which site.
 fn print_lock_held(
     out: &mut Vec<u8>,
     txn: &TxnId,
@@ -77,7 +77,7 @@ fn print_change(
     print_held(out, now)
 }
 
-/// Appends which view a site held in place of the transaction's.
+/// Appends which view a site holds instead of the transaction's.
 fn print_view_changed(
     out: &mut Vec<u8>,
     txn: &TxnId,
@@ -126,7 +126,7 @@ fn print_skipped(out: &mut Vec<u8>, txn: &TxnId, expected: CallNo) -> Result<(),
     print_counted(out, b" expected ", expected.get())
 }
 
-/// Appends an answer's text. Without memory only a beginning of it may stand there.
+/// Appends the text of an answer. After an error a beginning of it may have been appended.
 pub fn print_answer(answer: &Answer, out: &mut Vec<u8>) -> Result<(), NoMemory>
     ensures { Appends result out.old.items (answer_text answer.now) out.new.items }
 {

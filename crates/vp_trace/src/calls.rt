@@ -1,4 +1,4 @@
-//! Calls and events, as a schedule writes them.
+//! Printing calls and events, as a schedule has them.
 
 ghost use Rattle.std.specs.Prelude.{◌++◌, ◌∷◌, [], codes};
 ghost use Rattle.vp_text.specs.Printing.{Appends};
@@ -9,7 +9,7 @@ ghost use Rattle.vp_model.specs.Texts.Fields.{call_name_text};
 use crate::fields::{print_call_name, print_counted, print_site, print_value, print_word};
 use vp_base::{Call, CallNo, Event, Name, NoMemory, SiteId, TxnId, Value};
 
-/// Appends a call as it stands behind the site. Without memory only a beginning of it may stand there.
+/// Appends a call as it follows its site in a schedule. After an error a beginning of it may have been appended.
 pub fn print_call(call: &Call, out: &mut Vec<u8>) -> Result<(), NoMemory>
     ensures { Appends result out.old.items (call_text call.now) out.new.items }
 {
@@ -75,7 +75,7 @@ fn print_called(out: &mut Vec<u8>, site: SiteId, call: &Call) -> Result<(), NoMe
     print_call(call, out)
 }
 
-/// Appends an event as a schedule writes it, without the end of its line.
+/// Appends an event as a schedule has it, without the end of its line. After an error a beginning of it may have been appended.
 pub fn print_event(event: &Event, out: &mut Vec<u8>) -> Result<(), NoMemory>
     ensures { Appends result out.old.items (event_text event.now) out.new.items }
 {

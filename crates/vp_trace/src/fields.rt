@@ -1,4 +1,4 @@
-//! Single fields of a line.
+//! Printing the fields of a line. After an error a beginning of a field may have been appended, where nothing else is said.
 
 ghost use Rattle.std.specs.Prelude.{◌≡◌, ◌++◌, ◌∷◌, [], OnOk, OnErr, codes, flat_map};
 ghost use Rattle.vp_text.specs.Printing.{Appends};
@@ -10,7 +10,7 @@ use vp_base::{CallNo, NoMemory, Owner, RecId, SiteId, TxnId, Value, ViewId};
 use vp_catalog::Catalog;
 use vp_text::print_number;
 
-/// Appends given bytes. Without memory none of them.
+/// Appends the bytes. Where memory is lacking, none of them are appended.
 pub fn print_word(out: &mut Vec<u8>, word: &[u8]) -> Result<(), NoMemory>
     ensures ok { OnOk result (out.new.items ≡ out.old.items ++ word.now) }
     ensures err { OnErr result (out.new.items ≡ out.old.items) }
@@ -19,7 +19,7 @@ pub fn print_word(out: &mut Vec<u8>, word: &[u8]) -> Result<(), NoMemory>
     Ok(())
 }
 
-/// Appends a number. Without memory nothing of it.
+/// Appends a number in decimal. Where memory is lacking, nothing is appended.
 pub fn print_count(out: &mut Vec<u8>, number: u32) -> Result<(), NoMemory>
     ensures ok { OnOk result (out.new.items ≡ out.old.items ++ decimal number) }
     ensures err { OnErr result (out.new.items ≡ out.old.items) }
@@ -28,7 +28,7 @@ pub fn print_count(out: &mut Vec<u8>, number: u32) -> Result<(), NoMemory>
     Ok(())
 }
 
-/// Appends given bytes and a number.
+/// Appends the bytes and a number.
 pub fn print_counted(out: &mut Vec<u8>, word: &[u8], count: u32) -> Result<(), NoMemory>
     ensures { Appends result out.old.items (word.now ++ decimal count) out.new.items }
 {
@@ -36,7 +36,7 @@ pub fn print_counted(out: &mut Vec<u8>, word: &[u8], count: u32) -> Result<(), N
     print_count(out, count)
 }
 
-/// Appends given bytes and a site.
+/// Appends the bytes and a site.
 pub fn print_site(out: &mut Vec<u8>, word: &[u8], site: SiteId) -> Result<(), NoMemory>
     ensures { Appends result out.old.items (word.now ++ decimal site) out.new.items }
 {
@@ -44,7 +44,7 @@ pub fn print_site(out: &mut Vec<u8>, word: &[u8], site: SiteId) -> Result<(), No
     site.print(out)
 }
 
-/// Appends the view that a site holds, or that it holds none.
+/// Appends the view that a site holds, or `none`.
 pub fn print_held(out: &mut Vec<u8>, held: &Option<ViewId>) -> Result<(), NoMemory>
     ensures { Appends result out.old.items (held_text held.now) out.new.items }
 {
@@ -54,6 +54,7 @@ pub fn print_held(out: &mut Vec<u8>, held: &Option<ViewId>) -> Result<(), NoMemo
     }
 }
 
+/// Appends the owner of a lock: a transaction, or `refresh`.
 pub fn print_owner(out: &mut Vec<u8>, owner: &Owner) -> Result<(), NoMemory>
     ensures { Appends result out.old.items (owner_text owner.now) out.new.items }
 {
@@ -72,7 +73,7 @@ pub fn print_call_name(out: &mut Vec<u8>, txn: &TxnId, number: CallNo) -> Result
     print_count(out, number.get())
 }
 
-/// Appends given bytes and a view.
+/// Appends the bytes and a view.
 pub fn print_view(out: &mut Vec<u8>, word: &[u8], view: &ViewId) -> Result<(), NoMemory>
     ensures { Appends result out.old.items (word.now ++ view_text view.now) out.new.items }
 {
@@ -80,7 +81,7 @@ pub fn print_view(out: &mut Vec<u8>, word: &[u8], view: &ViewId) -> Result<(), N
     view.print(out)
 }
 
-/// Appends given bytes and a transaction.
+/// Appends the bytes and a transaction.
 pub fn print_txn(out: &mut Vec<u8>, word: &[u8], txn: &TxnId) -> Result<(), NoMemory>
     ensures { Appends result out.old.items (word.now ++ txn_text txn.now) out.new.items }
 {
@@ -88,7 +89,7 @@ pub fn print_txn(out: &mut Vec<u8>, word: &[u8], txn: &TxnId) -> Result<(), NoMe
     txn.print(out)
 }
 
-/// Appends given bytes, a transaction and the number of one of its calls.
+/// Appends the bytes, a transaction, and the number of one of its calls.
 pub fn print_numbered(
     out: &mut Vec<u8>,
     word: &[u8],
@@ -125,7 +126,7 @@ fn print_later_sites(out: &mut Vec<u8>, sites: &[SiteId]) -> Result<(), NoMemory
     Ok(())
 }
 
-/// Appends a blank and a value.
+/// Appends a space and a value.
 pub fn print_value(out: &mut Vec<u8>, value: &Value) -> Result<(), NoMemory>
     ensures { Appends result out.old.items (32 ∷ value.now) out.new.items }
 {
@@ -133,7 +134,7 @@ pub fn print_value(out: &mut Vec<u8>, value: &Value) -> Result<(), NoMemory>
     value.print(out)
 }
 
-/// Appends a blank and the name of a record; the blank alone where the catalogue has no record at that place.
+/// Appends a space and the name of a record; only the space where the catalogue has no record at that place.
 pub fn print_record_behind(out: &mut Vec<u8>, catalog: &Catalog, rec: RecId) -> Result<(), NoMemory>
     ensures { Appends result out.old.items (32 ∷ name_of catalog.now rec) out.new.items }
 {

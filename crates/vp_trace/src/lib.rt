@@ -1,4 +1,4 @@
-//! The text of traces: calls, events, messages and answers, and the lines that show what each event gave.
+//! Printing traces: calls, events, messages and answers, and the lines that show what each event gave.
 #![tactic(auto)]
 
 mod answers;

@@ -1,4 +1,4 @@
-//! Messages, as a trace shows them.
+//! Printing messages, as a trace has them.
 
 ghost use Rattle.std.specs.Prelude.{◌++◌, ◌∷◌, [], codes, flat_map};
 ghost use Rattle.vp_text.specs.Printing.{Appends};
@@ -199,7 +199,7 @@ fn print_prepare(
     print_writes(out, catalog, writes)
 }
 
-/// Appends a message as a trace shows it, with its records by name. Without memory only a beginning of it may stand there.
+/// Appends a message as a trace has it, with its records by name. After an error a beginning of it may have been appended.
 pub fn print_message(
     catalog: &Catalog,
     message: &Message,

@@ -1,4 +1,4 @@
-//! The lines of a trace.
+//! Printing the lines of a trace.
 
 ghost use Rattle.std.specs.Prelude.{◌≤◌, ◌+◌, ◌<◌, ◌^◌, ◌++◌, ◌∷◌, [], codes, flat_map, length};
 ghost use Rattle.vp_text.specs.Printing.{Appends};
@@ -56,7 +56,7 @@ fn print_sent(catalog: &Catalog, k: u64, sent: &Sent, out: &mut Vec<u8>) -> Resu
     Ok(())
 }
 
-/// The messages are numbered, the first of them by `first`.
+/// Appends the lines of the messages, which are numbered from `first` on.
 fn print_messages(
     catalog: &Catalog,
     first: u64,
@@ -135,7 +135,7 @@ fn print_shown(catalog: &Catalog, shown: &Shown, out: &mut Vec<u8>) -> Result<()
     }
 }
 
-/// Appends the line `number EVENT` and the lines of what it gave. Without memory only a beginning of it may stand there.
+/// Appends the line `number EVENT` and the lines of what the event gave. After an error a beginning of them may have been appended.
 pub fn print_line(
     number: u32,
     line: &Line,

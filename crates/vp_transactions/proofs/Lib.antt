@@ -1,3 +1,4 @@
+pub mod Kept
 pub mod Hands
 pub mod Order
 pub mod Waiting

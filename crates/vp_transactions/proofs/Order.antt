@@ -1,4 +1,4 @@
--- The numbers of the live transactions rise, whatever a row does to the list; so a number has one place.
+-- The numbers of the live transactions ascend, whatever a row does to the list; so a number has only one place.
 use Rattle.std.proofs.Common.{◌≡◌, ℕ, zero, suc, ◌+◌, ◌<◌, ◌≤◌, Bool, true, false, List, [], ◌∷◌, ◌++◌, length, get_or, map, cond, Option, Some, None, Result, Ok, Err, OnOk, OnErr, refl, sym, is_some, ap, ◌∙◌, subst, inl, inr, arith}
 use Rattle.std.specs.Prelude.{slice_get}
 use Rattle.std.specs.List.{AllByRecursion, position, position_or_len, remove, list_any}
@@ -20,7 +20,7 @@ use Rattle.vp_transactions.specs.Order.{numbers, AreRising, AreBelow, AreLive, I
 use Rattle.vp_transactions.specs.Waiting.{waits}
 use Rattle.vp_transactions.proofs.Waiting.{all_wait_more, all_wait_change, all_wait_without, all_wait_marked}
 
--- of rising numbers a later one is larger
+-- of ascending numbers a later one is higher
 later : (n : ℕ) (ns : List ℕ) → AllByRecursion (λ m. n < m) ns → (j : ℕ) → j < length ns → n < get_or ns j 0
 later n [] h j l = absurd (omega arith)
 later n (m ∷ ns) h zero l = h.0
@@ -53,7 +53,7 @@ live_more txn view live a b =
       rising = rw (numbers_more (begun txn view) live) (rising_more (numbers live) txn.seq a.rising b);
     }
 
--- the transaction of a name goes back into its place
+-- the transaction of a name goes back to its place
 same_seq : (a b : TxnId) → same_txn a b ≡ true → a.seq ≡ b.seq
 same_seq a b h = ap (λ (t : TxnId). t.seq) (same_txn-is a b h)
 
@@ -72,7 +72,7 @@ live_changed txn t live e w a =
       rising = rw (numbers_changed txn t live e) a.rising;
     }
 
--- a transaction goes
+-- a transaction is removed
 module _ (test : Live → Bool) (P : ℕ → Type 0) where
   fewer_at : (u : Live) (live : List Live) (b : Bool) → AllByRecursion P (numbers live) → P u.txn.seq → AllByRecursion P (numbers (without_first test live)) → AllByRecursion P (numbers (cond b live (u ∷ without_first test live)))
   fewer_at u live true h p rest = h
@@ -101,7 +101,7 @@ pub live_after_first : (live : List Live) → AreLive live → AreLive (remove l
 live_after_first [] a = a
 live_after_first (t ∷ live) a = record { waiting = let w = a.waiting in grind (arith, nat_tests, w); rising = a.rising.1 }
 
--- a tick changes no name
+-- a tick changes no names
 pub numbers_marked : (live : List Live) → numbers (map mark live) ≡ numbers live
 numbers_marked [] = refl
 numbers_marked (t ∷ live) = ap (λ ns. t.txn.seq ∷ ns) (numbers_marked live)
@@ -113,7 +113,7 @@ live_marked live a =
       rising = rw (numbers_marked live) a.rising;
     }
 
--- what all live transactions are below, where one is in hands, put back, or new
+-- the number that all live transactions are below, where one is taken out, put back, or new
 pub below_lifted : (n : ℕ) (old new : List Live) (r : Option Live) → option_map_or (λ t. change_first (λ u. same_txn u.txn t.txn) (λ u. t) new) r new ≡ old → AreBelow n old → AreBelow n new
 below_lifted n old new None e b = rw e b
 below_lifted n old new (Some t) e b =
@@ -140,7 +140,7 @@ number_is [] place = refl
 number_is (t ∷ live) zero = refl
 number_is (t ∷ live) (suc place) = number_is live place
 
--- the two halves of a search
+-- the two halves of a search by halving
 module _ (ns : List ℕ) (r : AreRising ns) (number middle : ℕ) (within : middle < length ns) where
   pub lower_half : get_or ns middle 0 < number → (k : ℕ) → k < middle + 1 → get_or ns k 0 < number
   lower_half l k h =
@@ -162,7 +162,7 @@ none_passes test (x ∷ xs) h =
     let e : position_or_len test (x ∷ xs) ≡ length (x ∷ xs) = position_or_len_is test (x ∷ xs) (length (x ∷ xs)) x (omega arith) (λ k l. h k x l) (λ l. absurd (omega arith)) in
     grind (arith, nat_tests, e)
 
--- a transaction that is found where its number leads is the first of its name, and where it isn't found there is none
+-- a transaction that is found where its number leads is the first of its name; where it isn't found there, there is none
 module _ (txn : TxnId) (live : List Live) (place : ℕ) (p : IsPlace txn.seq (numbers live) place) where
   test : Live → Bool
   test t = same_txn t.txn txn
@@ -236,7 +236,7 @@ place_of_one live r place t e =
       ];
     }
 
--- a transaction of the name is the only one
+-- there is only one transaction of the name
 pub only_at : (txn : TxnId) (live : List Live) → AreRising (numbers live) → (place : ℕ) → option_map_or (λ (t : Live). same_txn t.txn txn) (slice_get live place) false ≡ true → Some place ≡ position (λ u. same_txn u.txn txn) live
 only_at txn live r place h = at_place (slice_get live place) refl h
   where
@@ -252,12 +252,12 @@ there test live None e = sym (any_is_found test live ∙ ap is_some (find_none t
 there test [] (Some i) e = absurd (cc)
 there test (t ∷ live) (Some i) e = sym (any_is_found test (t ∷ live) ∙ ap is_some (find_some test (t ∷ live) i t (sym e)))
 
--- a transaction goes from its place
+-- a transaction is removed from its place
 pub dropped_at : (test : Live → Bool) (live : List Live) (place : ℕ) → Some place ≡ position test live → remove live place ≡ without_first test live
 dropped_at test [] place e = absurd (cc)
 dropped_at test (t ∷ live) place e = sym (others_some test (t ∷ live) place t (sym e))
 
--- a transaction begins, or there is no memory
+-- a transaction begins, or memory is lacking
 pub live_begun : {A E : Type 0} (result : Result A E) (txn : TxnId) (view : ViewId) (old new : List Live) → OnOk result (new ≡ old ++ begun txn view ∷ []) → OnErr result (new ≡ old) → AreLive old → AreBelow txn.seq old → AreLive new
 live_begun (Ok done) txn view old new made same a b = rw made (live_more txn view old a b)
 live_begun (Err e) txn view old new made same a b = rw same a

@@ -1,4 +1,4 @@
--- The calls of the live transactions wait for some site, whatever a row does to the list.
+-- The calls of the live transactions wait for at least one site, whatever a row does to the list.
 use Rattle.std.proofs.Common.{◌≡◌, ℕ, zero, suc, ◌+◌, ◌-◌, ◌<◌, Bool, if◌then◌else◌, filter, take, get_or, sym, subst, true, List, [], ◌∷◌, ◌++◌, find, map, length, slice_get, Option, Some, None, option_map, IfSome, refl, arith}
 use Rattle.std.proofs.lemmas.Bool.Decides.{nat_tests}
 use Rattle.std.proofs.lemmas.List.Elements.{filter_more}
@@ -47,7 +47,7 @@ newest_is_last (x ∷ xs) =
     let e : length (x ∷ xs) - 1 ≡ length xs = omega arith in
     rw e (last_at x xs)
 
--- one more transaction is late, or is not
+-- one more transaction, which is late or isn't
 pub late_more : (test : Live → Bool) (live : List Live) (place : ℕ) (t : Live) → Some t ≡ slice_get live place → filter test (take (place + 1) live) ≡ filter test (take place live) ++ (if test t then t ∷ [] else [])
 late_more test live place t e =
     let here : get_or live place t ≡ t = get_or_from_slice_get live place t t (sym e) in

@@ -1,3 +1,4 @@
+pub mod Slots
 pub mod Ended
 pub mod Order
 pub mod Waiting

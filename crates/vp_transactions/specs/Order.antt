@@ -1,4 +1,4 @@
--- The order of the live transactions: their numbers rise.
+-- The order of the live transactions: their numbers ascend.
 use Rattle.std.specs.Prelude.{◌≡◌, ℕ, ◌<◌, ◌≤◌, true, List, [], ◌∷◌, length, map, slice_index_or}
 use Rattle.std.specs.List.{AllByRecursion}
 use Rattle.vp_model.specs.Types.{Live}
@@ -12,7 +12,7 @@ abbrev pub AreRising : List ℕ → Type 0
 AreRising [] = Unit {0}
 AreRising (n ∷ ns) = AllByRecursion (λ m. n < m) ns × AreRising ns
 
--- the transactions have lower numbers
+-- the transactions have numbers below this one
 abbrev pub AreBelow : ℕ → List Live → Type 0
 AreBelow number live = AllByRecursion (λ m. m < number) (numbers live)
 
@@ -21,7 +21,7 @@ pub record AreLive (live : List Live) : Type 0 where
   pub waiting : all_wait live ≡ true
   pub rising : AreRising (numbers live)
 
--- just those before the place are lower than the number
+-- exactly those before the place are below the number
 pub record IsPlace (number : ℕ) (ns : List ℕ) (place : ℕ) : Type 0 where
   pub within : place ≤ length ns
   pub below : (k : ℕ) → k < place → slice_index_or ns k 0 < number

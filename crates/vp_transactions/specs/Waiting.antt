@@ -1,4 +1,4 @@
--- A call that is not answered yet waits for some site.
+-- A call that is not answered yet waits for at least one site.
 use Rattle.std.specs.Prelude.{ℕ, Bool, true, not, if◌then◌else◌, List, Option, Some, None, option_map}
 use Rattle.std.specs.List.{list_all}
 use Rattle.std.specs.Option.{option_map_or}
@@ -27,11 +27,11 @@ abbrev pub waiting_call : TxnId → ℕ → List Live → Option Handled
 waiting_call txn from live =
     option_map_or (λ t. option_map (with_call t) (pending_for from t)) (live_of txn live) None
 
--- what stands in the place of the transaction; where it has none, that one itself
+-- what is in the place of the transaction; where there is nothing, the transaction itself
 abbrev pub standing_for : Live → List Live → Live
 standing_for t live = option_map_or (λ u. u) (live_of t.txn live) t
 
--- each decision is told again to the sites that it waits for
+-- each decision is sent again to the sites that have not acknowledged it
 abbrev pub with_outcomes : ℕ → List Decision → Effects → Effects
 with_outcomes id decisions e =
     for_each decisions (λ (d : Decision). with_messages id (message.Outcome d.txn true) d.waiting) e

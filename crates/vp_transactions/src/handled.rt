@@ -1,4 +1,4 @@
-//! A live transaction in the hands of a row.
+//! A live transaction that is taken out of its table while a call of it is done.
 
 ghost use Rattle.std.specs.Prelude.{◌≡◌, [], false, OnOk};
 ghost use Rattle.vp_base.specs.declared.event.Call.TheVariants as call;
@@ -7,7 +7,8 @@ ghost use Rattle.vp_model.specs.Calls.{handling};
 use std::mem;
 use vp_base::{Boxed, Call, CallNo, Live, NoMemory, Pending, Sites, TxnId};
 
-/// A live transaction that a row has in its hands, with the call that it does. An empty one of its name keeps its place.
+/// A live transaction that is taken out of its table, with the call that is being done. An empty transaction of its name keeps its
+/// place in the table.
 #[derive(Drop)]
 pub struct Handled {
     pub live: Live,
@@ -15,19 +16,21 @@ pub struct Handled {
 }
 
 impl Handled {
+    /// The transaction's name.
     pub fn txn(&self) -> TxnId
         ensures { result ≡ self.now.live.txn }
     {
         self.live.txn
     }
 
+    /// The number of the call.
     pub fn number(&self) -> CallNo
         ensures { result ≡ self.now.pending.number }
     {
         self.pending.number
     }
 
-    /// The call becomes the pending one of the transaction; an empty one is left.
+    /// Makes the call the pending one of the transaction, and leaves an empty call in `pending`.
     pub fn attach_call(&mut self) -> Result<(), NoMemory>
         ensures live { OnOk result (self.new.live ≡ handling self.old.live self.old.pending) }
         ensures left { OnOk result (self.new.pending ≡ record self.old.pending { call = call.Begin; missing = []; marked = false }) }

@@ -1,9 +1,10 @@
-//! The tables of the transactions that a site began: those that are live, how others ended, and the decisions that some site has
-//! not acknowledged.
+//! The tables of the transactions that a site began: the live ones, the ends of others, and the decisions that some site has not
+//! acknowledged.
 #![tactic(auto)]
 
 mod handled;
 mod live;
+mod slots;
 mod transactions;
 
 pub use handled::Handled;

@@ -12,15 +12,15 @@ ghost use Rattle.vp_model.specs.Generated.{newest_of, newest};
 ghost use Rattle.vp_transactions.specs.Order.{numbers, AreBelow, AreRising, AreLive, IsPlace};
 ghost use Rattle.vp_transactions.specs.Waiting.{waits, all_wait, standing_for};
 
+use crate::slots::Slots;
 use std::alloc::Global;
 use std::marker::Model;
 use std::mem;
 use vp_base::{Boxed, CopyOf, Live, Newest, NoMemory, Ops, Pending, Seq, Sites, TxnId, ViewId};
 use vp_lists::is_same_txn;
-use vp_slots::Slots;
 
-/// The live transactions, in the order in which they began: their numbers rise, so that one is found by halving. A call of theirs that is
-/// not answered yet waits for some site. Where one was found last is where the next one is looked for first.
+/// The live transactions, in the order in which they began. Their numbers ascend, so that one is found by halving; the place where
+/// one was found last is looked at first. Each call of theirs that is not answered yet waits for at least one site.
 pub struct LiveTxns {
     items: Slots<Live>,
     last: usize,
@@ -45,6 +45,7 @@ impl Model for LiveTxns {
 }
 
 impl LiveTxns {
+    /// Makes an empty table. Takes no memory.
     pub fn new(alloc: Global) -> LiveTxns
         ensures { result ≡ [] }
     {
@@ -54,23 +55,27 @@ impl LiveTxns {
         }
     }
 
+    /// The allocator from which the table takes its memory.
     pub fn allocator(&self) -> Global {
         self.items.allocator()
     }
 
+    /// How many live transactions there are.
     pub fn len(&self) -> usize
         ensures { result ≡ length self.now }
     {
         self.items.len()
     }
 
+    /// Whether the transaction is live.
     pub fn has(&self, txn: &TxnId) -> bool
         ensures { result ≡ is_live txn.now self.now }
     {
         is_there(&self.items, self.last, txn)
     }
 
-    /// The transaction begins: its number is above those of the live ones. Without memory nothing changes.
+    /// Appends a transaction that begins; its number must be above those of the live ones. Where memory is lacking, nothing
+    /// changes.
     pub fn begin(&mut self, txn: &TxnId, view: ViewId) -> Result<(), NoMemory>
         requires { AreBelow txn.now.seq self.old }
         ensures ok { OnOk result (self.new ≡ self.old ++ begun txn.now view ∷ []) }
@@ -80,7 +85,7 @@ impl LiveTxns {
         self.items.push(t)
     }
 
-    /// Takes the transaction into the hands of a row, where there is one: an empty one of its name keeps its place.
+    /// Takes the transaction out, if it is live, and leaves an empty one of its name in its place.
     pub fn take_up(&mut self, txn: &TxnId) -> Option<Live>
         ensures lifted { result ≡ live_of txn.now self.old }
         ensures back { option_map_or (λ t. change_first (λ u. same_txn u.txn t.txn) (λ u. t) self.new) result self.new ≡ self.old }
@@ -90,7 +95,7 @@ impl LiveTxns {
         lift(&mut self.items, &mut self.last, txn)
     }
 
-    /// The transaction goes back into its place. What stood there is left in its hands.
+    /// Puts the transaction back in its place, and leaves in `t` what was there.
     pub fn put(&mut self, t: &mut Live)
         requires { waits t.old ≡ true }
         ensures live { self.new ≡ change_first (λ u. same_txn u.txn t.old.txn) (λ u. t.old) self.old }
@@ -99,13 +104,14 @@ impl LiveTxns {
         exchange(&mut self.items, self.last, t)
     }
 
+    /// Removes the transaction, if it is there.
     pub fn remove(&mut self, txn: &TxnId)
         ensures { self.new ≡ without_first (λ u. same_txn u.txn txn.now) self.old }
     {
         drop_txn(&mut self.items, self.last, txn)
     }
 
-    /// Takes the first transaction out.
+    /// Removes the first transaction and returns it.
     pub fn take_first(&mut self) -> Option<Live>
         ensures taken { result ≡ slice_get self.old 0 }
         ensures rest { self.new ≡ drop 1 self.old }
@@ -113,7 +119,7 @@ impl LiveTxns {
         self.items.remove(0)
     }
 
-    /// Copies of those whose call was pending at the tick before.
+    /// Copies the transactions whose calls were pending at the tick before.
     pub fn late(&self) -> Result<Vec<Live>, NoMemory>
         ensures late { IfOk result (λ late. late.items ≡ filter (λ t. is_marked_call t.pending) self.now) }
         ensures waiting { all_wait self.now ≡ true }
@@ -121,14 +127,14 @@ impl LiveTxns {
         late_in(&self.items)
     }
 
-    /// A tick has seen the calls that are pending.
+    /// Marks the pending calls, so that the next tick finds them late.
     pub fn mark(&mut self)
         ensures { self.new ≡ map mark self.old }
     {
         mark_each(&mut self.items)
     }
 
-    /// What a client would call next of the transaction that began last.
+    /// What a client would call next on the transaction that began last.
     pub fn newest(&self) -> Option<Newest>
         ensures { result ≡ newest self.now }
     {
@@ -146,7 +152,7 @@ fn number_at(live: &Slots<Live>, place: usize) -> u32
     }
 }
 
-/// Where a transaction of this number stands, or would stand.
+/// The place where a transaction of this number is, or where it would be inserted.
 fn place_for(live: &Slots<Live>, number: u32) -> usize
     requires { AreRising (numbers live.now) }
     ensures { IsPlace number (numbers live.now) result }
@@ -164,7 +170,7 @@ fn place_for(live: &Slots<Live>, number: u32) -> usize
     low
 }
 
-/// The place to which the transaction's number leads, where its whole name is the same there.
+/// The place that the transaction's number leads to, if that transaction is there.
 fn place_by_number(live: &Slots<Live>, txn: &TxnId) -> Option<usize>
     requires { AreRising (numbers live.now) }
     ensures { result ≡ position (λ t. same_txn t.txn txn.now) live.now }
@@ -176,7 +182,7 @@ fn place_by_number(live: &Slots<Live>, txn: &TxnId) -> Option<usize>
     }
 }
 
-/// Whether the transaction stands at the place.
+/// Whether the transaction is at the place.
 fn stands_at(live: &Slots<Live>, place: usize, txn: &TxnId) -> bool
     ensures { result ≡ option_map_or (λ t. same_txn t.txn txn.now) (slice_get live.now place) false }
 {
@@ -186,7 +192,7 @@ fn stands_at(live: &Slots<Live>, place: usize, txn: &TxnId) -> bool
     }
 }
 
-/// The place of the transaction, which may be the likely one.
+/// The place of the transaction; the likely one is looked at first.
 fn place_of(live: &Slots<Live>, likely: usize, txn: &TxnId) -> Option<usize>
     requires { AreRising (numbers live.now) }
     ensures { result ≡ position (λ t. same_txn t.txn txn.now) live.now }
@@ -205,7 +211,7 @@ fn is_there(live: &Slots<Live>, likely: usize, txn: &TxnId) -> bool
     place_of(live, likely, txn).is_some()
 }
 
-/// The transaction goes where the one of this name is, which is given back; nowhere, where there is none. The place is kept in `last`.
+/// Replaces the transaction of this name and returns the old one; where there is none, `t` is dropped. The place is kept in `last`.
 fn replace(live: &mut Slots<Live>, last: &mut usize, name: &TxnId, t: Live) -> Option<Live>
     requires { AreLive live.old }
     ensures taken { result ≡ live_of name.now live.old }
@@ -221,7 +227,7 @@ fn replace(live: &mut Slots<Live>, last: &mut usize, name: &TxnId, t: Live) -> O
     }
 }
 
-/// A transaction without operations.
+/// Makes a transaction without operations.
 fn new_live(alloc: Global, txn: &TxnId, view: ViewId) -> Live
     ensures { result ≡ begun txn.now view }
 {
@@ -248,7 +254,7 @@ fn lift(live: &mut Slots<Live>, last: &mut usize, txn: &TxnId) -> Option<Live>
     replace(live, last, txn, empty)
 }
 
-/// The transaction and the one of its name, where there is one, change places.
+/// Exchanges the transaction with the one of its name in the table, where there is one.
 fn exchange(live: &mut Slots<Live>, likely: usize, t: &mut Live)
     requires { AreLive live.old }
     ensures live { live.new ≡ change_first (λ u. same_txn u.txn t.old.txn) (λ u. t.old) live.old }
@@ -302,7 +308,7 @@ fn copy_of_live(t: &Live) -> Result<Live, NoMemory>
     })
 }
 
-/// A copy of the transaction is added to the late ones, where it is late.
+/// Adds a copy of the transaction to the late ones, where it is late.
 fn add_late(late: &mut Vec<Live>, t: &Live) -> Result<(), NoMemory>
     ensures { OnOk result (late.new.items ≡ late.old.items ++ (if is_marked_call t.now.pending then t.now ∷ [] else [])) }
 {

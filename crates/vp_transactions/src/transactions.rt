@@ -27,8 +27,8 @@ use vp_catalog::has_site;
 use vp_lists::OfTxn;
 use vp_records::Decided;
 
-/// The live transactions, the ends of those that have ended, and the decisions that some site has not acknowledged.
-/// `seq` is the number of the last one that began, so no live one has a number above it.
+/// The live transactions, the ends of those that have ended, and the decisions that some site has not acknowledged. `seq` is the
+/// number of the transaction that began last, so no live one has a higher number.
 #[derive(Drop)]
 pub struct Transactions {
     pub seq: u32,
@@ -49,7 +49,7 @@ impl Model for Transactions {
     ghost invariant = { λ c. AreBelow (c.seq + 1) c.live };
 }
 
-/// The answer that an ending gives to a call.
+/// The answer to a call of a transaction that has ended so.
 fn answer_to(txn: &TxnId, number: CallNo, why: &Ending) -> Result<Answer, NoMemory>
     ensures { IfOk result (λ answer. answer ≡ answer_of txn.now number why.now) }
 {
@@ -79,7 +79,7 @@ fn answer_to(txn: &TxnId, number: CallNo, why: &Ending) -> Result<Answer, NoMemo
     }
 }
 
-/// A pending call is answered by the ending.
+/// Answers the pending call, if there is one, by how the transaction has ended.
 fn answer_pending(t: &mut Live, why: &Ending, effects: &mut Effects) -> Result<(), NoMemory>
     ensures answers { OnOk result (t.new ≡ record t.old { answers = answers_after t.old why.now }) }
     ensures effects { OnOk result (effects.new ≡ with_pending_reply t.old.txn why.now t.old.pending effects.old) }
@@ -99,7 +99,7 @@ fn kept_answer(answers: &[Answer], number: CallNo) -> Option<&Answer>
     answers.get(number.get() as usize - 1)
 }
 
-/// The answer that was given to the call of this number.
+/// Copies the answer that was given to the call of this number.
 pub fn told_again(answers: &[Answer], number: CallNo) -> Result<Option<Answer>, NoMemory>
     ensures { IfOk result (λ told. told ≡ kept_answer number answers.now) }
 {
@@ -110,6 +110,7 @@ pub fn told_again(answers: &[Answer], number: CallNo) -> Result<Option<Answer>, 
 }
 
 impl Transactions {
+    /// Makes empty tables, before the first transaction of a life. Takes no memory.
     pub fn new(alloc: Global) -> Transactions
         ensures { result ≡ record { seq = 0; live = []; finished = []; decisions = [] } }
     {
@@ -121,11 +122,12 @@ impl Transactions {
         }
     }
 
+    /// The allocator from which the tables take their memory.
     pub fn allocator(&self) -> Global {
         self.live.allocator()
     }
 
-    /// The next transaction begins. Without memory nothing changes.
+    /// Begins the next transaction. Where memory is lacking, nothing changes.
     #[tactic(auto, using(crate::proofs::Order::below_more))]
     pub fn begin(&mut self, txn: &TxnId, view: ViewId) -> Result<(), NoMemory>
         requires left { self.old.seq < 2 ^ 32 - 1 }
@@ -138,7 +140,7 @@ impl Transactions {
         Ok(())
     }
 
-    /// Takes the transaction into the hands of a row.
+    /// Takes the transaction out, if it is live, and leaves an empty one of its name in its place.
     pub fn take_up(&mut self, txn: &TxnId) -> Option<Live>
         ensures lifted { result ≡ live_of txn.now self.old.live }
         ensures back { option_map_or (λ t. put_live t self.new) result self.new ≡ self.old }
@@ -148,7 +150,7 @@ impl Transactions {
         self.live.take_up(txn)
     }
 
-    /// Takes the transaction with its pending call, where that waits for the site.
+    /// Takes out the transaction and its pending call, where that call waits for the site.
     pub fn take_waiting(&mut self, txn: &TxnId, from: SiteId) -> Result<Option<Handled>, NoMemory>
         ensures taken { IfOk result (λ taken. taken ≡ waiting_call txn.now from self.old.live) }
         ensures back { IfOk result (λ taken. option_map_or (λ h. put_live h.live self.new) taken self.new ≡ self.old) }
@@ -174,26 +176,28 @@ impl Transactions {
         self.decisions.waits_for(txn, site)
     }
 
-    /// The site has acknowledged the decision.
+    /// Notes that the site has acknowledged the decision.
     pub fn acknowledge(&mut self, txn: &TxnId, from: SiteId)
         ensures { self.new ≡ with_acknowledged txn.now from self.old }
     {
         self.decisions.acknowledge(txn, from)
     }
 
+    /// Whether the transaction is live.
     pub fn is_live(&self, txn: &TxnId) -> bool
         ensures { result ≡ is_live txn.now self.now.live }
     {
         self.live.has(txn)
     }
 
+    /// Whether there is a decision on the transaction that some site has not acknowledged.
     pub fn is_decided(&self, txn: &TxnId) -> bool
         ensures { result ≡ is_decided txn.now self.now.decisions }
     {
         self.decisions.is_decided(txn)
     }
 
-    /// The transaction goes back into its place. What stood there is left in its hands.
+    /// Puts the transaction back in its place, and leaves in `t` what was there.
     pub fn put_live(&mut self, t: &mut Live)
         requires { waits t.old ≡ true }
         ensures live { self.new ≡ put_live t.old self.old }
@@ -202,7 +206,7 @@ impl Transactions {
         self.live.put(t)
     }
 
-    /// Takes all live transactions out.
+    /// Removes all live transactions and returns them.
     pub fn take_all(&mut self) -> LiveTxns
         ensures taken { result ≡ self.old.live }
         ensures rest { self.new ≡ record self.old { live = [] } }
@@ -211,7 +215,7 @@ impl Transactions {
         mem::replace(&mut self.live, none)
     }
 
-    /// Copies of the live transactions whose calls were pending at the tick before.
+    /// Copies the live transactions whose calls were pending at the tick before.
     pub fn late(&self) -> Result<Vec<Live>, NoMemory>
         ensures late { IfOk result (λ late. late.items ≡ filter (λ t. is_marked_call t.pending) self.now.live) }
         ensures waiting { all_wait self.now.live ≡ true }
@@ -219,14 +223,14 @@ impl Transactions {
         self.live.late()
     }
 
-    /// A tick has seen the calls that are pending.
+    /// Marks the pending calls, so that the next tick finds them late.
     pub fn mark(&mut self)
         ensures { self.new ≡ with_marks self.old }
     {
         self.live.mark()
     }
 
-    /// Tells each decision again to the sites that it waits for.
+    /// Sends each decision again to the sites that have not acknowledged it.
     pub fn resend(&self, id: SiteId, effects: &mut Effects) -> Result<(), NoMemory>
         ensures { OnOk result (effects.new ≡ with_outcomes id self.now.decisions effects.old) }
     {
@@ -234,7 +238,8 @@ impl Transactions {
         resend(id, decisions.as_slice(), effects)
     }
 
-    /// The end of the transaction is kept, beside those of the 1,023 that ended last before it. Its answers go there.
+    /// Ends the transaction and answers its pending call. Its end and its answers are kept, with those of the 1,023 that ended last
+    /// before it.
     pub fn finish(
         &mut self,
         t: &mut Live,
@@ -256,13 +261,15 @@ impl Transactions {
         keep_end(&mut self.finished, end)
     }
 
+    /// Keeps the decision until each of the sites has acknowledged it; where there are none, keeps nothing.
     pub fn keep_decision(&mut self, txn: &TxnId, waiting: Sites) -> Result<(), NoMemory>
         ensures { OnOk result (self.new ≡ with_kept txn.now waiting self.old) }
     {
         self.decisions.keep(txn, waiting)
     }
 
-    /// What a call is told whose transaction is not live.
+    /// The answer to a call of a transaction that is not live: the one given before, the end of the transaction, or that it is
+    /// unknown.
     pub fn told_after(&self, txn: &TxnId, number: CallNo) -> Result<Option<Answer>, NoMemory>
         ensures { IfOk result (λ told. told ≡ told_after txn.now number (finished_of txn.now self.now.finished)) }
     {
@@ -270,7 +277,7 @@ impl Transactions {
     }
 }
 
-/// The parts of the transaction are told how it ended.
+/// Sends the outcome of the transaction to each of its parts.
 pub fn tell_outcome(
     id: SiteId,
     txn: &TxnId,
@@ -299,7 +306,7 @@ fn resend(id: SiteId, decisions: &[Decision], effects: &mut Effects) -> Result<(
     Ok(())
 }
 
-/// The pending call of the transaction, where it waits for the site.
+/// Copies the pending call of the transaction, where it waits for the site.
 fn pending_for(t: &Live, from: SiteId) -> Result<Option<Pending>, NoMemory>
     ensures { IfOk result (λ p. p ≡ pending_for from t.now) }
 {
@@ -309,7 +316,7 @@ fn pending_for(t: &Live, from: SiteId) -> Result<Option<Pending>, NoMemory>
     }
 }
 
-/// The call, where it waits for the site.
+/// Copies the call, where it waits for the site.
 fn copy_if_missing(p: &Pending, from: SiteId) -> Result<Option<Pending>, NoMemory>
     ensures { IfOk result (λ copy. copy ≡ (if has p.now.missing from then Some p.now else None)) }
 {

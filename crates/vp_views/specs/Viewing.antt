@@ -1,4 +1,4 @@
--- What a site keeps of views, and what each call does to it and to the effects.
+-- What a site keeps of views, and what each call does to that and to the effects.
 use Rattle.std.specs.Prelude.{ℕ, ◌+◌, ◌≡◌, Bool, true, false, not, ◌==◌, ◌&&◌, if◌then◌else◌, is_some, List, [], filter, Option, Some, None, option_map, Result, Ok, Err}
 use Rattle.std.specs.Option.{option_map_or}
 use Rattle.vp_model.specs.Types.{ViewId, View, Effects}
@@ -33,7 +33,7 @@ viewed at effects = record { at = at; effects = effects }
 abbrev pub change : (ViewState → ViewState) → Viewing → Viewing
 change f v = record v { views = f v.views }
 
--- where a site stands, as the definitions keep it
+-- what the definitions keep of a site's views, by what the code keeps
 abbrev pub state : ViewId → ℕ → Standing → ViewState
 state promise seen standing.Apart =
     record { promise = promise; seen = seen; held = None; waiting = None; inviting = None; monitor = None }
@@ -44,7 +44,7 @@ state promise seen standing.Waiting =
 state promise seen (standing.Inviting accepted) =
     record { promise = promise; seen = seen; held = None; waiting = None; inviting = Some (promise, accepted); monitor = None }
 
--- what becomes of a standing alone
+-- what each event does to a `Standing`
 abbrev pub awaits : Standing → Bool
 awaits standing.Apart = false
 awaits (standing.Holding view heard) = false
@@ -82,13 +82,13 @@ IsPromised promise (standing.Holding view heard) = view.id ≡ promise
 IsPromised promise standing.Waiting = Unit {0}
 IsPromised promise (standing.Inviting accepted) = Unit {0}
 
--- the site holds no view, waits for none and invites to none
+-- the site neither holds a view, nor waits for or invites to one
 pub record IsApart (v : ViewState) : Type 0 where
   pub held : v.held ≡ None
   pub waiting : v.waiting ≡ None
   pub inviting : v.inviting ≡ None
 
--- a site that starts: in the opening view, or in none
+-- a site that starts: in the opening view, or in no view
 abbrev pub started : Catalogue → ViewId → Bool → ViewState
 started catalogue promise is_opening =
     record {
@@ -103,7 +103,7 @@ started catalogue promise is_opening =
 abbrev pub next_view : Viewing → ViewId
 next_view v = record { number = highest v.views + 1; site = v.id }
 
--- the identifier of the next invitation, while there is one
+-- the identifier of the next invitation, as long as there is one
 abbrev pub invitable : Viewing → Result ViewId Spent
 invitable v = if is_spent v.views then Err (record { number = highest v.views }) else Ok (next_view v)
 
@@ -113,7 +113,7 @@ inviting_to catalogue id o =
     (change (with_invitation id o.at.id) o.at)
     (with_messages o.at.id (message.Invite id) (other_sites catalogue o.at.id) (with_entry (log_record.Promise id) o.effects))
 
--- an invitation is made, unless the numbers are spent
+-- an invitation is made, unless all numbers were given
 abbrev pub Invites : Catalogue → Result ViewId InviteFault → Viewed → Viewed → Type 0
 Invites catalogue (Ok id) old new = (is_spent old.at.views ≡ false) × (id ≡ next_view old.at) × (new ≡ inviting_to catalogue id old)
 Invites catalogue (Err (fault.Spent number)) old new = (is_spent old.at.views ≡ true) × (number ≡ highest old.at.views) × (new ≡ old)
@@ -123,8 +123,8 @@ abbrev pub accepting : ℕ → ViewId → Viewed → Viewed
 accepting from id o =
     viewed (change (with_wait id) o.at) (with_message o.at.id (message.Accept id) from (with_entry (log_record.Promise id) o.effects))
 
--- an invitation that comes: one above the promise is accepted, a lower one is told the promise, and the one that is waited for is
--- accepted again
+-- an invitation that comes: one above the promise is accepted, a lower one is answered with the promise, and the one that is waited
+-- for is accepted again
 abbrev pub invited : ℕ → ViewId → Viewed → Viewed
 invited from id o =
     if view_before o.at.promise id
@@ -135,7 +135,7 @@ invited from id o =
     then viewed o.at (with_message o.at.id (message.Accept id) from o.effects)
     else o))
 
--- a view that comes is joined where it is waited for and this site is a member
+-- a view that comes is held where it is waited for and this site is a member
 abbrev pub joins : View → Viewing → Bool
 joins view v = is_view v.waiting view.id && has view.members v.id
 
@@ -145,14 +145,14 @@ fixing inviting o =
     (change (with_view (record { id = inviting.0; members = inviting.1 })) o.at)
     (with_messages o.at.id (message.ViewCommit inviting.0 inviting.1) (filter (λ q. not (q == o.at.id)) inviting.1) o.effects)
 
--- the membership is fixed as the sites that have accepted
+-- the members are fixed as the sites that have accepted
 abbrev pub fixed : Viewed → Viewed
 fixed o = option_map_or (λ inviting. fixing inviting o) o.at.inviting o
 
 abbrev pub hearing : ℕ → Viewing → Viewing
 hearing from v = if is_some v.held then change (with_heard from) v else v
 
--- another view is wanted: a member was not heard since the last probes, or a site that is no member was
+-- another view is wanted: a member was not heard since the last probes, or a site that is not a member was
 abbrev pub wants : Viewing → Bool
 wants v = option_map_or (λ view. option_map_or (is_odd v.id view.members) v.monitor false) v.held false
 

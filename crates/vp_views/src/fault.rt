@@ -1,16 +1,19 @@
-//! Why a site invites to no view.
+//! Why a site can't invite to a view.
 
 use vp_base::NoMemory;
 
-/// The numbers of views are spent: this is the highest that was seen, and the last of its type.
+/// All numbers of views were given: `number` is the highest that the site has seen, which is the last one, 2^64 - 1.
 #[derive(Clone, Copy, Debug, Drop, PartialEq, Eq)]
 pub struct Spent {
     pub number: u64,
 }
 
+/// Why a site can't invite to a view.
 #[derive(Clone, Copy, Debug, Drop, PartialEq, Eq)]
 pub enum InviteFault {
+    /// All numbers of views were given; this is the last one.
     Spent { number: u64 },
+    /// Memory is lacking.
     NoMemory,
 }
 

@@ -1,4 +1,4 @@
-//! Where a site stands among views.
+//! Whether a site holds a view, waits for one or invites to one.
 
 ghost use Rattle.std.specs.Prelude.{◌≡◌, OnOk};
 ghost use Rattle.vp_views.specs.Viewing.{IsPromised, accepted_by, heard_by, listening, held_in, awaits};
@@ -6,14 +6,17 @@ ghost use Rattle.vp_views.specs.Viewing.{IsPromised, accepted_by, heard_by, list
 use vp_base::{CopyOf, NoMemory, SiteId, Sites, View, ViewId};
 use vp_lists::put_in;
 
-/// Where a site stands: at most one of a view that it holds, one that it waits for and one that it invites to is there. The
-/// identifier of each is the promise.
+/// What a site has of views: at most one of a view that it holds, one that it waits for and one that it invites to. The identifier
+/// of each is the promise.
 #[derive(Drop)]
 pub enum Standing {
+    /// It neither holds a view, nor waits for or invites to one.
     Apart,
-    /// `heard` are the sites whose probes have come since this site probed last; none before it probes in this view.
+    /// `heard` are the sites whose probes have come since the site last sent its own; `None` until it first does so in this view.
     Holding { view: View, heard: Option<Sites> },
+    /// It has accepted an invitation and waits for the view.
     Waiting,
+    /// It invites to a view; `accepted` are the sites that have accepted so far, ascending, itself included.
     Inviting { accepted: Sites },
 }
 
@@ -37,13 +40,14 @@ impl CopyOf for Standing {
 }
 
 impl Standing {
+    /// Whether the site waits for a view.
     pub fn is_waiting(&self) -> bool
         ensures { result ≡ awaits self.now }
     {
         matches!(self, Standing::Waiting)
     }
 
-    /// The site has accepted the invitation, where there is one.
+    /// Adds the site to those that have accepted, where the site invites.
     pub fn accept(&mut self, site: SiteId) -> Result<(), NoMemory>
         ensures row { OnOk result (self.new ≡ accepted_by site self.old) }
         ensures promised { (promise : ViewId) → IsPromised promise self.old → IsPromised promise self.new }
@@ -54,7 +58,7 @@ impl Standing {
         }
     }
 
-    /// The site was heard, where it is listened for.
+    /// Adds the site to those that were heard, where it holds a view and has sent probes.
     pub fn hear(&mut self, site: SiteId) -> Result<(), NoMemory>
         ensures row { OnOk result (self.new ≡ heard_by site self.old) }
         ensures promised { (promise : ViewId) → IsPromised promise self.old → IsPromised promise self.new }
@@ -68,7 +72,7 @@ impl Standing {
         }
     }
 
-    /// From here on sites are listened for in the held view, whose identifier is answered.
+    /// Begins to note which sites are heard, where a view is held, and returns that view's identifier.
     pub fn listen(&mut self) -> Option<ViewId>
         ensures view { result ≡ held_in self.old }
         ensures standing { self.new ≡ listening self.old }

@@ -17,7 +17,7 @@ use vp_base::{CopyOf, Effects, LogRecord, Message, NoMemory, SiteId, Sites, View
 use vp_catalog::{Catalog, alone, has_site, others_of};
 use vp_lists::view_comes_before;
 
-/// What a site knows of views. After want of memory it may only be dropped, and so may the effects.
+/// What a site knows of views. After an error the value and the effects may be changed in part: drop both.
 pub struct Views {
     id: SiteId,
     promise: ViewId,
@@ -58,7 +58,7 @@ impl CopyOf for Views {
 }
 
 impl Views {
-    /// A site that starts with this promise: in the opening view, whose members are all sites, or in no view.
+    /// The state of a site that starts with this promise: in the opening view, whose members are all sites, or in no view.
     pub fn start(
         catalog: &Catalog,
         id: SiteId,
@@ -87,14 +87,14 @@ impl Views {
         })
     }
 
-    /// The highest identifier that was accepted.
+    /// The highest identifier that the site has accepted or made.
     pub fn promise(&self) -> ViewId
         ensures { result ≡ self.now.promise }
     {
         self.promise
     }
 
-    /// The view that the site is in, if it is in one.
+    /// The view that the site holds.
     pub fn held(&self) -> Option<&View>
         ensures view { option_copied result ≡ self.now.held }
         ensures promised { IfSome self.now.held (λ view. view.id ≡ self.now.promise) }
@@ -106,7 +106,7 @@ impl Views {
         }
     }
 
-    /// The identifier that was accepted and has not come as a view yet.
+    /// The identifier that the site has accepted and whose view has not come yet.
     pub fn waiting(&self) -> Option<ViewId>
         ensures view { result ≡ self.now.waiting }
         ensures promised { IfSome result (λ id. id ≡ self.now.promise) }
@@ -118,7 +118,7 @@ impl Views {
         }
     }
 
-    /// The identifier that this site invites to.
+    /// The identifier that the site invites to.
     pub fn inviting(&self) -> Option<ViewId>
         ensures view { result ≡ option_map (λ inviting. inviting.0) self.now.inviting }
         ensures promised { IfSome result (λ id. id ≡ self.now.promise) }
@@ -130,7 +130,7 @@ impl Views {
         }
     }
 
-    /// The identifier of the next invitation: its number is above every one that was promised or told.
+    /// The identifier of the next invitation: its number is one above every number that was promised here or named by another site.
     pub fn invitable(&self) -> Result<ViewId, Spent>
         ensures { result ≡ invitable self.now }
     {
@@ -144,7 +144,7 @@ impl Views {
         })
     }
 
-    /// Invites every other site of the catalogue to a new view.
+    /// Invites every other site of the catalogue to a new view. The promise is to be forced before the invitations are sent.
     pub fn invite(
         &mut self,
         catalog: &Catalog,
@@ -164,7 +164,8 @@ impl Views {
         Ok(id)
     }
 
-    /// An invitation to `id` comes. It is true exactly where it is above the promise; the site has left its view before.
+    /// Handles an invitation to `id`. Returns true where it is above the promise and so is accepted; the site must have left its
+    /// view before.
     pub fn on_invite(
         &mut self,
         from: SiteId,
@@ -188,7 +189,7 @@ impl Views {
         Ok(false)
     }
 
-    /// An acceptance of `id` comes.
+    /// Handles an acceptance of `id`: a site that invites to `id` notes that `from` has accepted.
     pub fn on_accept(&mut self, from: SiteId, id: ViewId) -> Result<(), NoMemory>
         ensures row { OnOk result (self.new ≡ change (with_accepted from id) self.old) }
         ensures id { self.new.id ≡ self.old.id }
@@ -199,14 +200,15 @@ impl Views {
         Ok(())
     }
 
-    /// Another site has told its promise.
+    /// Handles the promise that another site named, so that the next invitation exceeds it.
     pub fn on_stale(&mut self, promise: ViewId)
         ensures { self.new ≡ change (with_seen promise) self.old }
     {
         self.seen = self.seen.max(promise.number);
     }
 
-    /// The invitation ends, where there is one: those that have accepted are the members of the view, which is then held.
+    /// Ends the invitation, where there is one: the sites that have accepted are the members of the view, which is then held.
+    /// Returns whether there was one.
     pub fn fix(&mut self, effects: &mut Effects) -> Result<bool, NoMemory>
         ensures inviting { IfOk result (λ was. was ≡ is_some self.old.inviting) }
         ensures row { OnOk result (viewed self.new effects.new ≡ fixed (viewed self.old effects.old)) }
@@ -232,7 +234,7 @@ impl Views {
         }
     }
 
-    /// The invitation ends with these members.
+    /// Ends the invitation with these members.
     fn fix_as(&mut self, members: Sites, effects: &mut Effects) -> Result<(), NoMemory>
         requires { self.old.monitor ≡ None }
         ensures row { OnOk result (viewed self.new effects.new ≡ fixing (self.old.promise, members) (viewed self.old effects.old)) }
@@ -248,7 +250,7 @@ impl Views {
         Ok(())
     }
 
-    /// A view comes. It is joined where the site waits for it and is a member of it.
+    /// Handles a view that comes: it is held where the site waits for it and is a member of it. Returns whether it is.
     pub fn on_commit(&mut self, view: &View) -> Result<bool, NoMemory>
         ensures joined { IfOk result (λ joined. joined ≡ joins view.now self.old) }
         ensures views { OnOk result (self.new ≡ (if joins view.now self.old then change (with_view view.now) self.old else self.old)) }
@@ -266,7 +268,7 @@ impl Views {
         }
     }
 
-    /// The promised view is held, with these members.
+    /// Holds the promised view, with these members.
     fn hold(&mut self, members: Sites)
         requires { self.old.monitor ≡ None }
         ensures { self.new ≡ change (with_view (record { id = self.old.promise; members = members })) self.old }
@@ -301,14 +303,14 @@ impl Views {
         }
     }
 
-    /// Nothing is held, waited for or invited to any more.
+    /// Leaves the held view, and waits for no view and invites to none any more.
     pub fn leave(&mut self)
         ensures { self.new ≡ change without_view self.old }
     {
         self.standing = Standing::Apart;
     }
 
-    /// A view that was waited for is waited for no more.
+    /// Ends the wait for a view, where there is one.
     pub fn stop_waiting(&mut self)
         ensures { self.new ≡ change without_wait self.old }
     {
@@ -317,7 +319,7 @@ impl Views {
         }
     }
 
-    /// A probe of the site has come.
+    /// Handles a probe of another site.
     pub fn heard(&mut self, site: SiteId) -> Result<(), NoMemory>
         ensures row { OnOk result (self.new ≡ hearing site self.old) }
         ensures id { self.new.id ≡ self.old.id }
@@ -325,7 +327,8 @@ impl Views {
         self.standing.hear(site)
     }
 
-    /// Whether another view is wanted: since the last probes of this site a member was not heard, or a site that is no member was.
+    /// Whether the site should invite to another view: since its last probes a member was not heard, or a site that is not a member
+    /// was.
     pub fn wants_view(&self) -> bool
         ensures { result ≡ wants self.now }
     {
@@ -338,7 +341,7 @@ impl Views {
         }
     }
 
-    /// Probes every other site of the catalogue for the held view, where there is one; who answers is heard from here on.
+    /// Probes every other site of the catalogue, where a view is held, and begins to note which sites are heard.
     pub fn probe(&mut self, catalog: &Catalog, effects: &mut Effects) -> Result<(), NoMemory>
         ensures row { OnOk result (viewed self.new effects.new ≡ probing catalog.now (viewed self.old effects.old)) }
         ensures id { self.new.id ≡ self.old.id }
@@ -349,7 +352,7 @@ impl Views {
         }
     }
 
-    /// Every other site of the catalogue gets the message.
+    /// Sends the message to every other site of the catalogue.
     fn tell_others(
         &self,
         catalog: &Catalog,

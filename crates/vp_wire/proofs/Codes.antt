@@ -1,4 +1,4 @@
--- The codes of kinds: which kind each one is found by.
+-- The codes of kinds: the kind that is found by each one.
 use Rattle.std.proofs.Common.{◌≡◌, ℕ, ◌==◌, Bool, true, false, cond, List, [], ◌∷◌, Option, Some, None, refl, ap, subst}
 use Rattle.std.proofs.lemmas.Bool.{eqb-true}
 use Rattle.vp_bytes.proofs.Codes.{Codes}

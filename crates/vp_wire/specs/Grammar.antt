@@ -1,4 +1,4 @@
--- Frames, the datagrams of sites and clients: what bytes each one is.
+-- Frames, the content of the datagrams of sites and clients: the bytes of each one.
 use Rattle.std.specs.Prelude.{◌≡◌, ℕ, ◌<◌, ◌^◌, List, [], ◌∷◌, ◌++◌}
 use Rattle.vp_base.specs.Words.{IsName, IsValue}
 use Rattle.vp_base.specs.Identifiers.{IsView, IsTxn}
@@ -92,7 +92,7 @@ frame_of from to body = record { from = from; to = to; body = body }
 abbrev pub frame_bytes : Frame → List ℕ
 frame_bytes frame = 86 ∷ 1 ∷ frame_code (kind_of_body frame.body) ∷ frame.from ∷ frame.to ∷ fields frame.body
 
--- ---- what values frames have
+-- ---- which values frames have
 
 abbrev pub IsObstacle : Obstacle → Type 0
 IsObstacle (obstacle.Held owner) = IsOwner owner
@@ -149,6 +149,6 @@ IsBody from to body.Stop = (from ≡ 0) × IsSite to
 abbrev pub IsFrame : Frame → Type 0
 IsFrame frame = IsBody frame.from frame.to frame.body
 
--- The bytes are the spelling of the frame.
+-- The bytes are the encoding of the frame.
 abbrev pub IsSpelling : Frame → List ℕ → Type 0
 IsSpelling = Spelled frame_bytes IsFrame

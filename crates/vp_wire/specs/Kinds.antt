@@ -1,4 +1,4 @@
--- Which message, call or answer stands in a frame, and the byte that stands for each.
+-- The kinds of messages, calls, answers and frames, and the byte of each in a frame.
 use Rattle.std.specs.Prelude.{ℕ, List, [], ◌∷◌, ◌==◌, Option, Some, None}
 use Rattle.std.specs.List.{find}
 use Rattle.vp_base.specs.declared.message.Message.{Message}
@@ -140,7 +140,7 @@ kind_of_answer (answer.TimedOut txn number at) = answers.TimedOut
 kind_of_answer (answer.Spent number) = answers.Spent
 kind_of_answer answer.TooManyLive = answers.TooManyLive
 
--- ---- frames: messages by their codes, and what else is a frame
+-- ---- frames: messages by their codes, and the other kinds of frames
 
 abbrev pub frame_code : FrameKind → ℕ
 frame_code (frames.Message kind) = message_code kind
@@ -153,7 +153,7 @@ frame_code frames.Stop = 36
 abbrev pub other_kinds : List FrameKind
 other_kinds = frames.Call ∷ frames.Reply ∷ frames.Tick ∷ frames.ProbeNow ∷ frames.Stop ∷ []
 
--- the message of this kind, or what else it is
+-- the message of this kind, or another kind of frame
 abbrev pub or_other : Option MessageKind → Option FrameKind → Option FrameKind
 or_other (Some kind) other = Some (frames.Message kind)
 or_other None other = other

@@ -14,6 +14,7 @@ use vp_bytes::{
     put_view,
 };
 
+/// Appends an answer: the byte of its kind and its fields. After an error a beginning of it may have been appended.
 #[tactic(auto, using(vp_bytes::proofs::Writing::writing))]
 pub fn put_answer(out: &mut BytesMut, answer: &Answer) -> Result<(), NoMemory>
     ensures { Appends result out.old.items (answer_bytes answer.now) out.new.items }
@@ -74,7 +75,7 @@ fn put_begun(out: &mut BytesMut, txn: &TxnId, view: &ViewId) -> Result<(), NoMem
     put_view(out, view)
 }
 
-/// The transaction and the number of an answer or of a message, with a value.
+/// Appends the transaction and the number of an answer or of a message, and a value.
 #[tactic(auto, using(vp_bytes::proofs::Writing::writing))]
 pub fn put_numbered_value(
     out: &mut BytesMut,

@@ -10,6 +10,7 @@ use bytes::BytesMut;
 use vp_base::{Call, CallNo, Name, NoMemory, TxnId, Value};
 use vp_bytes::{put_byte, put_name, put_numbered, put_value};
 
+/// Appends a call: the byte of its kind and its fields. After an error a beginning of it may have been appended.
 #[tactic(auto, using(vp_bytes::proofs::Writing::writing))]
 pub fn put_call(out: &mut BytesMut, call: &Call) -> Result<(), NoMemory>
     ensures { Appends result out.old.items (call_bytes call.now) out.new.items }
@@ -36,7 +37,7 @@ fn put_call_fields(out: &mut BytesMut, call: &Call) -> Result<(), NoMemory>
     }
 }
 
-/// The transaction and the number of a call or of an answer, with a name.
+/// Appends the transaction and the number of a call or of an answer, and a name.
 #[tactic(auto, using(vp_bytes::proofs::Writing::writing))]
 pub fn put_numbered_name(
     out: &mut BytesMut,

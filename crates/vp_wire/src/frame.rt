@@ -1,9 +1,9 @@
-//! Frames: what the datagrams of sites and clients hold.
+//! Frames: what is in the datagrams of sites and clients.
 
 use vp_base::{Answer, Call, CopyOf, Message, NoMemory};
 
-/// What a datagram holds. A message goes from site to site, each a number from 1 to 16. A reply goes from a site to 0, and everything else
-/// from 0 to a site.
+/// What is in a datagram. Sites have numbers from 1 to 16, and a client is 0: a message goes from site to site, a reply from a site
+/// to 0, and everything else from 0 to a site.
 #[derive(Drop)]
 pub struct Frame {
     pub from: u8,
@@ -11,15 +11,20 @@ pub struct Frame {
     pub body: Body,
 }
 
-/// What a frame says. Those without a field are orders to a node.
+/// What a frame says. Bodies without a field are orders to a node.
 #[derive(Drop)]
 pub enum Body {
+    /// A message from site to site.
     Message(Message),
+    /// The call of a client.
     Call(Call),
+    /// The answer to a client's call.
     Reply(Answer),
+    /// The node is to give its site a tick.
     Tick,
-    /// The node is to probe the other sites, to which its site then sends a `Message::Probe`.
+    /// The node is to have its site probe the other sites, each of which is then sent a `Message::Probe`.
     ProbeNow,
+    /// The node is to stop.
     Stop,
 }
 

@@ -1,4 +1,4 @@
-//! Which message, call or answer stands in a frame, and the byte that stands for each.
+//! The kinds of messages, calls, answers and frames, and the byte of each in a frame.
 
 ghost use Rattle.std.specs.Prelude.{◌≡◌};
 ghost use Rattle.vp_wire.specs.Kinds.{answer_code, answer_kind, call_code, call_kind, coded, frame_code, frame_kind, kind_of_answer, kind_of_body, kind_of_call, kind_of_message, message_code, message_kind, other_kinds};
@@ -7,7 +7,7 @@ use crate::frame::Body;
 use vp_base::{Answer, Call, Message};
 use vp_bytes::Coded;
 
-/// Which message. The number of each is its byte in a frame.
+/// A kind of message, as the variants of `Message` are. Its number is its byte in a frame.
 #[derive(Clone, Copy, Drop)]
 pub enum MessageKind {
     Invite = 1,
@@ -50,7 +50,7 @@ impl MessageKind {
         MessageKind::Probe,
     ];
 
-    /// The kind of a message.
+    /// The kind of this message.
     pub fn of_message(message: &Message) -> MessageKind
         ensures { result ≡ kind_of_message message.now }
     {
@@ -94,7 +94,7 @@ impl Coded for MessageKind {
     }
 }
 
-/// Which call. The number of each is its byte in a frame.
+/// A kind of call, as the variants of `Call` are. Its number is its byte in a frame.
 #[derive(Clone, Copy, Drop)]
 pub enum CallKind {
     Begin = 1,
@@ -115,7 +115,7 @@ impl CallKind {
         CallKind::Abort,
     ];
 
-    /// The kind of a call.
+    /// The kind of this call.
     pub fn of_call(call: &Call) -> CallKind
         ensures { result ≡ kind_of_call call.now }
     {
@@ -148,7 +148,7 @@ impl Coded for CallKind {
     }
 }
 
-/// Which answer. The number of each is its byte in a frame.
+/// A kind of answer, as the variants of `Answer` are. Its number is its byte in a frame.
 #[derive(Clone, Copy, Drop)]
 pub enum AnswerKind {
     Begun = 1,
@@ -193,7 +193,7 @@ impl AnswerKind {
         AnswerKind::TooManyLive,
     ];
 
-    /// The kind of an answer.
+    /// The kind of this answer.
     pub fn of_answer(answer: &Answer) -> AnswerKind
         ensures { result ≡ kind_of_answer answer.now }
     {
@@ -238,19 +238,25 @@ impl Coded for AnswerKind {
     }
 }
 
-/// Which frame.
+/// A kind of frame.
 #[derive(Clone, Copy, Drop)]
 pub enum FrameKind {
+    /// A message, of this kind.
     Message(MessageKind),
+    /// A client's call.
     Call,
+    /// An answer to a client.
     Reply,
+    /// An order to tick.
     Tick,
+    /// An order to probe the other sites.
     ProbeNow,
+    /// An order to stop.
     Stop,
 }
 
 impl FrameKind {
-    /// Those that are no messages.
+    /// The kinds of frames that hold no message.
     const OTHERS: [FrameKind; 5] = [
         FrameKind::Call,
         FrameKind::Reply,
@@ -287,7 +293,7 @@ impl FrameKind {
         }
     }
 
-    /// The kind of this code that is no message.
+    /// The kind with this code, where it isn't the code of a message.
     fn other_of(code: u8) -> Option<FrameKind>
         ensures { result ≡ coded frame_code other_kinds code }
     {

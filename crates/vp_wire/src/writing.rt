@@ -21,7 +21,7 @@ use vp_bytes::{
     put_request, put_sites, put_txn, put_view, put_writes,
 };
 
-/// Appends the one spelling of the frame. Without memory it has appended a beginning of it, and changed nothing else.
+/// Appends the frame in its only encoding. After want of memory a beginning of it has been appended, and nothing else changed.
 #[tactic(auto, using(vp_bytes::proofs::Writing::writing))]
 pub fn encode(frame: &Frame, out: &mut BytesMut) -> Result<(), NoMemory>
     requires { IsFrame frame.now }
@@ -31,7 +31,7 @@ pub fn encode(frame: &Frame, out: &mut BytesMut) -> Result<(), NoMemory>
     put_fields(out, frame)
 }
 
-/// Like `encode`, for the frame in which a message goes from site to site: the message stays where it stands.
+/// Like `encode`, for the frame of a message from site to site; it takes the message by reference.
 #[tactic(auto, using(vp_bytes::proofs::Writing::writing))]
 pub fn encode_message(
     from: SiteId,
@@ -47,7 +47,7 @@ pub fn encode_message(
     put_message(out, message)
 }
 
-/// Like `encode`, for the frame in which an answer goes from a site to its client: the answer stays where it stands.
+/// Like `encode`, for the frame of an answer from a site to its client; it takes the answer by reference.
 #[tactic(auto, using(vp_bytes::proofs::Writing::writing))]
 pub fn encode_reply(from: SiteId, answer: &Answer, out: &mut BytesMut) -> Result<(), NoMemory>
     requires { IsFrame (frame_of from 0 (body.Reply answer.now)) }
@@ -57,7 +57,7 @@ pub fn encode_reply(from: SiteId, answer: &Answer, out: &mut BytesMut) -> Result
     put_answer(out, answer)
 }
 
-/// What every frame begins with.
+/// Appends what every frame begins with: the byte of its kind, the sender and the receiver.
 #[tactic(auto, using(vp_bytes::proofs::Writing::writing))]
 fn put_head(out: &mut BytesMut, kind: FrameKind, from: u8, to: u8) -> Result<(), NoMemory>
     ensures { Appends result out.old.items (86 ∷ 1 ∷ frame_code kind ∷ from ∷ to ∷ []) out.new.items }
@@ -210,7 +210,8 @@ fn put_prepare(
     put_writes(out, writes)
 }
 
-/// Most messages of a large run are of this kind, so its fields are put down at once.
+/// Appends the fields of a request for a refresh. Most messages of a large run are such requests, so the fields are appended all at
+/// once.
 #[tactic(auto, using(vp_bytes::proofs::Writing::writing), unfolding(vp_bytes::specs::Fields::view_bytes, vp_bytes::specs::Fields::number_bytes))]
 fn put_refresh_request(out: &mut BytesMut, view: &ViewId, rec: RecId) -> Result<(), NoMemory>
     ensures { Appends result out.old.items (view_bytes view.now ++ rec ∷ []) out.new.items }

@@ -1,4 +1,4 @@
--- Commands as `clap` knows them, operand by operand.
+-- Commands as `clap` has them, operand by operand.
 use Rattle.std.proofs.Common.{◌≡◌, ℕ, ◌+◌, ◌<◌, List, [], ◌∷◌, length, get_or, take, map, ap, ap₂, sym, ◌∙◌}
 use Rattle.std.specs.Borrow.{Bor}
 use Rattle.std.specs.Prelude.{fold}

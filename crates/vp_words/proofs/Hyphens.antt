@@ -1,4 +1,4 @@
--- The operands as they are defined: a `-` alone before the first `--` leaves none.
+-- The operands as they are defined: where there is a `-` before the first `--`, there are none.
 use Rattle.std.proofs.Common.{◌≡◌, ℕ, ◌+◌, ◌<◌, ◌≤◌, length, get_or, Bool, true, false, ◌||◌, List, [], ◌∷◌, Option, Some, None, refl, sym, ap, ◌∙◌, codes, map, drop, option_map, inl, inr, not}
 use Rattle.std.specs.Borrow.{Bor}
 use Rattle.std.specs.Prelude.{nat_eq, option_and_then, if◌then◌else◌}
@@ -33,7 +33,7 @@ neither false b e = e
 operands_plain : (word : Text) (words : List Text) → bytes_eq word (45 ∷ 45 ∷ []) ≡ false → starts_with nat_eq word (45 ∷ []) ≡ false → operands (word ∷ words) ≡ option_map (λ rest. word ∷ rest) (operands words)
 operands_plain word words dashed begins = rw (dashed, begins) refl
 
--- where there is none, `clap` finds the operands
+-- where there is no such word, `clap` finds the operands
 pub seen_operands : (words : List Text) → list_all is_utf8 words ≡ true → has_hyphen words ≡ false → seen words ≡ operands words
 unfolding seen
 seen_operands [] u h = refl
@@ -98,7 +98,7 @@ hyphen_spelled (name ∷ words) h = dashed (bytes_eq name (45 ∷ 45 ∷ [])) re
 abbrev now : List (Bor Text) → List Text
 now = map (λ text. text.now)
 
--- the test stands for the rest of the words
+-- the test of the remaining words is the test of all words
 abbrev pub StandsAt : List (Bor Text) → ℕ → Type 0
 StandsAt texts i = has_hyphen (now texts) ≡ has_hyphen (now (drop i texts))
 

@@ -16,7 +16,7 @@ use Rattle.vp_text.proofs.Numbers.{number_exact}
 use Rattle.vp_text.proofs.Whole.{whole_ok, whole_err}
 use Rattle.vp_words.specs.Commands.{number}
 
--- the number of a word that is one
+-- the number of a word that is a number
 number_some : (least most n : ℕ) (word : List ℕ) → n < 2 ^ 64 → IsNumber least most n word → number least most word ≡ Some n
 number_some least most n word fits h =
     let value : digits_value 10 word ≡ n = ap (digits_value 10) h.is ∙ (decimal_is_IsNumeral n fits).1 in
@@ -38,7 +38,7 @@ number_none least most word none = go (bytes_eq word (decimal value) && (nat_le 
         absurd (none value (record { is = (bytes_eq-Decides word (decimal value)).0 parts.0; above = leb-true least value range.0; below = leb-true value most range.1 }))
     go false e = refl
 
--- what a reader of the whole word answers
+-- what reading the whole word gives
 number_read : (least most n : ℕ) (rest word : List ℕ) → least ≤ most → most < 2 ^ 64 → whole (number_at least most) word ≡ Ok (n, rest) → number least most word ≡ Some n
 number_read least most n rest word range fits read =
     let is = whole_ok (number_exact least most range fits) word n rest read in

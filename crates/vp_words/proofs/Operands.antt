@@ -1,4 +1,4 @@
--- How `clap` reads the words behind a command's name.
+-- How `clap` reads the words after a command's name.
 use Rattle.std.proofs.Common.{◌≡◌, ◌⊎◌, ℕ, Bool, true, false, ◌&&◌, List, [], ◌∷◌, Option, Some, None, refl, sym, ap, subst, ◌∙◌, arith, inl, inr, codes, option_map, chars, IsUtf8, not}
 use Rattle.std.specs.Prelude.{fold, option_and_then, nat_eq, if◌then◌else◌}
 use Rattle.std.specs.List.{list_all, starts_with}
@@ -19,19 +19,19 @@ pub record HasNoFlag (s : Shape) : Type 0 where
   pub long : (name : Text) → arg_by_long s.rules name ≡ None
   pub short : (c : ℕ) → arg_by_short s.rules c ≡ None
 
--- the rows so far, and the values of the operand that was met last
+-- the rows so far, and the values of the operand that came last
 abbrev pub Kept : Type 0
 Kept = List Row × Option (Text × List Text)
 
 abbrev pub held : Kept → Held
 held h = record { rows = h.0; pending = h.1; skip = 0 }
 
--- an operand of several words takes the next one, or none is begun
+-- an operand of several words takes the next one, or none has begun
 abbrev pub begun : Bool → Waiting
 begun true = positional
 begun false = idle
 
--- before a word for the operand p, where `--` was met or not
+-- before a word for the operand p, where `--` has come or not
 abbrev pub within : Bool → Kept → ℕ → Bool → Walk
 within more h p trailing = record { held = held h; waiting = begun more; position = p; is_trailing = trailing; stopped = None }
 
@@ -41,7 +41,7 @@ at h p trailing = within false h p trailing
 abbrev unknown : Kinds
 unknown = kind.UnknownArgument ∷ []
 
--- `clap` takes the word for a long flag, for short flags, or for an operand, as it does a `-` alone
+-- `clap` takes the word for a long flag, for short flags, or, as with `-` by itself, for an operand
 pub record IsLong (word : Text) : Type 0 where
   pub dashes : bytes_eq word (45 ∷ 45 ∷ []) ≡ false
   pub begins : starts_with nat_eq word (45 ∷ []) ≡ true
@@ -119,9 +119,9 @@ unfolding walked
 plain_walk s true h p word w = rw (w.dashes, w.long, w.short) refl
 plain_walk s false h p word w = rw (w.dashes, w.long, w.short) refl
 
--- ---- the words behind a name
+-- ---- the words after a name
 
--- the kinds of the first failure at the words, from where the walk stands
+-- the kinds of the first failure in the words, from here on
 unfoldable pub level_kinds : Shape → Walk → List Text → Kinds
 level_kinds s w words =
     let end = (fold (walked s.rules []) w words).held in
@@ -133,7 +133,7 @@ abbrev pub outcome : Kinds → List Row → Option (List Row)
 outcome [] rows = Some rows
 outcome (k ∷ ks) rows = None
 
--- what is found in the words, from where the walk stands, unless the parse fails
+-- what is found in the words from here on, unless the parse fails
 unfoldable pub level : Shape → Walk → List Text → Option (List Row)
 level s w words = outcome (level_kinds s w words) (finished s.rules (fold (walked s.rules []) w words).held)
 
@@ -153,7 +153,7 @@ pub level_stops : (s : Shape) (w : Walk) (word : Text) (rest : List Text) (k : E
 unfolding level level_kinds walk_fault
 level_stops s w word rest k ks fault = rw fault refl
 
--- ---- the operands as `clap` finds them, a `-` alone among them
+-- ---- the operands as `clap` finds them, `-` by itself among them
 
 abbrev pub is_flag : Text → Bool
 is_flag word = starts_with nat_eq word (45 ∷ []) && not (bytes_eq word (45 ∷ []))
@@ -192,7 +192,7 @@ seen_dashes : (f : List Text → Option (List Row)) (word : Text) (words : List 
 unfolding seen
 seen_dashes f word words e = rw e refl
 
--- Where the words behind `--` are found by f, all words are found by it over the operands.
+-- Where f finds the words after `--`, it finds all words by the operands.
 pub found_next : (s : Shape) (more : Bool) (h : Kept) (p : ℕ) (f : List Text → Option (List Row)) → HasNoFlag s
     → ((words : List Text) → level s (within more h p true) words ≡ f words)
     → (word : Text) (words : List Text) → is_utf8 word ≡ true

@@ -1,4 +1,4 @@
--- The words of an audit: `clap` takes them for one operand, and then they are sites and logs by turns.
+-- The words of an audit: `clap` takes them for one operand, and then they are sites and logs in turn.
 use Rattle.std.proofs.Common.{◌≡◌, ℕ, ◌+◌, ◌*◌, ◌<◌, ◌≤◌, Bool, true, false, List, [], ◌∷◌, ◌++◌, length, get_or, take, drop, map, Option, Some, None, refl, sym, ap, subst, ◌∙◌, arith, max, codes, option_map, append_assoc}
 use Rattle.std.specs.Borrow.{Bor}
 use Rattle.std.specs.Fmt.{decimal}
@@ -39,7 +39,7 @@ audit_row words = record { id = codes "PAIRS"; values = words; count = None; sou
 abbrev pub audit_rows : List Text → Option (List Row)
 audit_rows words = outcome (range_kinds 2 32 (length words)) (audit_row words ∷ [])
 
--- behind the first word and these
+-- after the first word and these
 abbrev behind : Text → List Text → Kept
 behind word words = ([], Some (codes "PAIRS", word ∷ words))
 
@@ -96,7 +96,7 @@ audit_found = found audit_shape nothing 1 audit_rows no_flag dashed
     dashed [] = refl
     dashed (word ∷ words) = level_goes audit_shape (at nothing 1 true) (within true (behind word []) 1 true) word words refl refl ∙ trailing word [] words
 
--- ---- sites and logs by turns
+-- ---- sites and logs in turn
 
 abbrev Logs : Type 0
 Logs = List (ℕ × Text)
@@ -112,7 +112,7 @@ site_below word n e =
 abbrev from_site : ℕ → Text → List Text → ℕ → Option Logs
 from_site last log words n = if nat_lt last n then option_map (λ more. (n, log) ∷ more) (pairs n words) else None
 
--- there are no more than 16 sites
+-- there are at most 16 sites
 few : (last : ℕ) (words : List Text) (logs : Logs) → last ≤ 16 → pairs last words ≡ Some logs → length words + 2 * last ≤ 32
 few last [] logs low e = omega (arith, low)
 few last (s ∷ []) logs low e = absurd (none-some logs e)
@@ -138,7 +138,7 @@ counts word (log ∷ words) logs e =
     let count = length (word ∷ log ∷ words) in
     rw (ne_eqb count 0 (λ e. omega (arith, e)), le-ltb count 2 (omega arith), le-ltb 32 count (omega (arith, most))) refl
 
--- what `clap` takes for the operand is what the words say
+-- what `clap` takes for the operand means what the words mean
 pub audit_says : (words : List Text) → option_and_then (meant (codes "audit")) (audit_rows words) ≡ auditing words
 audit_says [] = refl
 audit_says (word ∷ words) = go (range_kinds 2 32 (length (word ∷ words))) refl
@@ -153,7 +153,7 @@ audit_says (word ∷ words) = go (range_kinds 2 32 (length (word ∷ words))) re
 
 -- ---- the loop over the words
 
--- what the words ahead make of the logs so far, where a site waits for its log, or none does
+-- the logs that the remaining words give with those so far, where a site waits for its log, or none does
 abbrev pub ahead : Option ℕ → ℕ → Logs → List Text → Option Logs
 ahead None last logs words = option_map (λ more. logs ++ more) (pairs last words)
 ahead (Some site) last logs [] = None
@@ -188,7 +188,7 @@ module _ (words : List (Bor Text)) (i : ℕ) (word : Bor Text) (lt : i < length 
       go None = refl
       go (Some more) = ap Some (sym (append_assoc logs ((site, text) ∷ []) more))
 
-  -- no site, or none that is above the one before
+  -- no site, or one that isn't above the one before
   module _ (last : ℕ) (logs : Logs) (stands : StandsAt words None last logs i) where
     refused : (o : Option ℕ) → site text ≡ o → ((log : Text) (rest : List Text) → option_and_then (from_site last log rest) o ≡ None) → None ≡ pairs 0 (now words)
     refused o e none = sym (here None last logs stands ∙ go (now (drop (i + 1) words)))
@@ -222,7 +222,7 @@ loop_done words last logs i stands le = sym (stands ∙ at_drop_all (λ (l : Lis
 pub loop_cut : (words : List (Bor Text)) (site last : ℕ) (logs : Logs) (i : ℕ) → StandsAt words (Some site) last logs i → length words ≤ i → None ≡ pairs 0 (now words)
 loop_cut words site last logs i stands le = sym (stands ∙ at_drop_all (λ (l : List (Bor Text)). ahead (Some site) last logs (now l)) words i le)
 
--- ---- what the matches say
+-- ---- what the matches mean
 
 pub audited_by : (f : Found) (given : Option (List Text)) → given ≡ option_map raw_values (matched_of f (codes "PAIRS"))
     → option_and_then (λ words. option_map commands.Audit (pairs 0 words)) given ≡ audited (rows_of f)

@@ -1,4 +1,4 @@
--- What `clap` answers to the words of the program's commands.
+-- The results of `clap` for the words of the program's commands.
 use Rattle.std.proofs.Common.{◌≡◌, ℕ, ◌+◌, true, false, List, [], ◌∷◌, ◌++◌, Option, Some, None, refl, sym, ◌∙◌, codes}
 use Rattle.std.specs.Prelude.{option_and_then}
 use Rattle.std.specs.List.{list_all}
@@ -26,7 +26,7 @@ operand_shape name ids = command_shape (operand_app name ids)
 abbrev pub given : Text → Text → Row
 given id word = record { id = id; values = word ∷ []; count = None; source = Some CommandLine; reading = reading.AsWritten }
 
--- The rows of the words, one for each of the ids, behind the rows so far.
+-- The rows of the words, one for each of the ids, after the rows so far.
 unfoldable pub operand_rows : List Text → List Row → List Text → Option (List Row)
 operand_rows [] rows [] = Some rows
 operand_rows [] rows (word ∷ words) = None
@@ -36,17 +36,17 @@ operand_rows (id ∷ ids) rows (word ∷ words) = operand_rows ids (rows ++ give
 abbrev pub nothing : Kept
 nothing = ([], None)
 
--- behind the operand of the id
+-- after the operand of the id
 abbrev pub behind : List Row → Text → Text → Kept
 behind rows id word = (rows, Some (id, word ∷ []))
 
--- No word more is taken: what was kept makes the rows.
+-- No more words are taken: what was kept makes the rows.
 record IsEnd (s : Shape) (h : Kept) (p : ℕ) (rows : List Row) : Type 0 where
   ended : level s (at h p true) [] ≡ Some rows
   turned : (word : Text) → turn_fault s [] (at h p true) word ≡ kind.UnknownArgument ∷ []
   stray : step_fault s p (held h) value ≡ kind.UnknownArgument ∷ []
 
--- A word is taken, whatever it is, before `--` or behind it, and has to be there.
+-- A word is taken, whatever it is, before `--` or after it, and is required.
 record IsNext (s : Shape) (h : Kept) (p : ℕ) (next : Text → Kept) : Type 0 where
   missing : level s (at h p true) [] ≡ None
   turned : (word : Text) → turn_fault s [] (at h p true) word ≡ []
@@ -97,6 +97,9 @@ draws_ids = codes "SEED" ∷ codes "COUNT" ∷ []
 abbrev pub node_ids : List Text
 node_ids = codes "SITE" ∷ codes "LOG" ∷ codes "TURNS" ∷ []
 
+abbrev pub gateway_ids : List Text
+gateway_ids = codes "PORT" ∷ codes "TURNS" ∷ codes "SITE" ∷ []
+
 abbrev pub client_ids : List Text
 client_ids = codes "PORT" ∷ codes "TURNS" ∷ codes "SITE" ∷ codes "CALL" ∷ []
 
@@ -122,6 +125,12 @@ pub node_found : (name : Text) → Finds name node_ids
 unfolding level level_kinds clap_on_literals
 node_found name =
     taken (operand_shape name node_ids) nothing 1 node_ids [] (record { long = λ n. refl; short = λ c. refl })
+    (record { missing = refl; turned = λ word. refl; went = λ word. refl; fine = refl; taken = λ word. refl }, λ word. (record { missing = refl; turned = λ word. refl; went = λ word. refl; fine = refl; taken = λ word. refl }, λ word. (record { missing = refl; turned = λ word. refl; went = λ word. refl; fine = refl; taken = λ word. refl }, λ word. (record { ended = refl; turned = λ word. refl; stray = refl }))))
+
+pub gateway_found : (name : Text) → Finds name gateway_ids
+unfolding level level_kinds clap_on_literals
+gateway_found name =
+    taken (operand_shape name gateway_ids) nothing 1 gateway_ids [] (record { long = λ n. refl; short = λ c. refl })
     (record { missing = refl; turned = λ word. refl; went = λ word. refl; fine = refl; taken = λ word. refl }, λ word. (record { missing = refl; turned = λ word. refl; went = λ word. refl; fine = refl; taken = λ word. refl }, λ word. (record { missing = refl; turned = λ word. refl; went = λ word. refl; fine = refl; taken = λ word. refl }, λ word. (record { ended = refl; turned = λ word. refl; stray = refl }))))
 
 pub client_found : (name : Text) → Finds name client_ids

@@ -1,4 +1,4 @@
--- What `clap` answers to the program's words is the command that they spell.
+-- The result of `clap` for the program's words is the command that they mean.
 use Rattle.std.proofs.Common.{◌≡◌, ◌⊎◌, Bool, true, false, List, [], ◌∷◌, ◌++◌, Option, Some, None, refl, sym, ap, ap₂, subst, ◌∙◌, inl, inr, codes, option_map, append_assoc}
 use Rattle.std.specs.Prelude.{fold, if◌then◌else◌, option_and_then}
 use Rattle.std.specs.List.{list_all}
@@ -18,7 +18,7 @@ use Rattle.vp_words.specs.Parsed.{has_hyphen, meant, program_app}
 use Rattle.vp_words.specs.declared.words.Command.{Command}
 use Rattle.vp_words.specs.declared.words.Command.TheVariants as commands
 use Rattle.vp_words.proofs.Hyphens.{hyphen_on, hyphen_spelled, neither, seen_operands}
-use Rattle.vp_words.proofs.Parsing.{alone_found, alone_ids, client_found, client_ids, draws_found, draws_ids, node_found, node_ids, nothing, operand_rows, operand_shape, signal_found, signal_ids}
+use Rattle.vp_words.proofs.Parsing.{alone_found, alone_ids, client_found, client_ids, draws_found, draws_ids, gateway_found, gateway_ids, node_found, node_ids, nothing, operand_rows, operand_shape, signal_found, signal_ids}
 use Rattle.vp_words.proofs.Pairs.{audit_found, audit_rows, audit_says, audit_shape}
 use Rattle.vp_words.proofs.Operands.{IsLong, IsPlain, IsShort, after_map, at, level, level_kinds, look, none_after, outcome, seen}
 use Rattle.vp_words.proofs.Operands.Look.{dashes, long, plain, short}
@@ -30,7 +30,7 @@ answer (k ∷ ks) met = None
 
 -- ---- the first word
 
--- a walk that met the subcommand, with the words behind it
+-- a walk that has come to the subcommand, with the words after it
 abbrev stopped : Text → List Text → Walk
 stopped name words = record { held = nothing_held; waiting = idle; position = 1; is_trailing = false; stopped = Some (name, words) }
 
@@ -108,6 +108,10 @@ audit_met : MeetsShape (codes "audit") audit_shape
 unfolding clap_on_literals level level_kinds
 audit_met words = rw (stopped_fault top names (codes "audit") [] words, stopped_walk top.rules names (codes "audit") [] words) (below (level_kinds audit_shape (at nothing 1 false) words) (codes "audit") _)
 
+gateway_met : Meets (codes "gateway") gateway_ids
+unfolding clap_on_literals level level_kinds
+gateway_met words = rw (stopped_fault top names (codes "gateway") [] words, stopped_walk top.rules names (codes "gateway") [] words) (below (level_kinds (operand_shape (codes "gateway") gateway_ids) (at nothing 1 false) words) (codes "gateway") _)
+
 -- ---- a command's operands
 
 pub each : {X Y : Type 0} (f g : X → Option Y) (o : Option X) → ((x : X) → f x ≡ g x) → option_and_then f o ≡ option_and_then g o
@@ -118,7 +122,7 @@ in_turn : {X Y Z : Type 0} (f : Y → Option Z) (g : X → Option Y) (o : Option
 in_turn f g None = refl
 in_turn f g (Some x) = refl
 
--- what the rows of the operands say is what the operands say
+-- what the rows of the operands mean is what the operands mean
 abbrev SaysRows : Text → (List Text → Option (List Row)) → Type 0
 SaysRows name rows = (words : List Text) → option_and_then (meant name) (rows words) ≡ named name words
 
@@ -195,7 +199,15 @@ unfolding operand_rows
 logs_says [] = refl
 logs_says (more ∷ words) = refl
 
--- ---- a first word that is no command's name
+gateway_says : Says (codes "gateway") gateway_ids
+unfolding operand_rows
+gateway_says [] = refl
+gateway_says (port ∷ []) = refl
+gateway_says (port ∷ turns ∷ []) = refl
+gateway_says (port ∷ turns ∷ site ∷ []) = refl
+gateway_says (port ∷ turns ∷ site ∷ more ∷ words) = refl
+
+-- ---- a first word that isn't a command's name
 
 record IsOther (name : Text) : Type 0 where
   named : (words : List Text) → named name words ≡ None
@@ -280,7 +292,11 @@ named_parsed name words v u same =
                                                                 elim (test name (codes "audit")) [
                                                                   | inl e ↦ by (codes "audit") audit_shape audit_rows e audit_met (audit_found words u) audit_says
                                                                   | inr a ↦
-                                                                      other_parsed name words v (record { named = λ rest. rw (r.0, c.0, n.0, l.0, t.0, p.0, k.0, g.0, s.0, o.0, a.0) refl; met = rw (r.1, c.1, n.1, l.1, t.1, p.1, k.1, g.1, s.1, o.1, a.1) refl })
+                                                                      elim (test name (codes "gateway")) [
+                                                                        | inl e ↦ known (codes "gateway") gateway_ids e gateway_met (gateway_found (codes "gateway") words u) gateway_says
+                                                                        | inr y ↦
+                                                                            other_parsed name words v (record { named = λ rest. rw (r.0, c.0, n.0, l.0, t.0, p.0, k.0, g.0, s.0, o.0, a.0, y.0) refl; met = rw (r.1, c.1, n.1, l.1, t.1, p.1, k.1, g.1, s.1, o.1, a.1, y.1) refl })
+                                                                      ]
                                                                 ]
                                                           ]
                                                     ]
@@ -293,7 +309,7 @@ named_parsed name words v u same =
           ]
     ]
 
--- `clap` doesn't parse a list that begins with `--`, and no command has the name `--`
+-- `clap` doesn't parse a list that begins with `--`, and no command has that name
 headed : (name : Text) (words : List Text) → list_all is_utf8 (name ∷ words) ≡ true → has_hyphen (name ∷ words) ≡ false → parse (name ∷ words) ≡ option_and_then (named name) (operands words)
 headed name words u h = go (bytes_eq name (45 ∷ 45 ∷ [])) refl
   where

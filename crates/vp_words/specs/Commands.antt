@@ -15,7 +15,7 @@ use Rattle.vp_words.specs.declared.words.Signal.TheVariants as signals
 
 -- ---- single operands
 
--- the number that the word is the decimal text of, where it is one of `least` to `most`
+-- the number of `least` to `most` whose decimal text the word is
 abbrev pub number : ℕ → ℕ → List ℕ → Option ℕ
 number least most word =
     let value = digits_value 10 word in
@@ -30,7 +30,7 @@ port = number 1 65535
 abbrev pub turns : List ℕ → Option ℕ
 turns = number 0 (2 ^ 64 - 1)
 
--- the call that the word is the text of, as a schedule has it behind the site
+-- the call whose text the word is, as it follows its site in a schedule
 unfoldable pub call : List ℕ → Option Call
 call word = elim (call_at word) [ Ok read ↦ if bytes_eq word (call_text read.0) then Some read.0 else None | Err left ↦ None ]
 
@@ -44,12 +44,12 @@ draws seed count = option_and_then (λ s. option_map (λ c. (s, c)) (number 0 24
 abbrev pub node : List ℕ → List ℕ → List ℕ → Option (ℕ × List ℕ × ℕ)
 node s log t = option_and_then (λ site. option_map (λ turns. (site, log, turns)) (turns t)) (site s)
 
--- a client's own port, its turns, and a site
+-- the own port of a client or a gateway, its turns, and a site
 abbrev pub client : List ℕ → List ℕ → List ℕ → Option (ℕ × ℕ × ℕ)
 client p t s = option_and_then (λ port. option_and_then (λ turns. option_map (λ site. (port, turns, site)) (site s)) (turns t)) (port p)
 
--- The operands among the words behind a command's name: all but the first `--`. A word that begins with `-`, unless it
--- stands behind a `--`, leaves none.
+-- The operands among the words after a command's name: all but the first `--`. Where a word before `--` begins with `-`, there are
+-- none.
 abbrev pub operands : List (List ℕ) → Option (List (List ℕ))
 operands [] = Some []
 operands (word ∷ words) =
@@ -57,7 +57,7 @@ operands (word ∷ words) =
     else (if starts_with nat_eq word (codes "-") then None
     else option_map (λ rest. word ∷ rest) (operands words))
 
--- sites with their logs, by turns, where each site is above the one before
+-- sites with their logs, in turn, where each site is above the one before
 abbrev pub pairs : ℕ → List (List ℕ) → Option (List (ℕ × List ℕ))
 pairs last [] = Some []
 pairs last (s ∷ []) = None
@@ -86,10 +86,14 @@ abbrev pub signalling : Signal → List (List ℕ) → Option Command
 signalling given (s ∷ []) = option_map (λ site. commands.Signal site given) (site s)
 signalling given _ = None
 
--- one pair at least
+-- at least one pair
 abbrev pub auditing : List (List ℕ) → Option Command
 auditing [] = None
 auditing words = option_map commands.Audit (pairs 0 words)
+
+abbrev pub answering : List (List ℕ) → Option Command
+answering (p ∷ t ∷ s ∷ []) = option_map (λ o. commands.Gateway o.0 o.1 o.2) (client p t s)
+answering _ = None
 
 -- ---- a command by its name
 
@@ -106,18 +110,19 @@ named name words =
     else (if bytes_eq name (codes "soak") then drawing (λ d. commands.Soak d.0 d.1) words
     else (if bytes_eq name (codes "logs") then alone commands.Logs words
     else (if bytes_eq name (codes "audit") then auditing words
-    else None))))))))))
+    else (if bytes_eq name (codes "gateway") then answering words
+    else None)))))))))))
 
--- a command's name, and its operands
+-- a command's name, and then its operands
 abbrev pub spelled : List (List ℕ) → Option Command
 spelled [] = None
 spelled (name ∷ words) = option_and_then (named name) (operands words)
 
--- The command of the words. A word that isn't UTF-8 makes them none.
+-- The command of the words. Where a word isn't UTF-8 there is none.
 unfoldable pub command_of : List (List ℕ) → Option Command
 command_of words = if list_all is_utf8 words then spelled words else None
 
--- the seed and the count are in their ranges, and the call of a client is one
+-- the seed and the count are in their ranges, and a client's call has a text
 abbrev pub IsAllowed : Command → Type 0
 IsAllowed (commands.Generate seed count) = (seed ≤ 2147483647) × (count ≤ 2400)
 IsAllowed (commands.Soak seed count) = (seed ≤ 2147483647) × (count ≤ 2400)

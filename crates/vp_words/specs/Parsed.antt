@@ -1,4 +1,4 @@
--- The program's commands as `clap` knows them, and what its matches say.
+-- The program's commands as `clap` has them, and what its matches mean.
 use Rattle.std.specs.Prelude.{ℕ, List, [], ◌∷◌, codes, true, Bool, not, fold, Option, Some, None, option_map, option_and_then, if◌then◌else◌}
 use Rattle.std.specs.List.{list_any, take_while}
 use Rattle.std.specs.Str.{bytes_eq}
@@ -9,7 +9,7 @@ use Rattle.vp_words.specs.declared.words.Command.TheVariants as commands
 use Rattle.vp_words.specs.declared.words.Signal.{Signal}
 use Rattle.vp_words.specs.declared.words.Signal.TheVariants as signals
 
--- A `-` alone stands before the first `--`. `clap` takes it for an operand.
+-- There is a word `-` before the first `--`. `clap` takes it for an operand.
 unfoldable pub has_hyphen : List Text → Bool
 has_hyphen words = list_any (λ word. bytes_eq word (codes "-")) (take_while (λ word. not (bytes_eq word (codes "--"))) words)
 
@@ -19,7 +19,7 @@ required_rule id = record (new_rule id) { required = true }
 abbrev pub with_operand : App → Text → App
 with_operand app id = with_rule app (required_rule id)
 
--- a command of operands that all have to be there
+-- a command whose operands are all required
 abbrev pub operand_app : Text → List Text → App
 operand_app name ids = fold with_operand (new_app name) ids
 
@@ -42,7 +42,10 @@ pairs_rule = record (required_rule (codes "PAIRS")) { range = Some (record { sta
 abbrev pub audit_app : App
 audit_app = with_rule (new_app (codes "audit")) pairs_rule
 
--- no options, and no word for help
+abbrev pub gateway_app : App
+gateway_app = operand_app (codes "gateway") (codes "PORT" ∷ codes "TURNS" ∷ codes "SITE" ∷ [])
+
+-- no options, and no command for help
 abbrev pub bare_app : App
 bare_app = let app = new_app (codes "vpdb") in record app {
   top = record app.top { no_binary_name = true; disable_help_flag = true; disable_help_subcommand = true };
@@ -54,9 +57,10 @@ with_command app command = with_subcommand app command.top
 abbrev pub program_app : App
 program_app = fold with_command bare_app (
     new_app (codes "replay") ∷ new_app (codes "check") ∷ node_app ∷ client_app ∷ signal_app (codes "tick")
-    ∷ signal_app (codes "probe") ∷ signal_app (codes "stop") ∷ drawing_app (codes "generate") ∷ drawing_app (codes "soak") ∷ new_app (codes "logs") ∷ audit_app ∷ [])
+    ∷ signal_app (codes "probe") ∷ signal_app (codes "stop") ∷ drawing_app (codes "generate") ∷ drawing_app (codes "soak") ∷ new_app (codes "logs") ∷ audit_app
+    ∷ gateway_app ∷ [])
 
--- ---- what the rows of the operands say
+-- ---- what the rows of the operands mean
 
 abbrev pub with_first : {A : Type 0} → Text → List Row → (Text → Option A) → Option A
 with_first id rows goes = option_and_then goes (first_of id rows)
@@ -85,7 +89,14 @@ signalled given rows = with_first (codes "SITE") rows (λ s. option_map (λ site
 abbrev pub audited : List Row → Option Command
 audited rows = option_and_then (λ words. option_map commands.Audit (pairs 0 words)) (all_of (codes "PAIRS") rows)
 
--- the command that a subcommand with its rows stands for
+abbrev pub gateway_operands : List Row → Option (ℕ × ℕ × ℕ)
+gateway_operands rows =
+    with_first (codes "PORT") rows (λ port. with_first (codes "TURNS") rows (λ turns. with_first (codes "SITE") rows (λ site. client port turns site)))
+
+abbrev pub answered : List Row → Option Command
+answered rows = option_map (λ o. commands.Gateway o.0 o.1 o.2) (gateway_operands rows)
+
+-- the command that a subcommand with its rows means
 abbrev pub meant : Text → List Row → Option Command
 meant name rows =
     if bytes_eq name (codes "replay") then Some commands.Replay
@@ -99,4 +110,5 @@ meant name rows =
     else (if bytes_eq name (codes "soak") then option_map (λ d. commands.Soak d.0 d.1) (drawn rows)
     else (if bytes_eq name (codes "logs") then Some commands.Logs
     else (if bytes_eq name (codes "audit") then audited rows
-    else None))))))))))
+    else (if bytes_eq name (codes "gateway") then answered rows
+    else None)))))))))))

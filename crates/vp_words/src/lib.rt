@@ -1,4 +1,4 @@
-//! The words of the command line: which command they are.
+//! The words of the command line: which command they ask for.
 #![tactic(auto)]
 
 mod words;

@@ -7,7 +7,7 @@ ghost use Rattle.clap.specs.Words.{app_of, found_of, rows_of, subcommand_rows_of
 ghost use Rattle.clap.specs.declared.builder.command.Command.TheViews.{out-Command};
 ghost use Rattle.vp_text.specs.Reading.{Reads, number_at, whole};
 ghost use Rattle.vp_words.specs.Commands.{IsAllowed, command_of, number, pairs, site};
-ghost use Rattle.vp_words.specs.Parsed.{audit_app, audited, bare_app, called, client_operands, drawn, has_hyphen, meant, node_operands, operand_app, program_app, served, signalled, with_command};
+ghost use Rattle.vp_words.specs.Parsed.{answered, audit_app, audited, bare_app, called, client_operands, drawn, gateway_operands, has_hyphen, meant, node_operands, operand_app, program_app, served, signalled, with_command};
 
 use clap::error::ErrorKind;
 use clap::{Arg, ArgMatches};
@@ -16,10 +16,10 @@ use vp_base::{Call, LAST_SITE, NameFault, NoMemory, Seq, SiteId, Word};
 use vp_schedule::read_call;
 use vp_text::{Cursor, Unexpected};
 
-/// The largest seed.
+/// The highest seed.
 const MOST_SEED: u64 = 2_147_483_647;
 
-/// The most events that are drawn.
+/// How many events may be drawn.
 const MOST_COUNT: u64 = 2_400;
 
 /// Sites with the names of their logs, ascending by site.
@@ -32,13 +32,13 @@ pub enum Command {
     Replay,
     /// Checks a history.
     Check,
-    /// Runs the node of the site on the log; it takes so many datagrams at most.
+    /// Runs the node of the site on the log; it stops after at most `turns` datagrams.
     Node {
         site: SiteId,
         log: Word,
         turns: u64,
     },
-    /// Sends the call to the node of the site, from the client's own port, and waits for so many datagrams at most.
+    /// Sends the call to the node of the site, from the client's own port, and waits for the answer, for at most `turns` datagrams.
     Client {
         port: u16,
         turns: u64,
@@ -50,39 +50,48 @@ pub enum Command {
         site: SiteId,
         signal: Signal,
     },
-    /// Draws a schedule: the seed is at most 2147483647, and the count of its events at most 2400.
+    /// Draws a schedule. The seed is at most 2147483647, and the count of events at most 2400.
     Generate {
         seed: u32,
         count: u32,
     },
-    /// Draws a schedule as `Generate` does, plays it, and counts what came of it.
+    /// Draws a schedule as `Generate` does, plays it, and counts what happens.
     Soak {
         seed: u32,
         count: u32,
     },
-    /// Replays a schedule, and tells what it leaves in the log of each site.
+    /// Replays a schedule, and prints what it leaves in the log of each site.
     Logs,
-    /// Reports what the sites hold of each record, by what their logs keep.
+    /// Reports what the sites hold of each record, as their logs have it.
     Audit {
         logs: Logs,
     },
+    /// Answers the calls of a session line by line, from the gateway's own port, each by what the node of the site answers among so many
+    /// datagrams at most.
+    Gateway {
+        port: u16,
+        turns: u64,
+        site: SiteId,
+    },
 }
 
-/// What a node is told to do.
+/// What a node is ordered to do.
 #[derive(Clone, Copy, Debug, PartialEq, Eq)]
 pub enum Signal {
     /// Time has passed: calls that wait are late.
     Tick,
-    /// The site probes every other site of the catalogue, or invites them to a new view.
+    /// The site probes every other site of the catalogue, or invites them to a new view where the sites heard since its last probes
+    /// aren't the members of its view.
     Probe,
-    /// The node ends.
+    /// The node stops.
     Stop,
 }
 
 impl Command {
-    /// The command of the words: its name and its operands, with or without one `--` among them.
+    /// The command that the words ask for: its name and its operands, with or without one `--` among them; `None` where they ask
+    /// for none.
     ///
-    /// Whatever `clap` answers, other than matches or want of memory, makes the words no command. So does a call for help.
+    /// Whatever `clap` returns, other than matches or want of memory, makes the words no command. So does a call for help.
     pub fn of(alloc: Global, words: &[Word]) -> Result<Option<Command>, NoMemory>
         ensures command { IfOk result (λ command. command ≡ command_of words.now) }
         ensures allowed { IfOk result (λ command. IfSome command IsAllowed) }
@@ -101,7 +110,7 @@ impl Command {
     }
 }
 
-/// The words as text, where each is UTF-8.
+/// The words as text, or `None` where one is not UTF-8.
 fn texts_of(alloc: Global, words: &[Word]) -> Result<Option<Vec<&str>>, NoMemory>
     ensures { IfOk result (λ found. option_map (λ texts. map (λ text. text.now) texts.items) found
         ≡ (if list_all is_utf8 words.now then Some words.now else None)) }
@@ -116,7 +125,7 @@ fn texts_of(alloc: Global, words: &[Word]) -> Result<Option<Vec<&str>>, NoMemory
     Ok(Some(texts))
 }
 
-/// Whether a `-` alone stands before the first `--`. `clap` would take it for an operand.
+/// Whether there is a word `-` before the first `--`. `clap` would take it for an operand.
 fn has_hyphen(texts: &[&str]) -> bool
     ensures { result ≡ has_hyphen (map (λ text. text.now) texts.now) }
 {
@@ -131,7 +140,7 @@ fn has_hyphen(texts: &[&str]) -> bool
     false
 }
 
-/// The program's commands.
+/// The program's commands, for `clap`.
 fn program<'a>(alloc: Global) -> Result<clap::Command<'a>, AllocError>
     ensures { IfOk result (λ c. app_of c ≡ program_app) }
 {
@@ -145,10 +154,11 @@ fn program<'a>(alloc: Global) -> Result<clap::Command<'a>, AllocError>
     let program = with_command(alloc, program, "generate", &["SEED", "COUNT"])?;
     let program = with_command(alloc, program, "soak", &["SEED", "COUNT"])?;
     let program = with_command(alloc, program, "logs", &[])?;
-    program.subcommand(auditing(alloc)?)
+    let program = program.subcommand(auditing(alloc)?)?;
+    with_command(alloc, program, "gateway", &["PORT", "TURNS", "SITE"])
 }
 
-/// The program without its commands. There are no options, and so none that asks for help.
+/// The program without its commands. It has no options, so none asks for help.
 fn bare<'a>(alloc: Global) -> clap::Command<'a>
     ensures { app_of result ≡ bare_app }
 {
@@ -158,7 +168,7 @@ fn bare<'a>(alloc: Global) -> clap::Command<'a>
         .disable_help_subcommand(true)
 }
 
-/// The program with one command more.
+/// Adds a command to the program.
 fn with_command<'a>(
     alloc: Global,
     program: clap::Command<'a>,
@@ -170,7 +180,7 @@ fn with_command<'a>(
     program.subcommand(taking(alloc, name, operands)?)
 }
 
-/// A command of operands that all have to be there.
+/// A command whose operands are all required.
 fn taking<'a>(
     alloc: Global,
     name: &'a str,
@@ -186,7 +196,7 @@ fn taking<'a>(
     Ok(command)
 }
 
-/// The command of an audit: sites and logs by turns, so that all are one operand for `clap`.
+/// The command of an audit: sites and logs in turn, all of them one operand for `clap`.
 fn auditing<'a>(alloc: Global) -> Result<clap::Command<'a>, AllocError>
     ensures app { IfOk result (λ c. app_of c ≡ audit_app) }
     ensures local { IfOk result (λ c. (out-Command c).has_globals ≡ false) }
@@ -195,7 +205,7 @@ fn auditing<'a>(alloc: Global) -> Result<clap::Command<'a>, AllocError>
     clap::Command::new(alloc, "audit").arg(pairs)
 }
 
-/// The command that the matches stand for.
+/// The command that the matches mean.
 fn meant(alloc: Global, matches: &ArgMatches) -> Result<Option<Command>, NoMemory>
     ensures command { IfOk result (λ command. command ≡ option_and_then (λ m. meant m.0 m.1) (subcommand_rows_of matches.now)) }
     ensures allowed { IfOk result (λ command. IfSome command IsAllowed) }
@@ -215,6 +225,7 @@ fn meant(alloc: Global, matches: &ArgMatches) -> Result<Option<Command>, NoMemor
         "soak" => Ok(drawn(matches).map(|(seed, count)| Command::Soak { seed, count })),
         "logs" => Ok(Some(Command::Logs)),
         "audit" => audited(alloc, matches),
+        "gateway" => Ok(answered(matches)),
         _ => Ok(None),
     }
 }
@@ -313,7 +324,26 @@ fn audited(alloc: Global, matches: &ArgMatches) -> Result<Option<Command>, NoMem
     Ok(Some(Command::Audit { logs }))
 }
 
-/// The sites with their logs, where the words are such pairs and each site is above the one before.
+/// The command of a gateway.
+fn answered(matches: &ArgMatches) -> Option<Command>
+    ensures command { result ≡ answered (rows_of (found_of matches.now)) }
+    ensures allowed { IfSome result IsAllowed }
+{
+    let (port, turns, site) = gateway_operands(matches)?;
+    Some(Command::Gateway { port, turns, site })
+}
+
+#[tactic(auto, using(crate::proofs::Texts::first_rows))]
+fn gateway_operands(matches: &ArgMatches) -> Option<(u16, u64, SiteId)>
+    ensures { result ≡ gateway_operands (rows_of (found_of matches.now)) }
+{
+    let own = number(matches.get_str("PORT")?, 1, u64::from(u16::MAX))?;
+    let turns = number(matches.get_str("TURNS")?, 0, u64::MAX)?;
+    let site = site(matches.get_str("SITE")?)?;
+    Some((own as u16, turns, site))
+}
+
+/// The sites with their logs; `None` unless the words are such pairs, and each site is above the one before.
 fn pairs(alloc: Global, words: &[&str]) -> Result<Option<Logs>, NoMemory>
     ensures { IfOk result (λ found. found ≡ pairs 0 (map (λ word. word.now) words.now)) }
 {
@@ -338,7 +368,7 @@ fn pairs(alloc: Global, words: &[&str]) -> Result<Option<Logs>, NoMemory>
     Ok(if named.is_none() { Some(logs) } else { None })
 }
 
-/// The site that the whole text is the number of.
+/// The site whose number the whole text is.
 fn site(text: &str) -> Option<SiteId>
     ensures { result ≡ site text.now }
 {
@@ -346,7 +376,7 @@ fn site(text: &str) -> Option<SiteId>
     Some(SiteId::of(number as u8))
 }
 
-/// The number of the range that the whole text is in decimal, without leading zeros.
+/// The number of the range that the whole text is, in decimal without leading zeros.
 fn number(text: &str, least: u64, most: u64) -> Option<u64>
     requires { least ≤ most }
     ensures number { result ≡ number least most text.now }

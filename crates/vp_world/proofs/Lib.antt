@@ -1,3 +1,6 @@
+pub mod Changed
+pub mod GivenUp
+pub mod Started
 pub mod Moves
 pub mod Limited
 pub mod Least

@@ -1,4 +1,4 @@
--- An event leaves the count of steps, and what that says of the limits.
+-- An event does not change the count of steps, and what follows from that for the limits.
 use Rattle.std.proofs.Common.{◌≡◌, ◌≤◌, ◌+◌, ◌-◌, ◌^◌, ◌==◌, ℕ, Bool, true, false, nat_lt, if◌then◌else◌, is_some, List, length, Option, Some, None, Result, Ok, Err, IfOk, refl, ap, ◌∙◌, arith}
 use Rattle.std.specs.Option.{option_map_or}
 use Rattle.std.proofs.lemmas.Bool.Decides.{nat_tests}
@@ -80,7 +80,7 @@ module _ (catalogue : Catalogue) (e : Event) (w : WorldState) where
   steps_end r (end.Limit what limit) is h = rw is (refused_is ∙ steps_first (nat_lt 100000 (w.steps + 1)) what h.0, h.1)
 
   module _ (few : too_many_steps (w.steps + 1) ≡ None) (new : WorldState) where
-    -- too many messages, or none of both
+    -- too many messages, or neither
     pub happens_end : (r : Result Shown WorldEnd) → Does (next catalogue e w) new r → Ends (refused world_limits catalogue e w) r
     happens_end (Ok line) h = refused_is ∙ not_steps (nat_lt 100000 (w.steps + 1)) few ∙ h.1
     happens_end (Err end.NoMemory) h = tt

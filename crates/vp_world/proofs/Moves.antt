@@ -12,17 +12,17 @@ use Rattle.vp_model.specs.Catalogue.{Catalogue}
 use Rattle.vp_model.specs.Site.{SiteState}
 use Rattle.vp_model.specs.Step.{step}
 use Rattle.vp_model.specs.World.{Place, WorldState, Moved, shows, place_of, site_of, is_cut, change_place, fixed_view, after_step, site_step, at_site, deliver, crash, restart_place, restart_from, restart, happens, message_at, same_pair}
-use Rattle.vp_places.specs.declared.place.Taken.{Taken}
+use Rattle.vp_world.specs.declared.place.Taken.{Taken}
 use Rattle.vp_world.specs.declared.end.WorldEnd.{WorldEnd}
 use Rattle.vp_mail.specs.Posted.{Posted}
 use Rattle.vp_world.specs.Limits.{Does, too_many, with_line}
-use Rattle.vp_places.specs.Places.{newly_agreed, taken, site_in, stepped_place, crashed_place, restarted_place, restart_line}
+use Rattle.vp_world.specs.Places.{newly_agreed, taken, site_in, stepped_place, crashed_place, restarted_place, restart_line}
 use Rattle.vp_world.specs.Steps.{takes_in}
 
 -- changes of the first item that passes a test
 
 module _ {A : Type 0} (test : A → Bool) where
-  -- only what is done to that item counts
+  -- it matters only what is done to that item
   pub changed_to : (f g : A → A) (x : A) (xs : List A) → find test xs ≡ Some x → f x ≡ g x → change_first test f xs ≡ change_first test g xs
   changed_to f g x [] at e = refl
   changed_to f g x (y ∷ ys) at e = let rest = changed_to f g x ys in grind (arith, nat_tests, at, e, rest)

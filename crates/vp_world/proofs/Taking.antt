@@ -10,7 +10,7 @@ use Rattle.vp_model.specs.Told.{is_step}
 use Rattle.vp_model.specs.World.{WorldState, Moved, site_of, message_at, is_cut, shows, site_step, at_site, deliver, happens}
 use Rattle.vp_world.specs.Steps.{taker, if_up, receiver, taker_now}
 
--- what one event does is a step where there is something to do it, and nothing is in the way
+-- an event is a step where a site can do it, and nothing is in the way
 taken_by : {A : Type 0} (f : A → Moved) (o : Option A) (idle : Moved) (s : ℕ) → ((a : A) → is_step (f a).shown ≡ true) → is_step idle.shown ≡ false
     → (if is_some o then Some s else None) ≡ (if is_step (option_map_or f o idle).shown then Some s else None)
 taken_by f None idle s steps rests = rw rests refl

@@ -1,3 +1,5 @@
+pub mod Asked
+pub mod Places
 pub mod Limits
 pub mod Known
 pub mod Steps

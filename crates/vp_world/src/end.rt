@@ -1,13 +1,13 @@
-//! How a world ends.
+//! Why a world ends.
 
 ghost use Rattle.std.specs.Prelude.{◌≡◌};
 
 use vp_base::{Counted, NoMemory};
 
-/// Why an event is not done. The world is then gone.
+/// Why an event is not done. The world is gone then.
 #[derive(Clone, Copy, Debug, Drop, PartialEq, Eq)]
 pub enum WorldEnd {
-    /// With the event there would be more than `limit` of them.
+    /// With the event there would be more than `limit` steps or messages.
     Limit { what: Counted, limit: u32 },
     NoMemory,
 }

@@ -1,4 +1,4 @@
-//! An event that happened in a world.
+//! An event that was done in a world.
 
 ghost use Rattle.std.specs.Prelude.{◌≡◌, IfOk};
 
@@ -9,8 +9,8 @@ use std::mem;
 use vp_base::{Line, NoMemory, Shown};
 use vp_catalog::Catalog;
 
-/// An event that happened in a world. A contract sees the world behind it and its line. The messages and the commits of a step stand
-/// in the line until the world goes on, so that none is copied.
+/// An event that was done in a world. A contract sees the world after it and its line. The messages and the commits of the step are held
+/// by the line until the world goes on, so that none is copied.
 pub struct Happened {
     pub(crate) catalog: Catalog,
     pub(crate) state: Box<State>,
@@ -40,20 +40,21 @@ impl Model for Happened {
 }
 
 impl Happened {
-    /// What the trace shows for the event.
+    /// The line that the trace shows for the event.
     pub fn line(&self) -> &Line
         ensures { result.now ≡ self.now.1 }
     {
         &self.line
     }
 
+    /// The catalogue of the world.
     pub fn catalog(&self) -> &Catalog
         ensures { result.now ≡ self.now.0.catalogue }
     {
         &self.catalog
     }
 
-    /// The world behind the event. The messages and the commits move into it.
+    /// Takes out the world after the event, and moves the messages and the commits into it.
     pub fn into_world(self) -> Result<World, NoMemory>
         ensures { IfOk result (λ w. w ≡ self.0) }
     {

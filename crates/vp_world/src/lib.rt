@@ -1,15 +1,18 @@
-//! The world: all sites with the messages between them, and what each event of a schedule does.
+//! The world: all sites with the messages between them, and what each event of a schedule does. Each site has a place (`place`): what its
+//! log keeps, and the site itself while it is up.
 //!
 //! A contract sees what the definitions keep of a world.
 #![tactic(auto)]
 
 mod end;
 mod happened;
+mod place;
+mod places;
 mod state;
+mod stepper;
 mod world;
 
 pub use end::WorldEnd;
 pub use happened::Happened;
+pub use stepper::{ByThemselves, Stepper};
 pub use world::World;
-// who does the steps of a world's sites
-pub use vp_places::{ByThemselves, Stepper};

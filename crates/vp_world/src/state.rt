@@ -10,25 +10,24 @@ ghost use Rattle.vp_world.specs.Limits.{Ends, Does, too_many_steps, with_line};
 ghost use Rattle.vp_mail.specs.Queues.{AreSited};
 ghost use Rattle.vp_world.specs.Known.{IsWithinLimits};
 ghost use Rattle.vp_world.specs.Steps.{takes_in, if_up, receiver, taker_now, passed_over, step_at, step_by, IsReady, DoesEvent};
-ghost use Rattle.vp_places.specs.Asked.{Asked, restart_asked};
-ghost use Rattle.vp_places.specs.Places.{Did};
+ghost use Rattle.vp_world.specs.Asked.{Asked, restart_asked};
+ghost use Rattle.vp_world.specs.Places.{Did};
 ghost use Rattle.vp_world.specs.Heads.{is_open, head_of, lesser};
 
 use crate::end::WorldEnd;
+use crate::place::Taken;
+use crate::places::Places;
+use crate::stepper::Stepper;
 use std::alloc::Global;
 use std::marker::Model;
 use vp_base::{
     Call, Commits, CopyOf, Counted, Effects, Event, Input, MOST_MESSAGES, MOST_STEPS, NoMemory,
-    Sent, Shown, SiteId, View, ViewId,
+    OPENING, Sent, Shown, SiteId, View,
 };
 use vp_catalog::Catalog;
 use vp_mail::{Cuts, Mail, PAIRS, SITES};
-use vp_places::{Places, Stepper, Taken};
 
-/// The opening view.
-const OPENING: ViewId = ViewId { number: 0, site: 0 };
-
-/// The sites with their messages, and what they have agreed on and committed.
+/// The sites with their messages, the views that they have agreed on, and what they have committed.
 pub struct State {
     pub places: Places,
     agreed: Vec<View>,
@@ -67,7 +66,7 @@ impl Model for State {
     } };
 }
 
-/// The opening view of all sites.
+/// Lists the opening view of all sites, which is agreed from the start.
 #[tactic(auto, unfolding(vp_model::specs::World::start_world))]
 fn opening_views(alloc: Global, catalog: &Catalog) -> Result<Vec<View>, NoMemory>
     ensures { IfOk result (λ views. views.items ≡ (start_world catalog.now).agreed) }
@@ -101,7 +100,7 @@ fn put_commits(journal: &mut Commits, commits: Commits) -> Result<(), NoMemory>
     Ok(())
 }
 
-/// The line of a step whose first message has this number.
+/// Makes the line of a step whose first message has this number.
 fn step_line(effects: Effects, first: u32) -> Shown
     ensures { result ≡ shown.Step effects.commits first effects.messages effects.replies }
 {
@@ -120,7 +119,7 @@ fn step_line(effects: Effects, first: u32) -> Shown
 }
 
 impl State {
-    /// Each site is up in its first life.
+    /// Starts each site in its first life.
     #[tactic(auto, unfolding(vp_model::specs::World::start_world))]
     pub fn start(alloc: Global, catalog: &Catalog) -> Result<State, NoMemory>
         ensures { IfOk result (λ state. state ≡ start_world catalog.now) }
@@ -169,7 +168,7 @@ impl State {
         least
     }
 
-    /// One more step is done, where there are not too many.
+    /// Counts one more step. Fails, and counts nothing, if there would be more than 100,000.
     pub fn count_step(&mut self) -> Result<(), WorldEnd>
         requires { self.old.steps ≤ 100000 }
         ensures counted { OnOk result (self.new ≡ record self.old { steps = self.old.steps + 1 }) }
@@ -185,7 +184,7 @@ impl State {
         Ok(())
     }
 
-    /// The messages and the commits of a line join those of the steps before. Without memory the state may only be dropped.
+    /// Adds the messages and the commits of a line to those of the steps before. If memory runs out, the state may only be dropped.
     pub fn keep(&mut self, shown: Shown) -> Result<(), NoMemory>
         requires { length (with_line shown self.old).sent ≤ 2000000 }
         ensures { OnOk result (self.new ≡ with_line shown self.old) }
@@ -202,8 +201,8 @@ impl State {
         put_commits(&mut self.journal, commits)
     }
 
-    /// What a step of a site gives. Its messages and commits stand in the line alone until `keep`, as after each call below. Where
-    /// the messages are too many, or without memory, the state may only be dropped.
+    /// Takes what a step of a site gives. Its messages and commits are only in the line until `keep`, as after each function below. If
+    /// the messages are too many, or memory runs out, the state may only be dropped.
     fn take_in(&mut self, taken: Taken) -> Result<Shown, WorldEnd>
         ensures { Does (takes_in taken self.old) self.new result }
     {
@@ -218,8 +217,8 @@ impl State {
         Ok(step_line(effects, first))
     }
 
-    /// The event brings an input to a site, where it is up. Where the messages are too many, or without memory, the state may only be dropped,
-    /// as after each call below.
+    /// Does the step of the input, which the event brings, at a site, if it is up. If the messages are too many, or memory runs out, the
+    /// state may only be dropped, as after each function below.
     fn at_site<S: Stepper>(
         &mut self,
         catalog: &Catalog,
@@ -239,7 +238,7 @@ impl State {
         }
     }
 
-    /// Message `k` comes, which is this one, where its receiver is up and its pair is not cut.
+    /// Delivers message `k`, which is this one, if its receiver is up and its pair is not cut.
     fn hand_over<S: Stepper>(
         &mut self,
         catalog: &Catalog,
@@ -284,7 +283,7 @@ impl State {
         }
     }
 
-    /// The site, where it is up.
+    /// This site, if it is up.
     fn if_up(&self, id: SiteId) -> Option<SiteId>
         ensures { result ≡ if_up self.now id }
     {
@@ -295,7 +294,7 @@ impl State {
         }
     }
 
-    /// The receiver of message `k`, where it may be delivered now.
+    /// The receiver of message `k`, if it may be delivered now.
     fn receiver(&self, k: u32) -> Result<Option<SiteId>, NoMemory>
         ensures { IfOk result (λ site. site ≡ receiver self.now k) }
     {
@@ -311,7 +310,7 @@ impl State {
         }
     }
 
-    /// The site whose step the event is now.
+    /// The site whose step the event is now, if there is one.
     pub fn taker(&self, event: &Event) -> Result<Option<SiteId>, NoMemory>
         ensures { IfOk result (λ site. site ≡ taker_now event.now self.now) }
     {
@@ -324,7 +323,7 @@ impl State {
         }
     }
 
-    /// Message `k` counts as delivered, and is handed to nobody. Without memory the state stays as it is.
+    /// Marks message `k` as delivered, without giving it to a site. If memory runs out, the state stays as it is.
     pub fn pass_over(&mut self, k: u32) -> Result<(), NoMemory>
         requires { IsSome (message_at self.old k) }
         ensures passed { OnOk result (self.new ≡ passed_over k self.old) }
@@ -418,7 +417,7 @@ impl State {
         }
     }
 
-    /// Does the event as one more step, whose site's step the stepper does. After an error the state may only be dropped.
+    /// Does the event as one more step; the stepper does what it asks of a site. After an error the state may only be dropped.
     pub fn next<S: Stepper>(
         &mut self,
         catalog: &Catalog,

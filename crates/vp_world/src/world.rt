@@ -10,12 +10,14 @@ ghost use Rattle.vp_world.specs.Steps.{taker, passed_over, IsReady, DoesEvent};
 use crate::end::WorldEnd;
 use crate::happened::Happened;
 use crate::state::State;
+use crate::stepper::{ByThemselves, Stepper};
 use std::marker::Model;
 use vp_base::{Commits, CopyOf, Event, Line, Newest, NoMemory, SiteId};
 use vp_catalog::Catalog;
-use vp_places::{ByThemselves, Site, Stepper};
+use vp_site::Site;
 
-/// The sites of a catalogue, with their messages. The state stands in a box, so that little is moved where a world goes from call to call.
+/// The sites of a catalogue, with their messages. The state is boxed, so that few bytes are moved where a world is passed from call to
+/// call.
 pub struct World {
     pub(crate) catalog: Catalog,
     pub(crate) state: Box<State>,
@@ -41,7 +43,7 @@ impl Model for World {
 }
 
 impl World {
-    /// Each site of the catalogue is up in its first life.
+    /// Starts a world, with each site of the catalogue up in its first life.
     #[tactic(auto, unfolding(vp_model::specs::World::start_world))]
     pub fn new(catalog: Catalog) -> Result<World, NoMemory>
         ensures { IfOk result (λ w. w ≡ record { catalogue = catalog; world = start_world catalog }) }
@@ -51,8 +53,8 @@ impl World {
         Ok(World { catalog, state })
     }
 
-    /// Does the event, and answers the line that the trace shows for it. A flow is a step that changes nothing else: its messages are
-    /// delivered one after the other, each as `flowing` names it. After an error the world is gone.
+    /// Does the event, and returns the line that the trace shows for it. A flow is a step that changes nothing else: its messages are
+    /// delivered one after the other, each as `flowing` says. After an error the world is gone.
     pub fn next(self, event: &Event) -> Result<(World, Line), WorldEnd>
         ensures world { IfOk result (λ r. r.0 ≡ record { catalogue = self.catalogue; world = (next self.catalogue event.now self.world).world }) }
         ensures line { IfOk result (λ r. r.1 ≡ record { event = event.now; shown = (next self.catalogue event.now self.world).shown }) }
@@ -63,7 +65,7 @@ impl World {
         Ok((happened.into_world()?, line))
     }
 
-    /// The same, where another one does what the event asks of its site: a step, a crash or a restart. The world goes on once its line was
+    /// Does the event, where the stepper does what it asks of a site: a step, a crash or a restart. The world goes on once its line was
     /// shown. After an error the world is gone.
     pub fn next_by<S: Stepper>(self, event: &Event, stepper: &mut S) -> Result<Happened, WorldEnd>
         requires { IsReady S.may self.catalogue event.now self.world stepper.old }
@@ -85,22 +87,23 @@ impl World {
         })
     }
 
-    /// The lowest message that may be delivered now and never was.
+    /// The number of the lowest message that may be delivered now and never was.
     pub fn flowing(&self) -> Option<u32>
         ensures { result ≡ flowing self.now.world }
     {
         self.state.flowing()
     }
 
-    /// The site whose step the event is now. It is none where the site is down or the catalogue lacks it, where there is no such message or its
-    /// pair is cut, and for an event that is no site's step.
+    /// The site whose step the event is now. There is none where the site is down or not in the catalogue, where there is no such
+    /// message or its pair is cut, and for an event that is no site's step.
     pub fn taker(&self, event: &Event) -> Result<Option<SiteId>, NoMemory>
         ensures { IfOk result (λ site. site ≡ taker self.now.catalogue event.now self.now.world) }
     {
         self.state.taker(event)
     }
 
-    /// Message `k`, which was sent, counts as delivered, and is handed to nobody: no flow delivers it. Without memory the world stays as it is.
+    /// Marks message `k`, which was sent, as delivered, without giving it to a site: no flow delivers it. If memory runs out, the world
+    /// stays as it is.
     pub fn pass_over(&mut self, k: u32) -> Result<(), NoMemory>
         requires { IsSome (message_at self.old.world k) }
         ensures passed { OnOk result (self.new ≡ record self.old { world = passed_over k self.old.world }) }
@@ -109,13 +112,14 @@ impl World {
         self.state.pass_over(k)
     }
 
-    /// The newest live transaction of the site: none where the site is down or has no live one.
+    /// The newest live transaction of the site; none where the site is down or has no live one.
     pub fn newest(&self, site: SiteId) -> Option<Newest>
         ensures { result ≡ option_and_then (λ site. newest site.live) (site_of self.now.world site) }
     {
         self.state.places.newest(site)
     }
 
+    /// Whether the site is up; false if the catalogue lacks it.
     pub fn is_up(&self, site: SiteId) -> bool
         ensures { result ≡ is_some (site_of self.now.world site) }
     {
@@ -129,7 +133,7 @@ impl World {
         self.state.cuts.has(a, b)
     }
 
-    /// The site, where it is up: all else is dropped.
+    /// Takes the site out, if it is up, and drops all else.
     pub fn into_site(self, site: SiteId) -> Option<Site>
         ensures { result ≡ site_of self.world site }
     {
@@ -140,7 +144,7 @@ impl World {
         state.places.take_site(site)
     }
 
-    /// How many messages were sent.
+    /// The number of messages that were sent, delivered or not.
     pub fn messages(&self) -> usize
         ensures count { result ≡ length self.now.world.sent }
         ensures few { result ≤ 2000000 }
@@ -155,6 +159,7 @@ impl World {
         &self.state.journal
     }
 
+    /// The catalogue of the world.
     pub fn catalog(&self) -> &Catalog
         ensures { result.now ≡ self.now.catalogue }
     {

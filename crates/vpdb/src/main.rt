@@ -1,4 +1,4 @@
-//! The program: holds the standard streams that are closed, makes the real objects, calls the top call, and exits with its status.
+//! The program: holds the standard streams that are closed, makes the real objects, calls `run`, and exits with its status.
 #![tactic(auto)]
 
 use std::process::ExitCode;
@@ -12,8 +12,8 @@ fn main(rt: HostRuntime) -> ExitCode {
     ExitCode::from(status(rt).code())
 }
 
-/// Nothing is done where standard output is closed: a node would start a life of its site, and a client make its call, before it turned
-/// out that nothing can be printed.
+/// Runs the program. It does nothing if standard output is closed: a node would else start a life of its site, and a client make its
+/// call, before it became known that nothing can be printed.
 fn status(rt: HostRuntime) -> Status {
     let Ok(closed) = ClosedStreams::hold(&rt) else {
         return Status::SinkFault;

@@ -1,4 +1,4 @@
--- Between the date of a copy and a standing doubt on it no entry wrote the record, also where a site goes down or starts again.
+-- Between the date of a copy and a lasting doubt on it no entry wrote the record, even where a site goes down or starts again.
 use Rattle.std.proofs.Common.{subst, ℕ, List}
 use Rattle.vp_model.specs.Types.{TxnId, Doubt}
 use Rattle.vp_model.specs.Catalogue.{Catalogue}

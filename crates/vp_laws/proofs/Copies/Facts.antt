@@ -1,4 +1,4 @@
--- What the invariant of copies gives in one world: a date closes its record, and so does a view above it.
+-- What follows from the invariant of copies in one world: a date closes its record, and so does a view above it.
 use Rattle.std.proofs.Common.{◌≡◌, ◌∙◌, sym, subst, ℕ, arith, ⊎_elim}
 use Rattle.std.specs.Prelude.{Some}
 use Rattle.vp_model.specs.Types.{ViewId, View, Commit, Stored, Doubt}

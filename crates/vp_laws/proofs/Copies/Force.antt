@@ -1,5 +1,5 @@
 -- The table of a record that the entries of lower views leave, and the walk from a view up to a higher one through the views that
--- changed the table: some holder in the lower view is in one above it for which the record is closed.
+-- changed the table: some holder in the lower view is in a view above it for which the record is closed.
 use Rattle.std.proofs.Common.{◌≡◌, ◌⊎◌, ◌∙◌, ap, sym, subst, ℕ, ◌*◌, Bool, true, false, cond, List, [], ◌∷◌, refl, inl, inr, arith, ⊎_elim}
 use Rattle.std.specs.Prelude.{Option, Some, None, is_some, sum_by, nat_lt, not, ◌&&◌}
 use Rattle.std.specs.Option.{option_map_or}

@@ -1,5 +1,5 @@
--- What is known of tables in force stays so over a step: a record that is open by the table in force in a view stays open, since no entry of a
--- lower view changes it any more; and a new entry is of a view that has more than half by the table in force.
+-- What is known of tables in force lasts over a step: a record that is open in a view by the table in force stays open, since no
+-- entry of a lower view changes the table any more; and the view of a new entry has more than half by the table in force.
 use Rattle.std.proofs.Common.{◌≡◌, ◌∙◌, ap, sym, subst, ℕ, true, List, refl, ⊎_elim}
 use Rattle.std.specs.Prelude.{Some}
 use Rattle.vp_model.specs.Types.{ViewId, View, Commit, Input}

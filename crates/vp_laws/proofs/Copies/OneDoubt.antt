@@ -1,4 +1,4 @@
--- The doubts of an entry's transaction at a site are one, which is the one that is found by its name.
+-- A site has only one doubt about the transaction of an entry, which is the one found by its name.
 use Rattle.std.proofs.Common.{◌≡◌, ◌∙◌, ap, sym, subst, ℕ, Bool, true, false, cond, List, [], ◌∷◌, refl, ⊎_elim}
 use Rattle.std.specs.Prelude.{Some, find}
 use Rattle.vp_model.specs.Types.{TxnId, Commit, Doubt}

@@ -1,5 +1,5 @@
--- Where each copy in the world after a step is from: it is untouched, or of a doubt that commits, or of an entry of the step, or a
--- refresh brought it.
+-- Where each copy in the world after a step comes from: it is untouched, or is written by a transaction in doubt that commits or by
+-- an entry of the step, or a refresh brought it.
 use Rattle.std.proofs.Common.{◌≡◌, ◌≢◌, ◌⊎◌, ◌∙◌, ap, sym, subst, ℕ, Bool, true, false, List, refl, inl, inr, ⊎_elim}
 use Rattle.std.specs.Prelude.{Some}
 use Rattle.vp_model.specs.Types.{ViewId, TxnId, Commit, Input, Stored, Doubt}

@@ -1,4 +1,5 @@
--- What a live transaction has used is closed for its view: a copy here on which it has a lock, and what other sites have answered.
+-- What a live transaction has used is closed for its view: each copy here on which it has a lock, and what other sites have
+-- answered.
 use Rattle.std.proofs.Common.{◌⊎◌, ◌≡◌, ◌≢◌, ◌∙◌, ap, sym, subst, ℕ, Bool, true, false, List, refl, inl, inr, ⊎_elim}
 use Rattle.std.specs.Prelude.{Option, Some, None}
 use Rattle.vp_model.specs.Types.{TxnId, View, Op, Stored, Pending, Live}

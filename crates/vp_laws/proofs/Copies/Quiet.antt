@@ -1,4 +1,4 @@
--- Copies and what is used of them, as the world starts and where a site goes down or starts again.
+-- Copies and what is used of them, where the world starts and where a site goes down or starts again.
 use Rattle.std.proofs.Common.{◌≡◌, ◌∙◌, ap, sym, subst, ℕ, Bool, true, false, List, [], map, refl}
 use Rattle.std.specs.Prelude.{Option, Some, None, option_map, slice_get}
 use Rattle.std.proofs.lemmas.Option.{slice_get-map}

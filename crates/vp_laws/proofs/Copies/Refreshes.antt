@@ -1,5 +1,5 @@
--- What a site knows of a record that it refreshes: each answer is of a lower date, and where all other holders have answered and no
--- doubt is on the record, it is closed for the held view.
+-- What a site knows of a record that it refreshes: each answer has a lower date; and once all other holders have answered and no
+-- transaction in doubt writes the record, it is closed for the held view.
 use Rattle.std.proofs.Common.{◌≡◌, ◌≢◌, ◌∙◌, ap, sym, subst, ℕ, Bool, true, false, List, [], ◌∷◌, refl, ⊎_elim}
 use Rattle.std.specs.Prelude.{Option, Some, not}
 use Rattle.vp_model.specs.Types.{ViewId, View, Commit, Input, Stored, Refreshing, Doubt}

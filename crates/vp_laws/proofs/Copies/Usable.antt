@@ -1,5 +1,5 @@
--- A copy that may be used and is not under refresh has the value after the entries of views up to the held one, where each doubt on it is
--- of a transaction without an entry.
+-- A copy that may be used and is not under refresh has the value after the entries of the held view and all lower ones, where each
+-- doubt on it belongs to a transaction without an entry.
 use Rattle.std.proofs.Common.{◌≡◌, ◌≢◌, ◌∙◌, ap, sym, subst, ℕ, Bool, true, false, List, refl, ⊎_elim}
 use Rattle.std.specs.Prelude.{Option, Some, None, option_map, slice_get}
 use Rattle.vp_model.specs.Types.{ViewId, View, Commit, Stored, Doubt}

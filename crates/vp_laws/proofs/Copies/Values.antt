@@ -1,4 +1,5 @@
--- The value of each copy after a step is the one after the entries of views up to its date, but for the entry of a doubt of that view.
+-- The value of each copy after a step is the one after the entries of its date and all lower views, except the entry of a doubt of
+-- that view.
 use Rattle.std.proofs.Common.{◌≡◌, ◌≢◌, ◌∙◌, ap, sym, subst, ℕ, Bool, true, false, List, [], ◌∷◌, ◌++◌, refl, ⊎_elim}
 use Rattle.std.specs.Prelude.{Some}
 use Rattle.vp_model.specs.Types.{ViewId, TxnId, Commit, Input, Stored, Doubt}

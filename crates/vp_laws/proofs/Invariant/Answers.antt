@@ -1,5 +1,5 @@
--- Requests and their answers, in every world: a request of a live transaction is of its pending call or of an answered one, and
--- each other holder of what it wrote, and each site that it read at, has answered.
+-- Requests and their answers, in every world: a request of a live transaction belongs to its pending call or to an answered one,
+-- and each other holder of what it wrote, and each site that it read at, has answered.
 use Rattle.std.proofs.Common.{◌≡◌, ◌⊎◌, ℕ, ◌≤◌, List, length}
 use Rattle.std.specs.Prelude.{Option, Some}
 use Rattle.vp_model.specs.Types.{ViewId, TxnId, View, Sent, Message, Pending, Live}

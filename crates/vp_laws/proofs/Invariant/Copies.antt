@@ -1,4 +1,4 @@
--- What holds of the copies of each site.
+-- The copies of each site, in every world.
 use Rattle.std.proofs.Common.{◌≡◌, ◌≢◌, ℕ, true, List, ◌∷◌, ◌++◌}
 use Rattle.std.specs.Prelude.{Some, None}
 use Rattle.vp_model.specs.Types.{ViewId, View, Commit, Stored, Doubt}

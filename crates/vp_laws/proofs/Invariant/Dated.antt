@@ -1,5 +1,5 @@
--- Dates of copies, in every world: each other date than the opening one is of an entry that wrote the record, and a kept answer
--- to a refresh was sent by another holder in the held view.
+-- Dates of copies, in every world: each date other than the opening one is that of an entry that wrote the record, and a kept
+-- answer to a refresh was sent by another holder in the held view.
 use Rattle.std.proofs.Common.{◌≡◌, ◌≢◌, ◌⊎◌, ℕ}
 use Rattle.std.specs.Prelude.{Some}
 use Rattle.vp_model.specs.Types.{ViewId, View, Commit, Stored, Refreshing}

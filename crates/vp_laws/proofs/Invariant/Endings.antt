@@ -1,5 +1,5 @@
--- How transactions end, in every world: a transaction with an outcome or an entry is not live any more, has one entry, and
--- a commit is told, kept or reported only of an entry.
+-- How transactions end, in every world: a transaction with an outcome or an entry is not live any more and has only one entry, and
+-- a commit is sent, kept or reported only for an entry.
 use Rattle.std.proofs.Common.{◌≡◌, ◌≢◌, ◌⊎◌, ℕ, true, false}
 use Rattle.std.specs.Prelude.{Some}
 use Rattle.vp_model.specs.Types.{TxnId, Sent, Commit, Message, Finished, Decision}

@@ -1,4 +1,4 @@
--- Locks in every world, site by site: whose they are, and that no two transactions conflict at a site, be it up or down.
+-- Locks in every world, site by site: who owns them, and that no two transactions conflict at a site, up or down.
 use Rattle.std.proofs.Common.{◌≡◌, ℕ}
 use Rattle.std.specs.Prelude.{Some}
 use Rattle.vp_model.specs.Types.{Doubt}

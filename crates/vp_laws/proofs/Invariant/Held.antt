@@ -1,4 +1,4 @@
--- The copies of a site, in every world: they are of the records that it holds, one of each.
+-- The copies of a site, in every world: one for each record that it holds.
 use Rattle.std.proofs.Common.{◌≡◌, ◌∙◌, ap, sym, subst, ℕ, List, refl}
 use Rattle.std.specs.Prelude.{Option, Some, None}
 use Rattle.vp_model.specs.Types.{Stored}

@@ -1,4 +1,4 @@
--- The whole invariant: all that is known of sites and messages, and what it gives of copies, of the order of entries and of ends.
+-- The whole invariant: all that is known of sites and messages, and what follows for copies, for the order of entries and for ends.
 use Rattle.vp_model.specs.Catalogue.{Catalogue}
 use Rattle.vp_laws.proofs.Invariant.Base.{InvBase}
 use Rattle.vp_laws.proofs.Invariant.Copies.{InvCopies}

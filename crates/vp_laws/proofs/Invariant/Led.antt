@@ -1,4 +1,4 @@
--- What a site's transactions are, and what is asked for them: of an agreed view, among its members.
+-- A site's own transactions, and what is asked for them: they run in an agreed view, among its members.
 use Rattle.std.proofs.Common.{◌≡◌, ◌≢◌, ℕ}
 use Rattle.std.specs.Prelude.{Some}
 use Rattle.vp_model.specs.Types.{ViewId, TxnId, View, Sent, Commit, Message}

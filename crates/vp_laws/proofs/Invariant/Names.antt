@@ -1,4 +1,4 @@
--- No name of a transaction or a view stands anywhere above what its site has used.
+-- No name of a transaction or a view is anywhere above what its site has used.
 use Rattle.std.proofs.Common.{◌≡◌, ℕ, ◌≤◌}
 use Rattle.std.specs.Prelude.{Some}
 use Rattle.vp_model.specs.Types.{ViewId, TxnId, Stored, Sent, Commit, Doubt, Decision}

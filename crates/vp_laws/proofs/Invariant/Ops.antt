@@ -1,5 +1,5 @@
--- What a live transaction has done and asks, in every world: its parts are the other holders of
--- what it wrote, its numbers go up by one, and a request is of the pending call or of one that was answered.
+-- What a live transaction has done and asks, in every world: its parts are the other holders of what it wrote, its numbers go up by
+-- one, and a request belongs to the pending call or to one that was answered.
 use Rattle.std.proofs.Common.{◌≡◌, ℕ, ◌+◌, List, refl, length}
 use Rattle.std.specs.Prelude.{Option, Some}
 use Rattle.vp_model.specs.Types.{View, Op, Pending, Live}

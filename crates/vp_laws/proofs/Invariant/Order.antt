@@ -1,5 +1,5 @@
--- The order of the journal, in every world: by view and then by moment of commit the entries are a serial run on one copy, and what each
--- live transaction has done goes through after the entries of views up to its own.
+-- The order of the journal, in every world: by view and then by moment of commit the entries are a serial run on one copy, and what
+-- each live transaction has done can be played after the entries of its view and all lower ones.
 use Rattle.std.proofs.Common.{◌≡◌, ℕ, List}
 use Rattle.std.specs.Prelude.{Option, Some}
 use Rattle.vp_model.specs.Types.{ViewId, Op, Live}

@@ -1,4 +1,4 @@
--- The answers that transactions keep, in every world: a live one keeps no end, and a finished one no other end than its own.
+-- The answers that transactions keep, in every world: a live one keeps no end, and a finished one only its own end.
 use Rattle.std.proofs.Common.{◌≡◌, ◌⊎◌, ℕ, false}
 use Rattle.std.specs.Prelude.{Some}
 use Rattle.vp_model.specs.Types.{Answer, Live, Finished}

@@ -1,5 +1,5 @@
--- Reads of live transactions, in every world: a pending read is of a record that the transaction has not written, and a read that was done
--- elsewhere has been answered.
+-- Reads of live transactions, in every world: a pending read is of a record that the transaction has not written, and a read that
+-- was done elsewhere was answered.
 use Rattle.std.proofs.Common.{◌≡◌, ◌⊎◌, ℕ, List}
 use Rattle.std.specs.Prelude.{Some, None}
 use Rattle.vp_model.specs.Types.{Pending, Live}

@@ -1,4 +1,5 @@
--- Reads of records without a copy at the coordinator, in every world: another holder was asked, or the transaction reads its own write.
+-- Reads of records without a copy at the coordinator, in every world: another holder was asked, or the transaction reads its own
+-- write.
 use Rattle.std.proofs.Common.{◌≡◌, ◌⊎◌, ℕ, List}
 use Rattle.std.specs.Prelude.{Some}
 use Rattle.vp_model.specs.Types.{Pending, Live}

@@ -1,4 +1,4 @@
--- What holds of answers to a refresh, and of the records that are used in a view.
+-- Answers to a refresh, and the records that are used in a view, in every world.
 use Rattle.std.proofs.Common.{◌≡◌, ℕ, Bool, true}
 use Rattle.std.specs.Prelude.{Some}
 use Rattle.vp_model.specs.Types.{ViewId, TxnId, View, Commit, Stored, Live}

@@ -1,4 +1,4 @@
--- Answers that may be repeated, in every world.
+-- Answers that may be given again, in every world.
 use Rattle.std.proofs.Common.{◌≡◌, ℕ}
 use Rattle.std.specs.Prelude.{Some}
 use Rattle.vp_model.specs.Site.{SiteState}

@@ -1,5 +1,5 @@
--- Entries and those who apply them, in every world: a holder that an entry affects is in doubt about it and is waited for by the
--- coordinator's decision, or has applied it and has it in its ended list, or has left its view.
+-- Entries and the sites that apply them, in every world: a holder that an entry affects is in doubt about it and the coordinator's
+-- decision waits for it; or it has applied the entry and lists it as ended, or has left the entry's view.
 use Rattle.std.proofs.Common.{◌≡◌, ◌≢◌, ◌⊎◌, ℕ, true, false}
 use Rattle.std.specs.Prelude.{Some}
 use Rattle.vp_model.specs.Types.{TxnId, Commit}

@@ -1,4 +1,4 @@
--- What other sites have answered for live transactions, in every world: the site has the lock still, or has left the view.
+-- What other sites have answered for live transactions, in every world: the site still has the lock, or has left the view.
 use Rattle.std.proofs.Common.{◌≡◌, ◌⊎◌, ℕ, Bool, true, false}
 use Rattle.std.specs.Prelude.{Some}
 use Rattle.vp_model.specs.Types.{ViewId, TxnId, Live}

@@ -1,4 +1,4 @@
--- In every world: a prepare of a live transaction speaks of its pending commit, and each vote has its prepare.
+-- In every world: a prepare of a live transaction belongs to its pending commit, and each vote has its prepare.
 use Rattle.std.proofs.Common.{◌≡◌, ℕ, true, List}
 use Rattle.std.specs.Prelude.{Some}
 use Rattle.vp_model.specs.Types.{Change, ViewId, TxnId, Sent, Message, Pending, Live}

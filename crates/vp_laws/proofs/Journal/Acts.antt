@@ -1,5 +1,5 @@
--- What the entries of a journal make of anything, each by what it does to it: after the entries of views up to one, and what a single
--- entry of that view does last.
+-- What the entries of a journal do to anything, where each entry changes it: after the entries of a view and all lower ones, and
+-- what a single entry of that view does last.
 use Rattle.std.proofs.Common.{◌≡◌, ◌⊎◌, ◌∙◌, ap, sym, subst, Bool, true, false, cond, List, [], ◌∷◌, ◌++◌, refl, inl, inr, arith, ⊎_elim}
 use Rattle.std.specs.Prelude.{filter, flat_map, not}
 use Rattle.std.proofs.lemmas.List.{append-nil, append_assoc}

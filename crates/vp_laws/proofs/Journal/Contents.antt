@@ -1,5 +1,5 @@
--- The one copy after the entries of views up to one is defined, where the whole order plays; and what plays on it plays still, when an
--- entry of a lower view is added that wrote nothing which is used above.
+-- The one copy after the entries of a view and all lower ones is defined, where the whole order can be played; and what can be
+-- played on it still can be, when an entry of a lower view is added that wrote nothing which is used above.
 use Rattle.std.proofs.Common.{◌≡◌, ◌∙◌, ap, sym, subst, Bool, true, false, List, [], ◌∷◌, ◌++◌, refl, ⊎_elim}
 use Rattle.std.specs.Prelude.{Some, option_and_then, flat_map}
 use Rattle.std.proofs.lemmas.List.{append_assoc}

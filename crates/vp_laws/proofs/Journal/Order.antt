@@ -1,4 +1,4 @@
--- The order of the journal by views: where an entry that is added at the end of the journal stands in it.
+-- The order of the journal by views: the place of an entry that is added at the end of the journal.
 use Rattle.std.proofs.Common.{◌≡◌, ◌∙◌, ap, sym, subst, Bool, true, false, cond, List, [], ◌∷◌, ◌++◌, refl, arith, ⊎_elim}
 use Rattle.std.specs.Prelude.{flat_map}
 use Rattle.std.proofs.lemmas.Bool.Decides.{nat_tests}

@@ -1,4 +1,4 @@
--- Where an entry stands in the journal, and the values that it wrote.
+-- The place of an entry in the journal, and the values that it wrote.
 use Rattle.std.proofs.Common.{◌≡◌, ◌⊎◌, ◌∙◌, ap, sym, ℕ, ◌<◌, ◌++◌, arith, inl, inr, ⊎_elim, ◌≢◌, List, [], ◌∷◌}
 use Rattle.std.specs.Prelude.{Some}
 use Rattle.std.specs.List.{AllByRecursion}

@@ -1,4 +1,4 @@
--- Playing operations on a map of values, and what the last writes make of it.
+-- Playing operations on a map of values, and what the last writes do to it.
 use Rattle.std.proofs.Common.{◌≡◌, ◌<◌, ℕ, zero, suc, ◌∙◌, ap, sym, Bool, true, false, cond, List, [], ◌∷◌, refl, arith, inl, inr, ◌⊎◌}
 use Rattle.std.specs.Prelude.{Option, Some, None, is_some, ◌==◌, nat_lt, slice_get, slice_set, option_map, option_and_then, find, fold}
 use Rattle.std.specs.Option.{option_map_or}

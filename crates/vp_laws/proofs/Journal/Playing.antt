@@ -1,4 +1,4 @@
--- What plays on one copy, when an entry is added to the journal: the entries in order, and what a live transaction has done.
+-- What can be played on one copy when an entry is added to the journal: the entries in order, and what a live transaction has done.
 use Rattle.std.proofs.Common.{◌≡◌, ◌∙◌, true, ap, sym, subst, ℕ, List, [], ◌∷◌, ◌++◌, refl, ⊎_elim}
 use Rattle.std.specs.Prelude.{Option, Some, None, is_some, option_map, slice_get, slice_set}
 use Rattle.std.specs.Option.{option_map_or}

@@ -1,4 +1,4 @@
--- The entries of views up to one, and of views below one; the order of a journal is by view.
+-- The entries of a view and all lower ones, and of the lower ones only; the order of a journal is by view.
 use Rattle.std.proofs.Common.{◌≡◌, ◌∙◌, ap, sym, Bool, true, false, List, [], ◌∷◌, ◌++◌, refl, arith, ⊎_elim}
 use Rattle.std.specs.Prelude.{filter, flat_map, not}
 use Rattle.std.proofs.lemmas.Bool.Decides.{nat_tests}

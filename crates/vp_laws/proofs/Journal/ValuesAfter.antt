@@ -1,4 +1,4 @@
--- The value of a record after the entries of views up to one, and what an added entry makes of it.
+-- The value of a record after the entries of a view and all lower ones, and how an added entry changes it.
 use Rattle.std.proofs.Common.{◌≡◌, ◌≢◌, ◌∙◌, ap, subst, true, false, List, [], ◌∷◌, ◌++◌, refl, arith, ℕ}
 use Rattle.std.specs.Prelude.{Option, Some, None, option_map, slice_get, filter, not}
 use Rattle.std.specs.Option.{option_map_or}

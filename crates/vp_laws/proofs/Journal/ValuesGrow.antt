@@ -1,4 +1,4 @@
--- The value of a held record after the entries of views up to one, and when an added entry leaves it.
+-- The value of a held record after the entries of a view and all lower ones, and when an added entry leaves it unchanged.
 use Rattle.std.proofs.Common.{◌≡◌, ◌⊎◌, ◌∙◌, ap, ℕ, Bool, true, false, List, [], ◌∷◌, ◌++◌, refl, inl, inr}
 use Rattle.std.specs.Prelude.{Option, Some, None, option_map, slice_get, ◌&&◌}
 use Rattle.std.specs.List.{list_any}

@@ -1,4 +1,4 @@
--- Parts, doubts and dates stay at most at the promise.
+-- The views of parts and doubts, and the dates of copies, are never above the promise.
 use Rattle.std.proofs.Common.{◌≡◌, ◌≢◌, ◌∙◌, ap, sym, ℕ, refl, ⊎_elim, subst}
 use Rattle.std.specs.Prelude.{Some}
 use Rattle.vp_model.specs.Types.{ViewId, TxnId, Input}

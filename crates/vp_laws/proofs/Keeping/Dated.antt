@@ -1,4 +1,4 @@
--- Each date stays that of an entry, and each kept answer to a refresh was sent.
+-- Each date is still that of an entry, and each kept answer to a refresh was sent.
 use Rattle.std.proofs.Common.{◌≡◌, ◌∙◌, ap, sym, subst, ℕ, true, List, refl, inl, inr, ⊎_elim}
 use Rattle.std.specs.Prelude.{Option, Some, not, ◌==◌, ◌&&◌}
 use Rattle.vp_model.specs.Types.{ViewId, View, Sent, Commit, Input, Stored, Refreshing}

@@ -1,4 +1,4 @@
--- What one step does, of a site of which all is known: what every later proof of a step goes by.
+-- What one step of a site of which all is known does: every later proof on a step uses this.
 use Rattle.std.proofs.Common.{◌≡◌, ◌∙◌, ◌≤◌, inl, ap, sym, subst, ℕ, Bool, true}
 use Rattle.std.specs.Prelude.{Some}
 use Rattle.vp_model.specs.Types.{View, Input, Message, Live}

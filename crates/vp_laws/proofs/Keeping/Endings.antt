@@ -1,4 +1,4 @@
--- A transaction that is over stays so, and only one with an entry is told, kept or reported as committed.
+-- A transaction that has ended stays so, and only one with an entry is sent, kept or reported as committed.
 use Rattle.std.proofs.Common.{◌≡◌, ◌≢◌, ◌⊎◌, ◌∙◌, ap, sym, subst, ℕ, true, false, List, [], ◌∷◌, ◌++◌, refl, inl, inr, ⊎_elim, append-nil}
 use Rattle.std.specs.Prelude.{Some}
 use Rattle.vp_model.specs.Types.{TxnId, Commit, Message, Input, Finished, Decision}

@@ -1,4 +1,4 @@
--- The locks of each site stay in order; and what comes to it fits them.
+-- The locks of each site stay free of conflicts; and what comes to the site fits them.
 use Rattle.std.proofs.Common.{◌≡◌, ◌≢◌, ◌∙◌, ap, sym, subst, ℕ, Bool, true, false, List, refl, arith, inr}
 use Rattle.std.specs.Prelude.{Some}
 use Rattle.std.proofs.lemmas.Bool.Decides.{nat_tests}

@@ -1,4 +1,5 @@
--- All that is known of sites and messages holds in every world of every schedule: each part after a step or a quiet event, from all of them before.
+-- All that is known of sites and messages holds in every world of every schedule: each part after a step or a quiet event, by all
+-- parts before it.
 use Rattle.vp_laws.proofs.Worlds.Events.{Arrives, Lasts, crashed, restarted}
 use Rattle.vp_model.specs.Catalogue.{Catalogue}
 use Rattle.vp_model.specs.Durable.{DurableState}

@@ -1,4 +1,4 @@
--- What a site's transactions are stays so: they, what is asked for them and their entries are of agreed views.
+-- A site's own transactions, what is asked for them and their entries are still in agreed views.
 use Rattle.std.proofs.Common.{◌≡◌, ◌≢◌, ◌∙◌, ap, sym, ℕ, refl, ⊎_elim, subst}
 use Rattle.std.specs.Prelude.{Some}
 use Rattle.vp_model.specs.Types.{ViewId, TxnId, View, Commit, Message}

@@ -1,4 +1,4 @@
--- What is under refresh has a copy, may be used, and was not written in the held view.
+-- A record under refresh has a copy, may be used, and was not written in the held view.
 use Rattle.std.proofs.Common.{◌≡◌, ◌≢◌, ◌⊎◌, ◌∙◌, ap, sym, subst, ℕ, true, false, List, refl, arith, ⊎_elim}
 use Rattle.std.specs.Prelude.{Some, None}
 use Rattle.vp_model.specs.Types.{Change, ViewId, TxnId, View, Commit, Input, Live, Refreshing, Doubt}

@@ -1,4 +1,4 @@
--- No name gets above what its site has used.
+-- No name rises above what its site has used.
 use Rattle.std.proofs.Common.{◌≡◌, ◌≢◌, ◌⊎◌, ◌∙◌, ap, sym, subst, ℕ, ◌≤◌, ◌<◌, true, List, ◌∷◌, [], arith, inl, inr, ⊎_elim}
 use Rattle.std.specs.Prelude.{Some, flat_map, ◌==◌, ◌&&◌}
 use Rattle.std.proofs.lemmas.Option.{cond_some}

@@ -1,5 +1,5 @@
--- What an entry of a step means for others: it is of a live transaction here, each other holder of what it wrote is in doubt about it,
--- nothing here is in doubt on that or under refresh, and no record that is closed for a higher view was written.
+-- What an entry of a step means for others: it belongs to a live transaction here, each other holder of what it wrote is in doubt
+-- about it, nothing here is in doubt about that or under refresh, and no record that is closed for a higher view was written.
 use Rattle.std.proofs.Common.{true, Option, ◌≡◌, ◌≢◌, ◌⊎◌, ◌∙◌, ap, sym, subst, ℕ, Bool, false, List, [], ◌∷◌, ◌++◌, refl, inl, inr, ⊎_elim, append-nil}
 use Rattle.std.specs.Prelude.{Some}
 use Rattle.vp_model.specs.Types.{Change, TxnId, View, Message, Commit, Input, Part, Live, Refreshing, Doubt}

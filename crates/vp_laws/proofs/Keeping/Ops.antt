@@ -1,4 +1,4 @@
--- What live transactions have done and ask stays in order.
+-- What live transactions have done and ask still fits their calls.
 use Rattle.std.proofs.Common.{◌≡◌, ◌∙◌, ap, sym, subst, ℕ, ◌+◌, true, List, [], ◌∷◌, refl, ⊎_elim, length}
 use Rattle.std.specs.Prelude.{Option, Some, ◌==◌, nat_lt, not, nat_eq}
 use Rattle.vp_model.specs.Types.{ViewId, TxnId, View, Input, Op, Answer, Pending, Live}

@@ -1,4 +1,4 @@
--- What is read without a copy was asked of another site.
+-- What is read without a copy here was asked of another site.
 use Rattle.std.proofs.Common.{◌≡◌, ◌⊎◌, ◌∙◌, ap, sym, subst, ℕ, List, [], ◌∷◌, ◌++◌, inl, inr, ⊎_elim}
 use Rattle.vp_model.specs.Types.{Input, Op, Answer, Pending, Live, Stored}
 use Rattle.vp_model.specs.Types.op

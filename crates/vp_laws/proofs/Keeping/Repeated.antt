@@ -1,4 +1,4 @@
--- The answers that may be repeated stay those to operations, and at the end of a transaction its end.
+-- The answers that may be given again are still those to operations, and after the end of a transaction its end.
 use Rattle.std.proofs.Common.{◌≡◌, subst, ℕ}
 use Rattle.std.specs.Prelude.{Some}
 use Rattle.vp_model.specs.Types.{Input}

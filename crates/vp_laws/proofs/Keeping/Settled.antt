@@ -1,4 +1,4 @@
--- A holder that an entry affects stays in doubt and waited for until it has applied it, or has left the view.
+-- A holder that an entry affects stays in doubt, and the decision waits for it, until it has applied the entry or left the view.
 use Rattle.std.proofs.Common.{◌≡◌, ◌≢◌, ◌⊎◌, ◌∙◌, ap, sym, subst, ℕ, Bool, true, false, List, refl, inl, inr, ⊎_elim}
 use Rattle.std.specs.Prelude.{Option, Some, None, option_map}
 use Rattle.vp_model.specs.Types.{Change, ViewId, TxnId, View, Sent, Commit, Input, Part, Live, Doubt, Decision}

@@ -1,4 +1,4 @@
--- Prepares stay those of pending commits, and each vote has its prepare.
+-- Prepares still belong to pending commits, and each vote has its prepare.
 use Rattle.std.proofs.Common.{◌≡◌, ◌≢◌, ◌∙◌, ap, sym, subst, ℕ, List, ⊎_elim}
 use Rattle.std.specs.Prelude.{Some}
 use Rattle.vp_model.specs.Types.{Change, ViewId, TxnId, Message, Input, Live}

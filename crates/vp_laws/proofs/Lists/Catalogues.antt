@@ -1,4 +1,4 @@
--- The sites of a catalogue are different numbers.
+-- The sites of a catalogue have different numbers.
 use Rattle.std.proofs.Common.{◌≡◌, ℕ, List, [], ◌∷◌, refl, sym, ◌∙◌, false}
 use Rattle.std.specs.Prelude.{nat_eq}
 use Rattle.std.specs.List.{IsDistinct}

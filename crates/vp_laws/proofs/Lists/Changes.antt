@@ -1,4 +1,4 @@
--- What may stand in a list after a change: an ordered one, one of pairs, one that keeps its last items; and what is in none that is empty.
+-- What may be in a list after a change: an ordered one, one of pairs, one that keeps its last items; and an empty one has nothing.
 use Rattle.std.proofs.Common.{◌≡◌, ◌⊎◌, ap, sym, ℕ, Bool, true, false, cond, List, [], ◌∷◌, map, length, refl, inl, inr, ⊎_elim, ◌+◌, ◌++◌, length-append}
 use Rattle.std.specs.Prelude.{Option, Some, None, ◌==◌, ◌&&◌, find, option_map, nat_lt, drop}
 use Rattle.std.specs.List.{list_all}

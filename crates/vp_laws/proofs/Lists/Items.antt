@@ -1,4 +1,4 @@
--- What holds of each item of a list, and the order of its items, after a change.
+-- What holds of each item of a list, and in which order the items are, after a change.
 use Rattle.std.proofs.Common.{◌≡◌, refl, ⊎_elim, ℕ, Bool, true, false, cond, List, [], ◌∷◌, ◌++◌, map, length}
 use Rattle.std.specs.Prelude.{filter, drop, nat_lt, Option, Some, None, is_some}
 use Rattle.std.specs.List.{AllByRecursion}

@@ -1,4 +1,4 @@
--- Names of transactions, and that the live ones of a site have different ones.
+-- Names of transactions; the live ones of a site have different names.
 use Rattle.std.proofs.Common.{◌≡◌, ◌≢◌, ◌⊎◌, ◌∙◌, ap, sym, Bool, true, false, cond, List, [], ◌∷◌, ◌++◌, map, refl, inl, inr, ⊎_elim}
 use Rattle.vp_model.specs.Types.{TxnId, Live}
 use Rattle.vp_model.specs.Words.{same_txn, change_first, without_first}

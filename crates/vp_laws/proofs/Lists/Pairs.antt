@@ -1,4 +1,4 @@
--- What is found in a list of pairs by its number, and the last writes of operations.
+-- What is found in a list of pairs by a number, and the last writes of operations.
 use Rattle.std.proofs.Common.{◌≡◌, ◌⊎◌, ap, sym, subst, ℕ, Bool, true, false, cond, List, [], ◌∷◌, refl, inl, inr, ⊎_elim}
 use Rattle.std.specs.Prelude.{Some, fold, ◌==◌, nat_lt, find, option_map, None}
 use Rattle.vp_model.specs.Types.{Change, Op}

@@ -1,4 +1,4 @@
--- The copies that a catalogue gives its sites at first: of the records that they hold, one of each, with the starting values.
+-- The copies that a catalogue's sites start with: one for each record that they hold, with the starting value.
 use Rattle.std.proofs.Common.{◌≡◌, ap, sym, subst, ℕ, ◌+◌, zero, suc, Bool, true, false, cond, List, [], ◌∷◌, refl, arith, ⊎_elim, map}
 use Rattle.std.specs.Prelude.{Some, filter, slice_get}
 use Rattle.std.specs.List.{enumerate_from}

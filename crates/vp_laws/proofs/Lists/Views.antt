@@ -1,4 +1,4 @@
--- The order of views, as two facts, and what the tests tell of it.
+-- The order of views, as two facts, and what follows from its tests.
 use Rattle.std.proofs.Common.{◌≡◌, ◌≢◌, ◌⊎◌, ℕ, ◌≤◌, ◌<◌, true, false, List, [], ◌∷◌, arith, inl, inr, refl, ⊎_elim, cond, Bool}
 use Rattle.std.specs.Prelude.{Option, Some, None, nat_eq, nat_lt}
 use Rattle.std.proofs.lemmas.Bool.Decides.{nat_tests}

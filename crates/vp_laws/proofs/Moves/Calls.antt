@@ -1,4 +1,5 @@
--- Calls of a live transaction: what a pending one reads and writes, and what the transaction is when it waits, asks or is done.
+-- Calls of a live transaction: what a pending one reads and writes, and what the transaction is while it waits or asks and when it
+-- is done.
 use Rattle.std.proofs.Common.{◌≡◌, ◌∙◌, ap, sym, true, refl, ℕ, List, [], ◌∷◌, ◌++◌}
 use Rattle.std.specs.Prelude.{Option, Some, None}
 use Rattle.vp_model.specs.Types.{Op, Answer, Pending, Live}

@@ -1,4 +1,4 @@
--- The rows of the coordinator are made of its small moves, so a property of its part that survives these is kept by them.
+-- The rows of the coordinator consist of its small moves, so they keep a property of its part that survives these.
 use Rattle.std.proofs.Common.{◌≡◌, ◌∙◌, ℕ, zero, suc, ◌+◌, ◌-◌, ◌^◌, Bool, true, false, List, [], ◌∷◌, refl, arith, length, ap, sym, ⊎_elim}
 use Rattle.std.specs.Prelude.{Some, None, is_some, filter, slice_get, ◌==◌, nat_le, nat_lt}
 use Rattle.std.specs.List.{AllByRecursion}

@@ -1,4 +1,4 @@
--- What the ends of transactions leave of the coordinator's part, and what they send; what the end of a refresh takes.
+-- What the ends of transactions leave of the coordinator's state, and what they send; what the end of a refresh removes.
 use Rattle.std.proofs.Common.{◌≡◌, ◌∙◌, ℕ, Bool, true, false, cond, List, [], ◌∷◌, ◌++◌, refl}
 use Rattle.std.specs.Prelude.{Option, Some, None}
 use Rattle.vp_model.specs.Types.{TxnId, Effects, Pending, Live, Ending, Stored}

@@ -1,4 +1,4 @@
--- A whole step is made of the small moves that clients see, and of moves that they do not see.
+-- A whole step consists of the small moves that clients see and of moves that they don't see.
 use Rattle.std.proofs.Common.{◌≡◌, ◌∙◌, sym, subst, ℕ, Bool, true, false, List, [], refl, arith}
 use Rattle.std.specs.Prelude.{Option, Some, None, map}
 use Rattle.vp_model.specs.Types.{Change, ViewId, View, TxnId, Stored, Owner, Commit, Reply, Call, Message, Input, Refreshing, Part, Decision, Doubt}

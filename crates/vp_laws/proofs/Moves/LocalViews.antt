@@ -1,4 +1,4 @@
--- What a step keeps and tells of views, at its own site.
+-- What a step keeps and sends about views, at its own site.
 use Rattle.std.proofs.Common.{◌≡◌, ◌⊎◌, ◌∙◌, ap, sym, ℕ, Bool, true, false, List, [], ◌∷◌, ◌++◌, ⊎_elim, append-nil}
 use Rattle.std.specs.Prelude.{Some, None}
 use Rattle.vp_model.specs.Types.{ViewId, View, Message, Sent, Input, Refreshing}

@@ -1,4 +1,4 @@
--- What speaks of a site's own transactions and of what is sent for them alone is kept by all moves but the coordinator's.
+-- A property that is only about a site's own transactions and what is sent for them is kept by all moves but the coordinator's.
 use Rattle.std.proofs.Common.{◌≡◌, ◌∙◌, ap, sym, subst, ℕ, Bool, true, false, List, [], ◌∷◌, ◌++◌, refl}
 use Rattle.std.specs.Prelude.{Option, Some, None, ◌==◌, not, filter}
 use Rattle.vp_model.specs.Types.{TxnId, Stored, Message, Sent, Commit, Input, Refreshing, Doubt, Decision}

@@ -1,4 +1,4 @@
--- What a site keeps of parts and doubts where one is found, or a part is put in.
+-- What a site keeps of parts and doubts where one is found, or a part is inserted.
 use Rattle.std.proofs.Common.{◌≡◌, ◌⊎◌, Bool, true, false, cond, List, arith, inr}
 use Rattle.std.specs.Prelude.{Some, ◌||◌}
 use Rattle.vp_model.specs.Types.{ViewId, TxnId, Part}

@@ -1,4 +1,4 @@
--- What clients see of a step, in small moves: why a transaction is closed, what a call is told, and what a property of the
+-- What clients see of a step, in small moves: why a transaction is closed, what a call is answered, and what a property of the
 -- coordinator's state and of the replies has to survive so that the whole step keeps it.
 use Rattle.std.proofs.Common.{◌≡◌, ◌++◌, ℕ, Bool, true, false, List, [], ◌∷◌, map, length}
 use Rattle.std.specs.Prelude.{Some, None, Option, option_map, option_to_list, nat_le}

@@ -1,4 +1,4 @@
--- Every row of the table is made of the small moves, so a property that survives these is kept by a step.
+-- Every row of the table consists of the small moves, so a step keeps a property that survives these.
 use Rattle.std.proofs.Common.{◌≡◌, ℕ, Bool, true, false, List, [], ◌∷◌, refl, arith, inl, inr, map, subst}
 use Rattle.std.specs.Prelude.{Option, Some, None, ◌&&◌}
 use Rattle.std.specs.Option.{option_map_or}

@@ -1,4 +1,4 @@
--- The entries by view stay a serial run, on which the live transactions play.
+-- The entries by view stay a serial run, after which what the live transactions have done can be played.
 use Rattle.std.proofs.Common.{◌≡◌, ◌≢◌, ◌∙◌, ap, sym, subst, ℕ, true, false, List, [], ◌∷◌, ◌++◌, ⊎_elim}
 use Rattle.std.specs.Prelude.{Some}
 use Rattle.vp_model.specs.Types.{ViewId, TxnId, View, Commit, Input, Op, Live}

@@ -1,4 +1,4 @@
--- No transaction comes to keep another end than its own.
+-- No transaction comes to keep any end but its own.
 use Rattle.std.proofs.Common.{◌≡◌, ◌∙◌, ap, sym, subst, ℕ, false, List, [], ◌∷◌, inl, inr, ⊎_elim}
 use Rattle.std.specs.Prelude.{Option, Some, None, option_map, option_to_list}
 use Rattle.vp_model.specs.Types.{Input, Answer, Pending, Live, Finished}

@@ -1,4 +1,4 @@
--- Reads stay of what was not written, or were answered elsewhere.
+-- Reads are still of what was not written, or were answered elsewhere.
 use Rattle.std.proofs.Common.{◌≡◌, ◌⊎◌, ◌∙◌, ap, sym, subst, ℕ, List, [], ◌∷◌, refl, inl, inr, ⊎_elim}
 use Rattle.std.specs.Prelude.{Option, Some, None}
 use Rattle.vp_model.specs.Types.{TxnId, Input, Stored, Pending, Live}

@@ -1,5 +1,5 @@
--- What a live transaction has done goes through also with the operation of a step, on the entries before it; and an answer that is given
--- has the value after them.
+-- What a live transaction has done, the operation of the step included, can be played after the entries before it; and an answer
+-- that is given has the value after them.
 use Rattle.std.proofs.Common.{◌≡◌, ◌≢◌, ◌∙◌, ap, sym, subst, ℕ, Bool, true, false, List, [], ◌∷◌, ◌++◌, refl, ⊎_elim, length}
 use Rattle.std.specs.Prelude.{Option, Some, None, is_some, option_and_then, slice_get, slice_set, ◌||◌}
 use Rattle.vp_model.specs.Types.{ViewId, TxnId, View, Sent, Commit, Input, Op, Answer, Stored, Pending, Live, Doubt}

@@ -1,4 +1,4 @@
--- The ends that are replied are true: committed of transactions with an entry, and another end of none that ever has one.
+-- The ends that are replied are true: `committed` for transactions with an entry, and another end for none that ever has one.
 use Rattle.std.proofs.Common.{◌≡◌, ◌≢◌, ◌∙◌, ◌≤◌, ap, sym, subst, ℕ, Bool, true, false, List, [], map, refl, arith, ⊎_elim}
 use Rattle.std.specs.Prelude.{Some, None, ◌&&◌}
 use Rattle.std.specs.List.{list_any, list_all}

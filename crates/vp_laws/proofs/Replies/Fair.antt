@@ -1,4 +1,4 @@
--- When a refusal is justified by the moments so far, and that it stays so.
+-- When the moments so far justify a refusal, and that they go on to do so.
 use Rattle.std.proofs.Common.{◌≡◌, ◌≢◌, ℕ, Bool, true, false, cond, List, ◌++◌, refl, arith}
 use Rattle.std.specs.Prelude.{Option, None, is_some, not, ◌==◌, ◌&&◌, if◌then◌else◌}
 use Rattle.std.specs.List.{list_any}

@@ -1,4 +1,4 @@
--- What is refused is justified by the moments so far: the messages that refuse, the ends that are kept, and each answer of a step.
+-- The moments so far justify what is refused: the messages that refuse, the ends that are kept, and each answer of a step.
 use Rattle.std.proofs.Common.{◌≡◌, ◌≢◌, ℕ, ◌+◌, ◌≤◌, Bool, true, false, List, ◌++◌, refl, length}
 use Rattle.std.specs.Prelude.{Option, Some, slice_get}
 use Rattle.vp_model.specs.Types.{Change, TxnId, ViewId, Owner, Obstacle, Answer, Message, Sent, Live, Finished}

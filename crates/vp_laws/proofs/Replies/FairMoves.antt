@@ -1,4 +1,4 @@
--- One step keeps that what is refused is justified, and its own answers are.
+-- After one step what is refused is still justified, and so are the step's own answers.
 use Rattle.std.proofs.Common.{◌≡◌, ◌≢◌, ◌∙◌, ◌⊎◌, inl, inr, append-nil, ap, sym, subst, ℕ, zero, suc, ◌+◌, ◌-◌, ◌≤◌, ◌*◌, Bool, true, false, List, [], ◌∷◌, ◌++◌, map, refl, arith, ⊎_elim, length}
 use Rattle.std.specs.Prelude.{slice_get, Option, Some, None, is_some, option_map, option_to_list, nat_le, nat_lt, ◌&&◌, ◌||◌}
 use Rattle.std.proofs.lemmas.Bool.Decides.{nat_tests}

@@ -1,4 +1,4 @@
--- The number of the call of a transaction that was refused: it is that of the first reply that tells of it, and stays so.
+-- The number of the call of a transaction that was refused: it is that of the first reply that says so, and stays so.
 use Rattle.std.proofs.Common.{◌≡◌, ◌∙◌, ◌≤◌, ap, ℕ, Bool, true, false, cond, List, [], ◌∷◌, ◌++◌, refl, append-nil, ⊎_elim}
 use Rattle.std.specs.Prelude.{Option, Some, None, nat_le, filter_map, flat_map}
 use Rattle.std.proofs.lemmas.Bool.{le-leb}

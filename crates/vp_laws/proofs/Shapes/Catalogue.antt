@@ -1,4 +1,4 @@
--- What a catalogue in the grammar gives: sites from 1 to 16, records below 256, weights that fit.
+-- What holds of a catalogue that has a text: sites from 1 to 16, records below 256, weights that fit.
 use Rattle.std.proofs.Common.{◌≡◌, ◌≤◌, ◌<◌, ap, ℕ, suc, zero, ◌+◌, ◌*◌, ◌^◌, Bool, true, List, [], ◌∷◌, map, refl, arith, length}
 use Rattle.std.specs.Prelude.{Option, Some, filter, not, ◌==◌, sum_by, slice_get}
 use Rattle.std.specs.List.{AllByRecursion, position_from, enumerate_from}

@@ -1,4 +1,4 @@
--- Doubts and decisions after a change.
+-- Transactions in doubt and decisions after a change.
 use Rattle.std.proofs.Common.{◌≡◌, ℕ, Bool, true, false, List, [], ◌∷◌, map, refl, arith}
 use Rattle.std.specs.Prelude.{filter, not, ◌==◌, if◌then◌else◌}
 use Rattle.std.specs.List.{AllByRecursion}

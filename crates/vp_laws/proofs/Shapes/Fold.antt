@@ -1,4 +1,4 @@
--- What batches make of a durable part is a durable part.
+-- A durable part is again a durable part after batches.
 use Rattle.std.proofs.Common.{◌≡◌, ℕ, suc, zero, Bool, true, false, List, [], ◌∷◌, refl, arith}
 use Rattle.std.specs.Prelude.{Option, Some, None, AllPairs}
 use Rattle.std.specs.List.{AllByRecursion}

@@ -1,4 +1,4 @@
--- The locks of doubts that are apart are the same, whether they are listed or taken one by one.
+-- The locks of transactions in doubt that write different records are the same, whether they are listed or taken one by one.
 use Rattle.std.proofs.Common.{◌≡◌, ◌<◌, ◌∙◌, sym, ap, ℕ, suc, Bool, true, false, List, [], ◌∷◌, ◌++◌, map, flat_map, refl, arith, append-nil}
 use Rattle.std.specs.Prelude.{◌==◌, ◌&&◌, ◌||◌}
 use Rattle.std.specs.List.{AllByRecursion}

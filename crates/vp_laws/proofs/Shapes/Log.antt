@@ -1,4 +1,5 @@
--- What a well-formed site gives to others: a checkpoint of its durable part, its start record, its first durable part and its frames.
+-- What a well-formed site gives to others: a checkpoint of its durable part, its start record, its first durable part and its
+-- frames.
 use Rattle.std.proofs.Common.{◌≡◌, ◌<◌, ap, ℕ, suc, ◌+◌, ◌^◌, Bool, true, List, [], ◌∷◌, refl, arith, length}
 use Rattle.std.specs.Prelude.{AllPairs}
 use Rattle.std.specs.List.{AllByRecursion, enumerate_from}

@@ -1,4 +1,4 @@
--- The site and what it has given so far are well formed, and stay so after a single change.
+-- A site and the effects of its step so far are well formed, and stay so after a single change.
 use Rattle.std.proofs.Common.{◌≡◌, ◌<◌, ◌∙◌, ℕ, suc, ◌^◌, Bool, false, cond, List, [], ◌∷◌, ◌++◌, map}
 use Rattle.std.specs.Prelude.{Option, Some, None, IfSome, fold, nat_lt, ◌==◌, ◌||◌}
 use Rattle.std.specs.List.{AllByRecursion}

@@ -1,4 +1,4 @@
--- Ascending numbers of a range and ascending writes, after a change.
+-- Ascending numbers in a range and ascending writes, after a change.
 use Rattle.std.proofs.Common.{◌≡◌, ◌≤◌, ℕ, suc, ◌+◌, Bool, false, cond, List, [], ◌∷◌, refl, arith, length}
 use Rattle.std.specs.Prelude.{Some, filter, fold, nat_lt, nat_eq, ◌==◌}
 use Rattle.std.specs.List.{AllByRecursion}

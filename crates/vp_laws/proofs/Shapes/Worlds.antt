@@ -1,4 +1,4 @@
--- Every world of a schedule over a catalogue in the grammar, with calls in it, is well formed.
+-- Every world of a schedule, over a catalogue and with calls that have texts, is well formed.
 use Rattle.std.proofs.Common.{◌≡◌, ◌∙◌, ℕ, ◌+◌, ◌-◌, ◌<◌, ◌^◌, zero, suc, Bool, true, false, cond, List, [], ◌∷◌, ◌++◌, refl, arith, map, ⊎_elim}
 use Rattle.std.specs.Prelude.{Option, Some, None, ◌==◌, find, is_some, option_and_then}
 use Rattle.std.specs.List.{AllByRecursion, Contains}

@@ -1,4 +1,4 @@
--- Where a step makes an entry, each transaction that is live after it was live before it, as it is.
+-- Where a step makes an entry, each transaction that is live after the step was live before it, and is unchanged.
 use Rattle.std.proofs.Common.{◌≡◌, ◌⊎◌, ◌∙◌, ap, true, List, [], refl, inl, inr}
 use Rattle.vp_model.specs.Types.{Sent, Commit, Input, Effects, Live}
 use Rattle.vp_base.specs.declared.site.Ending.TheVariants.{Committed}

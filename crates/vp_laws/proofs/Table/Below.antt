@@ -1,4 +1,5 @@
--- Parts are of other sites' transactions and of the held view; doubts and the dates of copies are at most the promise.
+-- Parts belong to other sites' transactions and to the held view; the views of doubts and the dates of copies are at most the
+-- promise.
 use Rattle.std.proofs.Common.{◌≡◌, ◌≢◌, ◌∙◌, ap, sym, ℕ, Bool, true, false, cond, List, [], ◌∷◌, ◌++◌, map, refl, arith, ⊎_elim, append-nil}
 use Rattle.std.specs.Prelude.{Option, Some, None, is_some, nat_lt, ◌==◌, not, option_map, filter}
 use Rattle.vp_model.specs.Types.{Change, ViewId, TxnId, View, Stored, Message, Sent, Input, Part, Refreshing, Pending, Live, Ending, Doubt, Decision}

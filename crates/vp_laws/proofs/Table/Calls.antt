@@ -1,6 +1,6 @@
--- What a site does with a call of a transaction: it refuses it early, or has the transaction live or finished here. A live one has answered
--- the number; or the number is its next one and no call is pending, and after the step the call is pending or answered, or the
--- transaction is over.
+-- What a site does with a call of a transaction: it refuses it early, or the transaction is live or finished here. A live one has
+-- answered the number; or the number is its next one and no call is pending, and after the step the call is pending or answered, or
+-- the transaction has ended.
 use Rattle.std.proofs.Common.{◌≡◌, ◌⊎◌, ◌∙◌, ap, sym, subst, ℕ, ◌+◌, ◌≤◌, Bool, true, false, List, [], ◌∷◌, refl, arith, inl, inr, ⊎_elim, length, length-append}
 use Rattle.std.specs.Prelude.{Option, Some, None, is_some, nat_le, nat_lt, if◌then◌else◌}
 use Rattle.std.specs.Option.{option_map_or}

@@ -1,4 +1,5 @@
--- Where the copies of a site come from in a step: a doubt's writes become copies only by a commit of its transaction that the step forces.
+-- Where the copies of a site come from in a step: the writes of a transaction in doubt become copies only by its commit, which the
+-- step forces.
 use Rattle.std.proofs.Common.{◌≡◌, ◌∙◌, ap, sym, subst, ℕ, Bool, true, false, List, [], ◌∷◌, refl, inl, inr}
 use Rattle.std.specs.Prelude.{Option, Some, None, not, ◌&&◌}
 use Rattle.std.specs.List.{Contains}

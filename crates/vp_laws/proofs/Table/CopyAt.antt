@@ -1,5 +1,5 @@
--- Where each copy comes from in a step, with what has not been written: a copy that stays is of no doubt that commits now and of no
--- entry, and one that a refresh brings is as new as the copy that was here and as each answer.
+-- Where each copy comes from in a step, and what has not been written: a copy that stays belongs to no doubt that commits now and
+-- to no entry, and one that a refresh brings is as new as the copy that was here and as each answer.
 use Rattle.std.proofs.Common.{◌≡◌, ◌≢◌, ◌⊎◌, ◌∙◌, ap, sym, subst, ℕ, Bool, true, false, cond, List, [], ◌∷◌, map, refl, arith, inl, inr, ⊎_elim}
 use Rattle.std.specs.Prelude.{Option, Some, None, filter, not, ◌==◌, nat_lt}
 use Rattle.std.proofs.lemmas.Bool.{eqb-true}

@@ -1,5 +1,5 @@
--- In a step that joins a view each record that may be used and has a copy here is put under refresh, or its refresh ends at once.
--- So a record that is not under refresh was not before, in the same view, or its refresh has ended.
+-- In a step that joins a view, the refresh of each record that may be used and has a copy here begins, and may end at once. So a
+-- record that is not under refresh was not before, in the same view, or its refresh has ended.
 use Rattle.std.proofs.Common.{◌≡◌, ◌≢◌, ◌⊎◌, ◌∙◌, ap, sym, subst, ℕ, true, false, List, [], ◌∷◌, refl, arith, inl, inr, ⊎_elim}
 use Rattle.std.specs.Prelude.{Option, Some, None, filter, not, ◌==◌, nat_lt}
 use Rattle.std.specs.Option.{option_map_or}

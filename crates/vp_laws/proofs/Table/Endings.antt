@@ -1,4 +1,4 @@
--- How transactions end: what ends is not live any more, and is told, kept and entered as what it was.
+-- How transactions end: one that ends is not live any more, and is sent, kept and entered as what it was.
 use Rattle.std.proofs.Common.{◌≡◌, ◌≢◌, ◌⊎◌, ◌∙◌, ap, sym, subst, ℕ, ◌+◌, ◌≤◌, Bool, true, false, cond, List, [], ◌∷◌, ◌++◌, map, refl, arith, inl, inr, ⊎_elim}
 use Rattle.std.specs.Prelude.{Some, None, filter, not, ◌==◌}
 use Rattle.std.proofs.lemmas.Bool.Decides.{nat_tests}

@@ -1,4 +1,4 @@
--- What a step refuses, and what it keeps of it: each refusal has its cause, and each closed transaction the cause of its end.
+-- What a step refuses, and what it keeps of that: each refusal has its cause, and each closed transaction the cause of its end.
 use Rattle.std.proofs.Common.{◌≡◌, ◌∙◌, ap, subst, ℕ, Bool, true, false, List, [], ◌∷◌, ◌++◌, refl, ⊎_elim, length}
 use Rattle.std.specs.Prelude.{Option, Some, None, option_map, option_to_list, nat_le}
 use Rattle.vp_model.specs.Types.{View, Answer, Reply, Commit, Input, Pending, Live, Ending, Finished}

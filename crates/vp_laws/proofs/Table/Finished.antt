@@ -1,4 +1,5 @@
--- Where each finished transaction of a step comes from: it was finished, or it was live and ends now, with its answers and that end.
+-- Where each finished transaction of a step comes from: it was finished, or it was live and ends now, with its answers and that
+-- end.
 use Rattle.std.proofs.Common.{◌≡◌, ◌⊎◌, ap, Bool, true, false, List, [], ◌∷◌, ◌++◌, inl, inr, ⊎_elim}
 use Rattle.vp_model.specs.Types.{Sent, Commit, Input, Live, Ending, Finished}
 use Rattle.vp_base.specs.declared.site.Ending.TheVariants.{Committed}

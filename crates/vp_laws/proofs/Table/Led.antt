@@ -1,5 +1,6 @@
--- What a site's own transactions are: named by the site and its life, of the held view, with members of it as parts. A site
--- without a view has none, and nothing listed. What a step asks of others for them is of the held view, and of its members.
+-- A site's own transactions: they are named by the site and its life, run in the held view, and have members of it as parts. A site
+-- without a view has none, and nothing under refresh. What a step asks of others for them is asked in the held view, of its
+-- members.
 use Rattle.std.proofs.Common.{◌≡◌, ◌≢◌, ◌⊎◌, ◌∙◌, ap, sym, ℕ, ◌+◌, ◌≤◌, Bool, true, false, List, [], ◌∷◌, ◌++◌, refl, arith, inl, inr, ⊎_elim, append-nil}
 use Rattle.std.specs.Prelude.{Option, Some, None, is_some, ◌&&◌, ◌==◌, not, filter}
 use Rattle.vp_model.specs.Types.{ViewId, TxnId, View, Stored, Op, Answer, Message, Sent, Commit, Input, Refreshing, Pending, Live, Ending, Doubt, Decision}

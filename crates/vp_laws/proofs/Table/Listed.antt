@@ -1,4 +1,5 @@
--- Which records are under refresh after a step: each has a copy here and may be used, and was so before or is of a view that was joined now.
+-- Which records are under refresh after a step: each has a copy here and may be used, and was so before or is of a view that is
+-- joined now.
 use Rattle.std.proofs.Common.{◌≡◌, ◌⊎◌, ◌∙◌, ap, sym, subst, ℕ, Bool, true, false, cond, List, [], map, refl, ⊎_elim}
 use Rattle.std.specs.Prelude.{Option, Some, None, filter, not, ◌==◌, nat_lt}
 use Rattle.vp_model.specs.Types.{TxnId, View, Input, Stored, Live, Ending, Refreshing, Doubt}

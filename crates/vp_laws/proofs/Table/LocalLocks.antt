@@ -1,4 +1,4 @@
--- The locks of one site: whose they are, what a doubt, a refresh and a live transaction here have, and what keeps it so.
+-- The locks of one site: who owns them, which ones a doubt, a refresh and a live transaction here have, and what keeps it so.
 use Rattle.std.proofs.Common.{◌≡◌, ◌≢◌, ◌⊎◌, ◌∙◌, sym, subst, ℕ, Bool, true, false, cond, List, [], ◌∷◌, refl, arith, inl, inr, ⊎_elim}
 use Rattle.std.specs.Prelude.{Option, Some, None, filter, not, ◌==◌, ◌&&◌}
 use Rattle.std.specs.List.{list_any}

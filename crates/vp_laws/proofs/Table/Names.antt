@@ -1,4 +1,5 @@
--- The names of transactions and views that stand in a site, and in what it sends: a step makes no other ones than it has or is given.
+-- The names of transactions and views that are in a site and in what it sends: a step makes no names but those that it has or is
+-- given.
 use Rattle.std.proofs.Common.{◌≡◌, ◌∙◌, ap, sym, subst, ℕ, Bool, true, false, cond, List, [], ◌∷◌, ◌++◌, map, refl, arith, ⊎_elim, append-nil}
 use Rattle.std.specs.List.{AllByRecursion}
 use Rattle.std.specs.Prelude.{Option, Some, None, is_some, nat_lt, ◌&&◌, ◌||◌, ◌==◌, not, option_map, filter, fold}

@@ -1,4 +1,5 @@
--- A step forces the outcome of a transaction only as that outcome comes, at a site that is in doubt about it; and a doubt ends only so.
+-- A step forces the outcome of a transaction only when that outcome comes, at a site that is in doubt about it; and a doubt ends
+-- only so.
 use Rattle.std.proofs.Common.{◌≡◌, ◌⊎◌, ◌∙◌, ap, sym, subst, ℕ, Bool, true, false, cond, List, [], ◌∷◌, ◌++◌, refl, inl, inr, ⊎_elim}
 use Rattle.std.specs.Prelude.{Option, Some, None, find, not}
 use Rattle.vp_model.specs.Types.{TxnId, Stored, LogRecord, Input, Part, Live, Ending, Refreshing, Doubt}

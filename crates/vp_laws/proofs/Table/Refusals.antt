@@ -1,4 +1,4 @@
--- The refusals that a step sends: each is of the request that came, for a lock that conflicts or for another view.
+-- The refusals that a step sends: each refuses the request that came, for a conflicting lock or for another view.
 use Rattle.std.proofs.Common.{◌≡◌, ◌∙◌, ap, sym, ℕ, Bool, true, false, List, [], ◌∷◌, ◌++◌, refl, ⊎_elim, append-nil}
 use Rattle.std.specs.Prelude.{Option, Some, None, ◌==◌, not, filter}
 use Rattle.vp_model.specs.Types.{ViewId, TxnId, Stored, Owner, Obstacle, Message, Sent, Input, Refreshing, Pending, Live, Ending, Doubt, Decision}

@@ -1,4 +1,4 @@
--- Why a reply of a step tells of an operation: the site kept it, or the step does that operation.
+-- Why a reply of a step reports an operation: the site kept it, or the step does that operation.
 use Rattle.std.proofs.Common.{◌≡◌, subst, ℕ, false, List, [], ◌∷◌, ◌++◌, refl, ⊎_elim}
 use Rattle.std.specs.Prelude.{None}
 use Rattle.vp_model.specs.Types.{TxnId, Op, Answer, Reply, Input, Pending, Live}

@@ -1,4 +1,4 @@
--- What a step tells of operations: where each live transaction comes from, with what is reported of it, and that all other reports repeat
+-- What a step reports of operations: where each live transaction comes from, with what is reported of it; all other reports repeat
 -- kept answers.
 use Rattle.std.proofs.Common.{◌≡◌, ◌≢◌, ◌⊎◌, ◌∙◌, ap, sym, subst, ℕ, true, false, List, [], ◌∷◌, ◌++◌, map, refl, inl, inr, ⊎_elim}
 use Rattle.std.specs.Prelude.{Option, Some, None, option_map, option_to_list, filter_map}

@@ -1,4 +1,4 @@
--- What one more line makes of what the lines tell of a live transaction, whose calls may wait for other sites.
+-- What one more line adds to what the lines report of a live transaction, whose calls may wait for other sites.
 use Rattle.std.proofs.Common.{◌≡◌, ◌∙◌, ap, sym, subst, ℕ, ◌+◌, ◌≤◌, ◌<◌, true, false, List, [], ◌∷◌, ◌++◌, refl, arith}
 use Rattle.std.specs.Prelude.{Option, Some, None, is_some, ◌==◌, nat_lt, filter_map, find, option_and_then}
 use Rattle.std.specs.List.{AllByRecursion}

@@ -1,4 +1,4 @@
--- What one more line makes of what the lines tell of a transaction.
+-- What one more line adds to what the lines report of a transaction.
 use Rattle.std.proofs.Common.{◌≡◌, ℕ, ◌∙◌, ap, sym, Bool, true, false, cond, List, [], ◌∷◌, ◌++◌, map, refl, append_assoc}
 use Rattle.std.specs.Prelude.{Option, Some, None, is_some, ◌==◌, filter_map, flat_map, option_and_then, find}
 use Rattle.std.specs.List.{AllByRecursion}

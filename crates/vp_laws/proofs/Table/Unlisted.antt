@@ -1,4 +1,5 @@
--- Why a record is not under refresh after a step: it was not before, in the same view; its refresh has ended; or the view was joined now.
+-- Why a record is not under refresh after a step: it was not before, in the same view; its refresh has ended; or the view is joined
+-- now.
 use Rattle.std.proofs.Common.{◌≡◌, ◌≢◌, ◌⊎◌, ◌∙◌, ap, sym, subst, ℕ, Bool, true, false, cond, List, [], ◌∷◌, refl, arith, inl, inr, ⊎_elim}
 use Rattle.std.specs.Prelude.{Option, Some, None, filter, find, option_map, not, ◌==◌, ◌&&◌, nat_lt}
 use Rattle.std.proofs.lemmas.Bool.{eqb-true}

@@ -1,4 +1,4 @@
--- Prepares and votes: a prepare speaks of a live transaction whose commit is pending, and a vote answers a prepare.
+-- Prepares and votes: a prepare belongs to a live transaction whose commit is pending, and a vote answers a prepare.
 use Rattle.std.proofs.Common.{◌≡◌, ◌∙◌, ap, sym, ℕ, Bool, true, false, List, [], ◌∷◌, ◌++◌, map, refl, inl, inr, ⊎_elim, append-nil, subst}
 use Rattle.std.specs.Prelude.{Option, Some, None, is_some, ◌==◌, not, filter}
 use Rattle.vp_model.specs.Types.{Change, ViewId, TxnId, View, Stored, Op, Answer, Message, Sent, Input, Part, Refreshing, Pending, Live, Ending, Doubt}

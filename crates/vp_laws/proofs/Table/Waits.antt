@@ -1,4 +1,5 @@
--- Whom the decisions wait for after a step: those of before but a site that acknowledges, and the parts that write of what is entered.
+-- For whom the decisions wait after a step: as before, except a site that acknowledges, and for the parts that write in what is
+-- entered.
 use Rattle.std.proofs.Common.{◌≡◌, ◌≢◌, ◌⊎◌, ◌∙◌, ap, sym, ℕ, Bool, true, false, cond, List, [], ◌∷◌, ◌++◌, map, refl, inl, inr, ⊎_elim}
 use Rattle.std.specs.Prelude.{filter, not, ◌==◌}
 use Rattle.vp_model.specs.Types.{TxnId, Sent, Commit, Input, Live, Ending, Decision}

@@ -1,5 +1,5 @@
--- What the lines so far tell, in the world after them: of each live transaction its operations, and its pending call; of each entry its
--- operations; of a name that was never given, nothing; and each answer that a site keeps was reported.
+-- What the lines so far report, in the world after them: of each live transaction its operations and its pending call; of each
+-- entry its operations; of a name that was never given, nothing; and each answer that a site keeps was reported.
 use Rattle.std.proofs.Common.{◌≡◌, ◌≢◌, ◌∙◌, ap, subst, ℕ, Bool, true, false, List, [], ◌∷◌, refl, length}
 use Rattle.std.specs.Prelude.{Option, Some, None, is_some, ◌==◌, ◌&&◌, not}
 use Rattle.std.specs.Option.{option_map_or}

@@ -1,4 +1,4 @@
--- The refusals that clients are told are justified, in every schedule.
+-- The refusals that clients are answered are justified, in every schedule.
 use Rattle.std.proofs.Common.{◌≡◌, ap, sym, subst, ℕ, true, false, List, [], ◌∷◌, ◌++◌, map, refl, append_assoc}
 use Rattle.std.specs.Prelude.{Some}
 use Rattle.vp_model.specs.Types.{Event, Input, Line, Answer, Reply}

@@ -1,4 +1,5 @@
--- Where every view that a site holds is the opening one, so is the view of each entry; hence the order by views is that of the journal.
+-- Where every view that a site holds is the opening one, so is the view of each entry; hence the order by views is that of the
+-- journal.
 use Rattle.std.proofs.Common.{◌≡◌, ◌∙◌, ap, sym, subst, ℕ, true, List, [], ◌∷◌, refl, append-nil, ⊎_elim}
 use Rattle.std.specs.Prelude.{Some, IsSome, flat_map}
 use Rattle.vp_model.specs.Types.{ViewId, View, Commit, Event, Input, Live}

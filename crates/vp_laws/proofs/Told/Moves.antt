@@ -1,4 +1,4 @@
--- One step keeps what the lines tell.
+-- One step keeps what the lines report.
 use Rattle.std.proofs.Common.{◌≡◌, ◌≢◌, ◌⊎◌, ◌∙◌, ap, sym, subst, ℕ, ◌+◌, ◌<◌, ◌≤◌, Bool, true, false, cond, List, [], ◌∷◌, ◌++◌, map, refl, arith, inl, inr, ⊎_elim, length, length-append}
 use Rattle.std.specs.Prelude.{Option, Some, None, is_some, option_map, option_to_list, find, ◌==◌}
 use Rattle.std.proofs.lemmas.Bool.{eq-eqb}

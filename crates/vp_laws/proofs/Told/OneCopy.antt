@@ -1,4 +1,4 @@
--- What is proved of one copy, put together: each schedule over a catalogue whose sites are different numbers is one copy.
+-- The laws on one copy put together: each schedule over a catalogue whose sites have different numbers is one copy.
 use Rattle.vp_model.specs.Catalogue.{sites_of}
 use Rattle.vp_model.specs.World.{Schedule}
 use Rattle.vp_model.specs.Headline.{IsOneCopy}

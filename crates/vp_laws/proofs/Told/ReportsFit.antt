@@ -1,4 +1,5 @@
--- In every schedule each value that is replied is under a number that a read has taken first, and each `written` under one that a write has.
+-- In every schedule each value is replied to a number that was first used by a read, and each `written` to one that was first used
+-- by a write.
 use Rattle.std.proofs.Common.{◌≡◌, ◌≢◌, ◌∙◌, ap, sym, subst, ℕ, ◌+◌, true, false, List, [], ◌∷◌, ◌++◌, map, length, ⊎_elim}
 use Rattle.std.specs.Prelude.{Some, None}
 use Rattle.vp_model.specs.Types.{TxnId, Op, Call, Answer, Event, Input, Line, Reply, Pending, Live}

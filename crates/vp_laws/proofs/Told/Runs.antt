@@ -1,4 +1,4 @@
--- In every schedule each transaction is committed with the operations that its client was told of.
+-- In every schedule each transaction is committed with the operations that its client was answered.
 use Rattle.std.proofs.Common.{◌≡◌, ap, sym, subst, ℕ, false, List, [], ◌∷◌, ◌++◌, map, length, refl}
 use Rattle.std.specs.Prelude.{Some, All}
 use Rattle.std.proofs.lemmas.List.Elements.{All-from_recursion}

@@ -1,4 +1,4 @@
--- Of a transaction that another view closed no operation was told under a number that tells so, or a larger one.
+-- No operation of a transaction that another view closed was reported with a number at which that is replied, or with a higher one.
 use Rattle.std.proofs.Common.{◌≡◌, ◌⊎◌, ◌∙◌, ap, sym, subst, ℕ, ◌+◌, ◌<◌, ◌≤◌, true, false, List, [], ◌∷◌, ◌++◌, map, refl, arith, inl, inr, ⊎_elim, length, length-append}
 use Rattle.std.specs.Prelude.{Option, Some, None, option_map, option_to_list, nat_le}
 use Rattle.std.specs.List.{AllByRecursion, list_any}

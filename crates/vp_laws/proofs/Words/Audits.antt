@@ -1,4 +1,4 @@
--- What the copies of a majority tell of the one copy.
+-- What the copies of a majority say of the one copy.
 use Rattle.std.proofs.Common.{◌≡◌, ◌∙◌, ap, sym, subst, ℕ, true, List, refl}
 use Rattle.std.specs.Prelude.{Option, Some, None, option_map, slice_get}
 use Rattle.std.specs.List.{Contains}

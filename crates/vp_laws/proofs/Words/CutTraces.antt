@@ -1,4 +1,4 @@
--- What a limit leaves of a trace is its front, and all of it where no limit is reached.
+-- What a limit leaves of a trace are its first lines, and all of them where no limit is reached.
 use Rattle.std.proofs.Common.{◌≡◌, ◌∙◌, ap, sym, ℕ, zero, suc, ◌+◌, Bool, true, false, cond, List, [], ◌∷◌, ◌++◌, map, refl, arith, length, drop, append_assoc, append-nil}
 use Rattle.std.proofs.lemmas.List.{map-append}
 use Rattle.std.specs.Prelude.{Option, Some, None, is_some, not, ◌||◌, find, take, option_and_then}

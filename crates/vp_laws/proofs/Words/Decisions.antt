@@ -1,4 +1,4 @@
--- Sites that are in doubt about a transaction end the doubt as the journal says.
+-- A site that is in doubt about a transaction ends the doubt as the journal says.
 use Rattle.std.proofs.Common.{◌≡◌, ◌⊎◌, ◌∙◌, sym, subst, ℕ, Bool, true, false, inl, inr, ⊎_elim}
 use Rattle.std.specs.Prelude.{Some}
 use Rattle.std.specs.List.{Contains}

@@ -1,4 +1,4 @@
--- The laws of one copy in the words of the contracts: the entries are a serial run, and each copy that may be read has its content.
+-- The laws on one copy in the words of the contracts: the entries are a serial run, and each copy that may be read has its content.
 use Rattle.std.proofs.Common.{◌≡◌, ◌∙◌, ap, sym, subst, ℕ, Bool, true, false, cond, List, [], ◌∷◌, map, refl, ⊎_elim}
 use Rattle.std.specs.Prelude.{Option, Some, None, IsSome, IsTrue, find, option_and_then, slice_get, ◌==◌, not}
 use Rattle.std.specs.List.{list_any}

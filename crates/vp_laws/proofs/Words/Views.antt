@@ -1,4 +1,4 @@
--- The laws in the words of the contracts.
+-- The laws of views and votes in the words of the contracts.
 use Rattle.std.proofs.Common.{◌≡◌, ◌∙◌, ap, ℕ, refl}
 use Rattle.std.specs.Prelude.{Option, Some, None}
 use Rattle.std.specs.List.{Contains}

@@ -1,5 +1,5 @@
--- What a moment of a schedule is: a step of a site with what it gave, or a change that shows no commit and no reply. And what lasts from a
--- moment to the end of the schedule.
+-- The moments of a schedule: each is a step of a site with what it gave, or a change that shows no commit and no reply. And what
+-- lasts from a moment to the end of the schedule.
 use Rattle.std.proofs.Common.{◌≡◌, sym, subst, ℕ, ◌+◌, ◌-◌, ◌^◌, zero, suc, List, [], ◌∷◌, ◌++◌, refl, ⊎_elim}
 use Rattle.std.specs.Prelude.{Option, Some, None, ◌==◌, length}
 use Rattle.vp_model.specs.Types.{Event, Input, Sent, Shown}

@@ -1,4 +1,5 @@
--- What the invariant sees of a world, and what a step changes of it. Every later proof goes by the record `Acted`, and by none of the rows.
+-- What the invariant sees of a world, and what a step changes in it. Every later proof uses the record `Acted`, and none of the
+-- rows.
 use Rattle.std.proofs.Common.{◌≡◌, ◌≢◌, ◌⊎◌, ◌∙◌, ap, sym, ℕ, Bool, true, false, cond, List, [], ◌∷◌, ◌++◌, refl, arith, inl, inr, ⊎_elim, ◌-◌}
 use Rattle.std.specs.Prelude.{Option, Some, None, option_map, option_and_then, ◌==◌, slice_get}
 use Rattle.std.proofs.lemmas.Bool.Decides.{nat_tests}

@@ -1,4 +1,4 @@
--- Who each site is after an event, and how the world starts: what every invariant of all sites goes by.
+-- Which state each site has after an event, and how the world starts: every invariant of all sites uses this.
 use Rattle.std.proofs.Common.{◌≢◌, subst, ◌+◌, ◌≤◌, ⊎_elim, ◌≡◌, ◌∙◌, ap, sym, ℕ, Bool, true, false, cond, List, [], ◌∷◌, map, refl, arith}
 use Rattle.std.specs.Prelude.{Option, Some, None, ◌==◌, option_map}
 use Rattle.vp_model.specs.Types.{Stored, Sent, Commit, Input, Refreshing, Live, Finished, ViewId}

@@ -1,4 +1,4 @@
--- What a client is told.
+-- The texts of answers to clients.
 use Rattle.std.specs.Prelude.{ℕ, List, ◌∷◌, ◌++◌, codes}
 use Rattle.std.specs.Fmt.{decimal}
 use Rattle.vp_model.specs.Types.{TxnId, Answer}

@@ -1,4 +1,4 @@
--- Calls and events, as a schedule writes them.
+-- The texts of calls and events, as a schedule has them.
 use Rattle.std.specs.Prelude.{ℕ, List, ◌∷◌, ◌++◌, codes}
 use Rattle.std.specs.Fmt.{decimal}
 use Rattle.vp_model.specs.Types.{Call, Event}

@@ -1,4 +1,4 @@
--- Single fields. A number is decimal.
+-- The texts of single fields. Numbers are decimal.
 use Rattle.std.specs.Prelude.{ℕ, List, [], ◌∷◌, ◌++◌, flat_map, codes, Option, Some, None}
 use Rattle.std.specs.Fmt.{decimal}
 use Rattle.vp_model.specs.Types.{ViewId, TxnId, Owner}
@@ -13,7 +13,7 @@ abbrev pub owner_text : Owner → List ℕ
 owner_text (owner.Txn txn) = txn_text txn
 owner_text owner.Refresh = codes "refresh"
 
--- a transaction and a number behind a blank
+-- a space, a transaction and a number
 abbrev pub call_name_text : TxnId → ℕ → List ℕ
 call_name_text txn number = txn_text txn ++ 32 ∷ decimal number
 

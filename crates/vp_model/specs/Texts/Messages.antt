@@ -1,4 +1,4 @@
--- Messages, as a trace shows them. Records are named.
+-- The texts of messages, as a trace has them, with records by name.
 use Rattle.std.specs.Prelude.{ℕ, Bool, true, false, List, ◌∷◌, ◌++◌, flat_map, codes}
 use Rattle.std.specs.Fmt.{decimal}
 use Rattle.vp_model.specs.Types.{Change, ViewId, TxnId, Obstacle, Message}
@@ -21,7 +21,7 @@ abbrev pub outcome_text : Bool → List ℕ
 outcome_text true = codes " commit"
 outcome_text false = codes " abort"
 
--- what asks a part for a lock or a vote: the transaction, its view and the number of its call
+-- what each request for a lock or a vote begins with: the transaction, its view and the number of its call
 abbrev pub request_text : List ℕ → TxnId → ViewId → ℕ → List ℕ
 request_text word txn view number = word ++ (txn_text txn ++ 32 ∷ (view_text view ++ 32 ∷ decimal number))
 

@@ -1,4 +1,4 @@
--- A trace: each step's event under the number of its event line, and what it gave, one line each behind a blank.
+-- A trace: each step's event with the number of its event line, and what it gave, on one line each after a space.
 use Rattle.std.specs.Prelude.{ℕ, ◌+◌, List, [], ◌∷◌, ◌++◌, length, drop, map, flat_map, codes}
 use Rattle.std.specs.Fmt.{decimal}
 use Rattle.vp_model.specs.Types.{Commit, Sent, Reply, Event, Shown, Line}
@@ -18,7 +18,7 @@ abbrev pub sent_line : Catalogue → ℕ → Sent → List ℕ
 sent_line catalogue k sent =
     codes " sent " ++ (decimal k ++ 32 ∷ (decimal sent.from ++ 62 ∷ (decimal sent.to ++ 32 ∷ (message_text catalogue sent.message ++ 10 ∷ []))))
 
--- the messages are numbered over the whole run, the first of these by k
+-- the messages are numbered through the whole run, and k is the number of the first of these
 abbrev pub sent_lines : Catalogue → ℕ → List Sent → List ℕ
 sent_lines catalogue k [] = []
 sent_lines catalogue k (sent ∷ messages) = sent_line catalogue k sent ++ sent_lines catalogue (k + 1) messages
@@ -54,7 +54,7 @@ abbrev pub lines_under : ℕ → Event → Run → Run → List (ℕ × Line)
 lines_under number event run after =
     own_line number event ++ map (λ (m : Moment). (m.number, m.line)) (drop (length run.moments) after.moments)
 
--- the lines under each event line in turn
+-- the lines under each event line, one after another
 unfoldable pub printed_from : Catalogue → ℕ → List Event → Run → List (ℕ × Line)
 printed_from catalogue number [] run = []
 printed_from catalogue number (event ∷ events) run =

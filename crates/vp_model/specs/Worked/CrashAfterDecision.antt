@@ -1,4 +1,4 @@
--- A worked schedule and its lines.
+-- A worked schedule and its lines. A coordinator crashes after its decision to commit, and sends it again after its restart.
 use Rattle.std.specs.Prelude.{ℕ, List, [], ◌∷◌, true, codes}
 use Rattle.vp_model.specs.Types.{Commit, Line}
 use Rattle.vp_model.specs.Types.message

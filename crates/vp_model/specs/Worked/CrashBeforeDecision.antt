@@ -1,4 +1,5 @@
--- A worked schedule and its lines.
+-- A worked schedule and its lines. A coordinator crashes before its decision: an inquiry is answered abort, and a vote that comes
+-- later changes nothing.
 use Rattle.std.specs.Prelude.{ℕ, List, [], ◌∷◌, false, codes}
 use Rattle.vp_model.specs.Types.{Commit, Line}
 use Rattle.vp_model.specs.Types.message

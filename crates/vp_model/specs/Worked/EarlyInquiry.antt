@@ -1,4 +1,5 @@
--- A site in doubt asks how the transaction ended while that is still live at its coordinator, which sends nothing; then it commits.
+-- A site in doubt asks for the outcome of a transaction that is still live at its coordinator, which sends nothing; then the
+-- transaction commits.
 use Rattle.std.specs.Prelude.{ℕ, List, [], ◌∷◌, ◌++◌, true, take, codes}
 use Rattle.vp_model.specs.Types.{Line}
 use Rattle.vp_model.specs.Types.message
@@ -10,7 +11,7 @@ use Rattle.vp_model.specs.World.{Schedule}
 use Rattle.vp_model.specs.Worked.{view, txn, sent, reply, committed, line}
 use Rattle.vp_model.specs.Worked.ForgottenDecision as forgotten
 
--- in the other schedule message 5, which asks, comes after the decision was forgotten
+-- in the other schedule message 5, the inquiry, comes after the decision was forgotten
 abbrev pub schedule : Schedule
 schedule = record forgotten.schedule { events = take 7 forgotten.schedule.events ++ event.Deliver 5 ∷ event.Deliver 4 ∷ [] }
 

@@ -1,4 +1,4 @@
--- A worked schedule and its lines.
+-- A worked schedule and its lines. A record is not accessible with exactly half of the weight of its copies, and is with more.
 use Rattle.std.specs.Prelude.{ℕ, List, [], ◌∷◌, None, codes}
 use Rattle.vp_model.specs.Types.{Commit, Line}
 use Rattle.vp_model.specs.Types.message

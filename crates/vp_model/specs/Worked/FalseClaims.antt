@@ -16,7 +16,7 @@ abbrev three_sites : Catalogue
 three_sites =
     record { sites = ((1, 7001) ∷ (2, 7002) ∷ (3, 7003) ∷ []); records = (stored (codes "x") (codes "10") ((1, 1) ∷ (2, 1) ∷ (3, 1) ∷ []) ∷ []) }
 
--- the moment in which the site is called after the schedule, with this answer alone
+-- the moment in which the site is called after the schedule, with only this answer
 abbrev claim : Schedule → ℕ → Call → Answer → Moment
 claim s site words claimed =
     let w = (run_of s).world in
@@ -31,7 +31,7 @@ claim s site words claimed =
 abbrev pub is_justified_after : Schedule → ℕ → Call → Answer → Bool
 is_justified_after s site words claimed = all_justified s.catalogue [] (moments_of s ++ claim s site words claimed ∷ [])
 
--- 1.1.2 is closed for a lock of 1.1.1, and then the site leaves its view
+-- 1.1.2 is closed because of a lock of 1.1.1, and then the site leaves its view
 abbrev pub closed_and_left : Schedule
 closed_and_left = record {
   catalogue = three_sites;
@@ -51,8 +51,8 @@ closed_by_lock = answer.LockHeld (txn 1 1 2) 2 (codes "x") 1 (owner.Txn (txn 1 1
 abbrev pub closed_by_leaving : Answer
 closed_by_leaving = answer.ViewChanged (txn 1 1 2) 2 1 (view 0 0) None
 
--- site 1 refuses the write of 2.1.1 for a lock of 1.1.1, in message 5, which is never delivered. Then 1.1.1 is closed for the lock of
--- 2.1.1 at site 2, and the request of 2.1.1 comes again and is granted
+-- site 1 refuses the write of 2.1.1 because of a lock of 1.1.1, in message 5, which is never delivered. Then 1.1.1 is closed
+-- because of the lock of 2.1.1 at site 2, and the request of 2.1.1 comes again and is granted
 abbrev pub granted_after_all : Schedule
 granted_after_all = record {
   catalogue = three_sites;
@@ -78,7 +78,7 @@ next_is_done = answer.Value (txn 2 1 1) 2 (codes "12")
 abbrev pub next_is_refused : Answer
 next_is_refused = answer.LockHeld (txn 2 1 1) 2 (codes "x") 1 (owner.Txn (txn 1 1 1))
 
--- 1.1.1 is closed with no call pending, and answers its end under number 5 first, and then under number 4
+-- 1.1.1 is closed while no call is pending, and its end is answered first to number 5 and then to number 4
 abbrev pub closed_idle : Schedule
 closed_idle = record {
   catalogue = three_sites;
@@ -97,7 +97,7 @@ waiting_write = record {
   events = event.Call 1 call.Begin ∷ event.Call 1 (call.Write (txn 1 1 1) 1 (codes "x") (codes "11")) ∷ [];
 }
 
--- site 1 leaves its view, and answers the call of this number
+-- site 1 leaves its view, and answers the call with this number
 abbrev pub left_view : ℕ → Answer
 left_view number = answer.ViewChanged (txn 1 1 1) number 1 (view 0 0) None
 
@@ -122,7 +122,7 @@ pub record IsToldApart (c : FalseClaim) : Type 0 where
 abbrev one_site : Catalogue
 one_site = record { sites = ((1, 7001) ∷ []); records = (stored (codes "x") (codes "10") ((1, 1) ∷ []) ∷ []) }
 
--- 1.1.1 has written x at the only site, and then these events
+-- 1.1.1 has written x at the only site, and then these events happen
 abbrev after_a_write : List Event → Schedule
 after_a_write events =
     record {
@@ -133,7 +133,7 @@ after_a_write events =
 abbrev read_x : TxnId → ℕ → Call
 read_x name number = call.Read name number (codes "x")
 
--- at the site the lock of 1.1.1 on x stood in the way
+-- at the site the lock of 1.1.1 on x conflicted
 abbrev held_at : ℕ → TxnId → ℕ → Answer
 held_at site name number = answer.LockHeld name number (codes "x") site (owner.Txn (txn 1 1 1))
 
@@ -157,7 +157,7 @@ never_begun = record {
   claimed = held_at 1 (txn 1 1 9) 1;
 }
 
--- 1.1.2 is called out of turn, and lives on
+-- 1.1.2 is called out of turn, and stays live
 abbrev pub out_of_turn : FalseClaim
 out_of_turn = record {
   schedule = after_a_write (event.Call 1 call.Begin ∷ []);
@@ -190,7 +190,7 @@ refused_by_two = record {
   claimed = held_at 1 (txn 2 1 1) 2;
 }
 
--- the write of 2.1.1 has timed out before the refusal of site 1 came
+-- the write of 2.1.1 has timed out before the refusal of site 1 comes
 abbrev pub timed_out_before : FalseClaim
 timed_out_before = record {
   schedule = record {
@@ -211,7 +211,7 @@ timed_out_before = record {
   claimed = held_at 1 (txn 2 1 1) 1;
 }
 
--- the write of 2.1.1 was done after all, and is called again
+-- the write of 2.1.1 was done in the end, and is called again
 abbrev pub written_after_all : FalseClaim
 written_after_all = record {
   schedule = granted_after_all;
@@ -231,7 +231,7 @@ told_before_leaving = record {
   claimed = answer.ViewChanged (txn 1 1 1) 1 1 (view 0 0) None;
 }
 
--- 1.1.2 was closed for the lock
+-- 1.1.2 was closed because of the lock
 abbrev pub refused_again : FalseClaim
 refused_again = record {
   schedule = after_a_write (event.Call 1 call.Begin ∷ event.Call 1 (read_x (txn 1 1 2) 1) ∷ []);
@@ -241,7 +241,7 @@ refused_again = record {
   claimed = held_at 1 (txn 1 1 2) 7;
 }
 
--- and is called under number 0
+-- the same, and the call has number 0
 abbrev pub refused_first : FalseClaim
 refused_first = record refused_again {
   words = read_x (txn 1 1 2) 0;
@@ -249,7 +249,7 @@ refused_first = record refused_again {
   claimed = held_at 1 (txn 1 1 2) 2;
 }
 
--- 1.1.2 was closed for the lock, and its site has crashed since
+-- 1.1.2 was closed because of the lock, and its site has crashed since
 abbrev pub forgotten : FalseClaim
 forgotten = record {
   schedule = after_a_write (event.Call 1 call.Begin ∷ event.Call 1 (read_x (txn 1 1 2) 1) ∷ event.Crash 1 ∷ event.Restart 1 ∷ []);
@@ -259,7 +259,7 @@ forgotten = record {
   claimed = held_at 1 (txn 1 1 2) 1;
 }
 
--- 1.1.2 was closed for the lock, and is called at another site
+-- 1.1.2 was closed because of the lock, and is called at another site
 abbrev pub called_elsewhere : FalseClaim
 called_elsewhere = record {
   schedule = record { catalogue = three_sites; events = (after_a_write (event.Call 1 call.Begin ∷ event.Call 1 (read_x (txn 1 1 2) 1) ∷ [])).events };
@@ -279,7 +279,7 @@ unknown_without_weight = record {
   claimed = answer.Inaccessible (txn 1 1 9) 1 (codes "x") 1 3;
 }
 
--- and 1.1.1 is told so
+-- the same, and 1.1.1 is answered so
 abbrev pub told_the_weights : FalseClaim
 told_the_weights = record unknown_without_weight {
   words = read_x (txn 1 1 1) 1;

@@ -1,4 +1,4 @@
--- A worked schedule and its lines.
+-- A worked schedule and its lines. Two transactions of one site, one after the other: the second reads what the first wrote.
 use Rattle.std.specs.Prelude.{ℕ, List, [], ◌∷◌, codes}
 use Rattle.vp_model.specs.Types.{Commit, Line}
 use Rattle.vp_model.specs.Types.answer

@@ -1,4 +1,5 @@
--- A worked schedule and its lines.
+-- A worked schedule and its lines. A read is refused for the lock of a write, and its transaction is aborted; after the commit
+-- another transaction reads the new value.
 use Rattle.std.specs.Prelude.{ℕ, List, [], ◌∷◌, true, codes}
 use Rattle.vp_model.specs.Types.{Commit, Line}
 use Rattle.vp_model.specs.Types.message

@@ -1,4 +1,4 @@
--- Sites whose counters stand at their last value.
+-- Sites whose counters have their highest value.
 use Rattle.std.specs.Prelude.{◌-◌, ◌^◌, [], ◌∷◌, codes, None}
 use Rattle.vp_model.specs.Catalogue.{Catalogue, start_copies}
 use Rattle.vp_model.specs.Durable.{DurableState, empty_durable}
@@ -14,11 +14,11 @@ one_site = record { sites = ((1, 7001) ∷ []); records = (stored (codes "x") (c
 abbrev fresh : DurableState
 fresh = empty_durable (start_copies one_site 1)
 
--- it has begun as many transactions in this life as there are places
+-- it has begun as many transactions in this life as there are places in a life
 abbrev pub last_transaction : SiteState
 last_transaction = let site = start one_site 1 fresh in record site { coordinator = record site.coordinator { seq = 2 ^ 32 - 1 } }
 
--- another site has told it the last number of a view
+-- another site has named the last number of a view
 abbrev pub last_view : SiteState
 last_view = let site = start one_site 1 fresh in record site { views = record site.views { seen = 2 ^ 64 - 1 } }
 

@@ -1,4 +1,5 @@
--- A worked schedule and its lines.
+-- A worked schedule and its lines. A transaction commits in its old view after another has committed in a higher one. While it is
+-- in doubt, what it writes is not read in the higher view.
 use Rattle.std.specs.Prelude.{ℕ, List, [], ◌∷◌, true, codes}
 use Rattle.vp_model.specs.Types.{Commit, Line}
 use Rattle.vp_model.specs.Types.message

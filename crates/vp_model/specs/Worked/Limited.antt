@@ -1,4 +1,4 @@
--- A schedule under small limits on its world: which one ends it, and what is left of its trace.
+-- A schedule in a world with small limits: which limit ends it, and what is left of its trace.
 use Rattle.std.specs.Prelude.{ℕ, List, [], ◌∷◌, codes}
 use Rattle.vp_model.specs.Types.{Line}
 use Rattle.vp_model.specs.Types.message

@@ -1,4 +1,5 @@
--- A worked schedule and its lines.
+-- A worked schedule and its lines. A site that has not left its old view reads the old value there, after a write was committed in
+-- a higher view; the history has the read first.
 use Rattle.std.specs.Prelude.{ℕ, List, [], ◌∷◌, true, codes}
 use Rattle.vp_model.specs.Types.{Commit, Line}
 use Rattle.vp_model.specs.Types.message

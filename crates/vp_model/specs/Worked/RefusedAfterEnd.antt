@@ -1,4 +1,4 @@
--- A transaction that a lock at another site has closed answers a larger number with its end.
+-- A transaction that was closed because of a lock at another site answers a higher number with its end.
 use Rattle.std.specs.Prelude.{[], ◌∷◌, codes}
 use Rattle.vp_model.specs.Types.call
 use Rattle.vp_model.specs.Types.event

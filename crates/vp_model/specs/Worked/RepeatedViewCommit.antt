@@ -1,4 +1,5 @@
--- A worked schedule and its lines.
+-- A worked schedule and its lines. The message that fixed a view comes again after a crash and a restart of its receiver, which
+-- does not join.
 use Rattle.std.specs.Prelude.{ℕ, List, [], ◌∷◌, codes}
 use Rattle.vp_model.specs.Types.{Commit, Line}
 use Rattle.vp_model.specs.Types.message

@@ -1,4 +1,4 @@
--- One transaction reads 64 times; its 65th operation is refused, and it commits under that number.
+-- One transaction reads 64 times; its 65th operation is refused, and it commits with that number.
 use Rattle.std.specs.Prelude.{ℕ, zero, suc, ◌+◌, List, [], ◌∷◌, ◌++◌, map, codes}
 use Rattle.vp_model.specs.Types.{Call, Line}
 use Rattle.vp_model.specs.Types.answer
@@ -9,7 +9,7 @@ use Rattle.vp_model.specs.Types.shown
 use Rattle.vp_model.specs.World.{Schedule}
 use Rattle.vp_model.specs.Worked.{view, txn, reply, committed, line, stored}
 
--- so many numbers from n on
+-- a given count of numbers, from n on
 abbrev pub numbers_from : ℕ → ℕ → List ℕ
 numbers_from n zero = []
 numbers_from n (suc count) = n ∷ numbers_from (n + 1) count

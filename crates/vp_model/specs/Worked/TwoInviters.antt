@@ -1,4 +1,4 @@
--- A worked schedule and its lines.
+-- A worked schedule and its lines. Two sites invite at once; the view with the higher identifier comes about.
 use Rattle.std.specs.Prelude.{ℕ, List, [], ◌∷◌, codes}
 use Rattle.vp_model.specs.Types.{Commit, Line}
 use Rattle.vp_model.specs.Types.message

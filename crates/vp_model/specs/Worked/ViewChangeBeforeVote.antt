@@ -1,4 +1,4 @@
--- A worked schedule and its lines.
+-- A worked schedule and its lines. A part has left the view when it is asked for its vote, so the transaction is aborted.
 use Rattle.std.specs.Prelude.{ℕ, List, [], ◌∷◌, false, Some, codes}
 use Rattle.vp_model.specs.Types.{Commit, Line}
 use Rattle.vp_model.specs.Types.message

@@ -2,7 +2,7 @@ use Rattle.std.proofs.Common.{rules, ◌≡◌, ◌∙◌, ◌++◌, ap, sym, su
 use Rattle.vp_model.specs.World.{Schedule, moments_of}
 use Rattle.vp_model.specs.Texts.Trace.{trace_text}
 use Rattle.vp_playing.specs.Played.{schedule_of, StepsAll, IsReadyFor}
-use Rattle.vp_hosts.specs.Ports.{AreHosts}
+use Rattle.vp_cluster.specs.Ports.{AreHosts}
 use Rattle.vp_cluster.specs.Nodes.{NodesValue, Begin, MayDo, Does}
 use Rattle.vp_cluster.specs.Ran.{AreLogs, Runs}
 use Rattle.vp_node.proofs.Faults.{gave_err}

@@ -3,4 +3,4 @@ use Rattle.vp_lists.proofs.by_rec.replace_at.Goals as goal
 
 pub loop-copy-preserved : goal.loop-copy-preserved
 loop-copy-preserved c =
-    rw (c.replace_one.ensures, ← c.copy-item.is) (map_over_more _ _ _ _ c.copy-item.result c.loop-copy-test.true c.loop-copy.invariant c.copy-item.is)
+    rw (c.in_ok-replace_one.ensures, ← c.copy-item.is) (map_over_more _ _ _ _ c.copy-item.result c.loop-copy-test.true c.loop-copy.invariant c.copy-item.is)

@@ -1,4 +1,4 @@
--- What stands in `bytes` was taken, and nothing failed.
+-- What is in `bytes` was taken, and nothing failed.
 use Rattle.std.proofs.Common.{◌+◌, ◌-◌, ◌≡◌, vec_len}
 use Rattle.vp_outside.specs.Input.{Took}
 use Rattle.vp_outside.proofs.source.read_to_end.Given as goal

@@ -1,4 +1,4 @@
--- The datagrams that came were taken, and none of them ended the run.
+-- The turns of the datagrams that came were done, and none of them ended the run.
 use Rattle.std.proofs.Common.{false}
 use Rattle.vp_serving.specs.Serving.{outside}
 use Rattle.vp_serving.proofs.Served.{SoFar}

@@ -1,4 +1,4 @@
--- The bytes before the gate are the batches, each behind an open gate.
+-- The bytes before the gate are the batches, each after an open gate.
 use Rattle.std.proofs.Common.{◌≡◌, ◌-◌, ◌<◌, ◌≤◌, ◌++◌, length, drop}
 use Rattle.std.specs.List.{AllByRecursion}
 use Rattle.vp_stable.specs.Log.{CanStand, opened}

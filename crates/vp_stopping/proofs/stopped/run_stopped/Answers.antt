@@ -4,7 +4,7 @@ use Rattle.vp_model.specs.Types.{Event}
 use Rattle.vp_node.proofs.Faults.{gave_err}
 use Rattle.vp_stopping.specs.declared.stopped.Front.{Front}
 use Rattle.vp_stopping.specs.declared.stopped.StoppedSite.{StoppedSite}
-use Rattle.vp_hosts.specs.Stops.{is_kept}
+use Rattle.vp_cluster.specs.Stops.{is_kept}
 use Rattle.vp_stopping.specs.Singles.{ComesTo, IsBefore, StopsIn}
 use Rattle.vp_stopping.specs.RanStopped.{RunsStopped}
 use Rattle.vp_stopping.proofs.Ending.{no_step, nothing_there, came_ends, nobody, somebody, same_appender, leaves_log, taker_again, nothing_done, nothing_ends, rest_ends, all_done, all_rise, waits_again}
@@ -62,8 +62,8 @@ returns-in_err-step-in-None c =
     c.in_err-step-in-None.field-0.0 c.from_residual-in_err-step-in-None.result c.in_err-step-in-None.ensures.end
     (gave_err c.from_residual-in_err-step-in-None.result c.in_err-step-in-None.field-0.0 c.from_residual-in_err-step-in-None.ensures.1)
 
-pub returns-in_ok-step-in-None : goal.returns-in_ok-step-in-None
-returns-in_ok-step-in-None c =
+pub returns-in-None : goal.returns-in-None
+returns-in-None c =
     let s = c.args.schedule.now in
     let step = c.args.stop.now.step in
     let front = c.in-Some.front in
@@ -133,8 +133,8 @@ returns-in_err-go_on-in-Some-stopped c =
     (rest_ends s step at.left c.in_err-go_on-in-Some-stopped.field-0.0 c.from_residual-in_err-go_on-in-Some-stopped.result goes
     (gave_err c.from_residual-in_err-go_on-in-Some-stopped.result c.in_err-go_on-in-Some-stopped.field-0.0 c.from_residual-in_err-go_on-in-Some-stopped.ensures.1))
 
-pub returns-in_ok-go_on-in-Some-stopped : goal.returns-in_ok-go_on-in-Some-stopped
-returns-in_ok-go_on-in-Some-stopped c =
+pub returns : goal.returns
+returns c =
     let s = c.args.schedule.now in
     let step = c.args.stop.now.step in
     let front = c.in-Some.front in

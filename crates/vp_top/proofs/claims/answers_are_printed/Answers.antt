@@ -1,4 +1,4 @@
-use Rattle.vp_commands.specs.Asked.{ClientGives}
+use Rattle.vp_top.specs.Asked.{ClientGives}
 use Rattle.vp_top.proofs.Answering.{answer_told, no_disk}
 use Rattle.vp_top.proofs.Completing.{at_port}
 use Rattle.vp_words.specs.declared.words.Command.TheVariants as commands

@@ -12,7 +12,7 @@ returns g c = record {
   logged = λ words bytes schedule counted w fits spelled beyond source source' link link' sink sink' disk disk' end e given.
       answer_told words source source' _ commands.Logs w tt bytes given fits _ (λ end text a. logs_limited schedule counted beyond end text (played bytes Leaves schedule spelled end text a)) (no_disk words source source' _ commands.Logs w (λ is. is)) end e;
   generated = λ words seed count counted w beyond source source' link link' sink sink' disk disk' end e calm.
-      unread_told words source source' _ (commands.Generate seed count) w (λ is. is) calm _ (λ bytes end text a. generated_limited seed count counted beyond end text a) (λ is. is) end e;
+      unread_told words source source' _ (commands.Generate seed count) w (λ is. is) calm _ (λ bytes end text a. generated_limited seed count counted beyond end text a) (λ is. is) (λ is. is) end e;
   soaked = λ words seed count counted w beyond source source' link link' sink sink' disk disk' end e calm.
-      unread_told words source source' _ (commands.Soak seed count) w (λ is. is) calm _ (λ bytes end text a. soaked_limited seed count counted beyond end text a) (λ is. is) end e;
+      unread_told words source source' _ (commands.Soak seed count) w (λ is. is) calm _ (λ bytes end text a. soaked_limited seed count counted beyond end text a) (λ is. is) (λ is. is) end e;
 }

@@ -6,11 +6,11 @@ use Rattle.vp_model.specs.Catalogue.{Catalogue}
 use Rattle.vp_catalog.specs.Document.{Answered, IsOnly}
 use Rattle.vp_outside.specs.Input.{SourceState}
 use Rattle.vp_serving.specs.Serving.{Outside}
-use Rattle.vp_commands.specs.NodeEnds.{IsCalm, DecidedByLog}
+use Rattle.vp_top.specs.NodeEnds.{IsCalm, DecidedByLog}
 use Rattle.vp_words.specs.Commands.{command_of}
 use Rattle.vp_top.specs.Complete.{Fits, IsGiven}
 use Rattle.vp_top.specs.Ends.{EndsAsNode, IsPrinted}
-use Rattle.vp_top.proofs.Answering.{answer_is, node_bytes, printed, same_command}
+use Rattle.vp_top.proofs.Answering.{answer_is, no_gateway, node_bytes, printed, same_command}
 use Rattle.vp_top.proofs.Completing.{at_port, same_catalogue}
 use Rattle.vp_status.specs.declared.status.Status.{Status}
 use Rattle.vp_status.specs.declared.status.Status.TheVariants as status
@@ -45,8 +45,11 @@ pub returns : goal.returns
 returns g c words site port turns log bytes catalogue w fits answered there source source' link link' sink sink' disk disk' end (inl text) given calm =
     let o = outside link link' sink sink' (g.D.Disk.state disk) (g.D.Disk.state disk') in
     text_ends words site port turns log bytes catalogue w answered there source source' o given calm fits end (printed words source source' o end text (λ reads. given.no_source_fault) given.no_sink_fault)
-returns g c words site port turns log bytes catalogue w fits answered there source source' link link' sink sink' disk disk' end (inr (inl node)) given calm =
+returns g c words site port turns log bytes catalogue w fits answered there source source' link link' sink sink' disk disk' end (inr (inl (inl node))) given calm =
     let o = outside link link' sink sink' (g.D.Disk.state disk) (g.D.Disk.state disk') in
     node_ends words site port turns log bytes catalogue w answered there source source' o given calm end node
-returns g c words site port turns log bytes catalogue w fits answered there source source' link link' sink sink' disk disk' end (inr (inr audit)) given calm =
+returns g c words site port turns log bytes catalogue w fits answered there source source' link link' sink sink' disk disk' end (inr (inl (inr audit))) given calm =
     absurd (let bad : commands.Audit audit.logs ≡ commands.Node site log turns = same_command words (commands.Node site log turns) (commands.Audit audit.logs) w audit.audit.words_are in cc)
+returns g c words site port turns log bytes catalogue w fits answered there source source' link link' sink sink' disk disk' end (inr (inr gateway)) given calm =
+    let o = outside link link' sink sink' (g.D.Disk.state disk) (g.D.Disk.state disk') in
+    absurd (no_gateway words source source' o (commands.Node site log turns) w (λ is. is) end gateway)

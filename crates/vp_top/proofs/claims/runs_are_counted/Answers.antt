@@ -5,4 +5,4 @@ use Rattle.vp_top.proofs.claims.runs_are_counted.Goals as goal
 
 pub returns : goal.returns
 returns g c words seed count w within source source' link link' sink sink' disk disk' end e calm =
-    unread_told words source source' _ (commands.Soak seed count) w (λ is. is) calm _ (λ bytes end text a. soaked_within seed count within end text a) (λ is. is) end e
+    unread_told words source source' _ (commands.Soak seed count) w (λ is. is) calm _ (λ bytes end text a. soaked_within seed count within end text a) (λ is. is) (λ is. is) end e

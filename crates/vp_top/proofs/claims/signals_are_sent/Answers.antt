@@ -1,8 +1,8 @@
 use Rattle.std.proofs.Common.{◌≡◌, ℕ, List, []}
 use Rattle.vp_outside.specs.Links.{LinkState}
 use Rattle.vp_client.specs.Asked.{HasFailed}
-use Rattle.vp_commands.specs.Asked.{SignalGives}
-use Rattle.vp_commands.specs.Claims.{SignalsAreDone}
+use Rattle.vp_top.specs.Asked.{SignalGives}
+use Rattle.vp_top.specs.Claims.{SignalsAreDone}
 use Rattle.vp_top.proofs.Answering.{answer_told, no_disk}
 use Rattle.vp_top.proofs.Completing.{at_port}
 use Rattle.vp_status.specs.declared.status.Status.{Status}

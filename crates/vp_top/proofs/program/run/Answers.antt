@@ -13,7 +13,7 @@ returns-in-Ok-Print-clause-ends g c =
     inl (printed c.args.words.now _ _ _ _ _ _ c.in-Ok-Print.defined.status c.print.result c.in-Ok-Print.defined.text.items planned c.print.ensures)
 
 pub returns-in-Ok-Print-clause-text : goal.returns-in-Ok-Print-clause-text
-returns-in-Ok-Print-clause-text g c no_node =
+returns-in-Ok-Print-clause-text g c no_disk no_gateway =
     let planned = rw c.in-Ok-Print.field-0-is at c.in-Ok-Print.ensures.plans in
     printed c.args.words.now _ _ _ _ _ _ c.in-Ok-Print.defined.status c.print.result c.in-Ok-Print.defined.text.items planned c.print.ensures
 
@@ -22,7 +22,7 @@ returns-in-Ok-Serve-clause-ends g c =
     let planned = rw c.in-Ok-Serve.field-0-is at c.in-Ok-Serve.ensures.plans in
     let told = c.serve_log.ensures in
     let same = planned.1 in
-    inr (inl (record {
+    inr (inl (inl (record {
       catalogue = c.in-Ok-Serve.catalog;
       site = c.in-Ok-Serve.site;
       log = c.in-Ok-Serve.log;
@@ -31,7 +31,7 @@ returns-in-Ok-Serve-clause-ends g c =
       ends = rw same at told.ends;
       cause = rw same at told.cause;
       decided = rw same at told.decided;
-    }))
+    })))
 
 pub returns-in-Ok-clause-disk_uncalled : goal.returns-in-Ok-clause-disk_uncalled
 returns-in-Ok-clause-disk_uncalled g c uncalled =
@@ -44,3 +44,16 @@ returns-in-Ok-clause-disk_uncalled g c uncalled =
       kept = c.in-Ok.ensures.kept;
       uncalled = planned.1;
     })))
+
+pub returns-in-Ok-Answer-clause-ends : goal.returns-in-Ok-Answer-clause-ends
+returns-in-Ok-Answer-clause-ends g c =
+    let planned = rw c.in-Ok-Answer.field-0-is at c.in-Ok-Answer.ensures.plans in
+    let source = planned.1 in
+    let link = planned.2 in
+    inr (inr (record {
+      own = c.in-Ok-Answer.gateway.port;
+      turns = c.in-Ok-Answer.gateway.turns;
+      site = c.in-Ok-Answer.gateway.site;
+      words_are = planned.0;
+      ends = rw (source, link) at c.serve_session.ensures.ends;
+    }))

@@ -2,7 +2,7 @@ use Rattle.std.proofs.Common.{◌≤◌, ◌<◌, ◌-◌, ℕ, length, slice_in
 use Rattle.vp_transactions.specs.Order.{numbers}
 use Rattle.vp_transactions.proofs.live.place_for.Given as goal
 
--- those before `low` are lower, and no one from `high` on is
+-- those before `low` have lower numbers, and those from `high` on have not
 abbrev pub invariant-loop-low : goal.invariant-loop-low
 invariant-loop-low l =
     (l.low ≤ l.high) × (l.high ≤ length (numbers l.live))

@@ -2,7 +2,7 @@ use Rattle.std.proofs.Common.{◌≡◌, ◌∙◌, List, ap, ap₂, codes}
 use Rattle.std.proofs.lemmas.Result.{IfOk-weaker}
 use Rattle.clap.specs.Words.{App, Text}
 use Rattle.vp_words.specs.Parsed.{operand_app, with_command}
-use Rattle.vp_words.proofs.Parsing.{alone_ids, client_ids, draws_ids, node_ids, signal_ids}
+use Rattle.vp_words.proofs.Parsing.{alone_ids, client_ids, draws_ids, gateway_ids, node_ids, signal_ids}
 use Rattle.vp_words.proofs.words.program.Goals as goal
 
 onto : (name : Text) (ids : List Text) (a b : App) → a ≡ b → with_command a (operand_app name ids) ≡ with_command b (operand_app name ids)
@@ -20,4 +20,5 @@ returns c =
     let generate = c.in_ok-program-8.ensures ∙ onto (codes "generate") draws_ids _ _ stop in
     let soak = c.in_ok-program-9.ensures ∙ onto (codes "soak") draws_ids _ _ generate in
     let logs = c.in_ok-program-10.ensures ∙ onto (codes "logs") alone_ids _ _ soak in
-    IfOk-weaker c.subcommand.result _ _ (λ r h. h.shape c.in_ok-auditing.ensures.local ∙ ap₂ with_command logs c.in_ok-auditing.ensures.app) c.subcommand.ensures
+    let audit = c.in_ok-program-11.ensures.shape c.in_ok-auditing.ensures.local ∙ ap₂ with_command logs c.in_ok-auditing.ensures.app in
+    IfOk-weaker c.with_command-11.result _ _ (λ r h. h ∙ onto (codes "gateway") gateway_ids _ _ audit) c.with_command-11.ensures

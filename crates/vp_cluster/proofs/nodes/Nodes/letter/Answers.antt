@@ -2,14 +2,11 @@ use Rattle.std.proofs.Common.{refl}
 use Rattle.vp_cluster.proofs.Calls.{call_in}
 use Rattle.vp_cluster.proofs.nodes.Nodes.letter.Goals as goal
 
--- src/nodes.rt:73:43
 pub to_site-requires : goal.to_site-requires
 to_site-requires c = λ id s. (refl, s, call_in c.args.event.now c.in-Call.site c.in-Call.call c.in_ok-copy_of-in-Call.field-0 c.requires c.in-Call.is c.in_ok-copy_of-in-Call.ensures)
 
--- src/nodes.rt:78:37
 pub to_site-requires-in-Tick : goal.to_site-requires-in-Tick
 to_site-requires-in-Tick c = λ id s. (refl, s)
 
--- src/nodes.rt:79:38
 pub to_site-requires-in-Probe : goal.to_site-requires-in-Probe
 to_site-requires-in-Probe c = λ id s. (refl, s)

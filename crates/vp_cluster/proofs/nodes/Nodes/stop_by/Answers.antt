@@ -1,5 +1,5 @@
 use Rattle.std.proofs.Common.{refl}
-use Rattle.vp_hosts.proofs.Changing.{answered_so}
+use Rattle.vp_cluster.proofs.Changing.{answered_so}
 use Rattle.vp_cluster.proofs.Coming.{letter_stops}
 use Rattle.vp_cluster.proofs.nodes.Nodes.stop_by.Goals as goal
 

@@ -1,8 +1,8 @@
 use Rattle.std.proofs.Common.{◌≡◌, sym, subst}
-use Rattle.vp_places.specs.Asked.{started, IfStarted}
-use Rattle.vp_places.proofs.Started.{if_started_weaker}
-use Rattle.vp_hosts.specs.Hosts.{Restarts}
-use Rattle.vp_hosts.specs.Ports.{HasHost, ChangesOf}
+use Rattle.vp_world.specs.Asked.{started, IfStarted}
+use Rattle.vp_world.proofs.Started.{if_started_weaker}
+use Rattle.vp_cluster.specs.Hosts.{Restarts}
+use Rattle.vp_cluster.specs.Ports.{HasHost, ChangesOf}
 use Rattle.vp_cluster.specs.Nodes.{NodesValue}
 use Rattle.vp_cluster.proofs.Starting.{has_host, starts_so}
 use Rattle.vp_cluster.proofs.nodes.NodesStepper.restart.Goals as goal

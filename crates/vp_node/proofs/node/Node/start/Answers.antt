@@ -13,7 +13,7 @@ use Rattle.vp_runs.specs.Keeping.{durable_in}
 use Rattle.vp_node.specs.Nodes.{MayStart}
 use Rattle.vp_node.proofs.Kept.{leaves_as}
 use Rattle.vp_node.proofs.Revived.{may_start_alike, starts_then, leaves_start_then, starts_shaped, starts_life, stands_begun, keeps_start}
-use Rattle.vp_turns.proofs.Taken.{is_catalogue}
+use Rattle.vp_node.proofs.Taken.{is_catalogue}
 use Rattle.vp_node.proofs.node.Node.start.Goals as goal
 
 -- ---- no log was recovered

@@ -1,13 +1,10 @@
-use Rattle.std.proofs.Common.{◌∙◌, ap}
 use Rattle.vp_model.specs.Types.log_record
-use Rattle.vp_model.specs.Words.{keys}
-use Rattle.vp_model.specs.Durable.{DurableState}
 use Rattle.vp_records.proofs.Held.{held_by, applied_keys, restored_keys}
 use Rattle.vp_records.proofs.durable.Durable.apply.Goals as goal
 
 pub returns-in-Outcome-clause-held : goal.returns-in-Outcome-clause-held
 returns-in-Outcome-clause-held c =
-    ap (λ (d : DurableState). keys d.copies) c.end_doubt.ensures ∙ applied_keys (log_record.Outcome c.in-Outcome.txn c.in-Outcome.commit) c.args.self.now
+    held_by _ _ _ c.end_doubt.result (applied_keys (log_record.Outcome c.in-Outcome.txn c.in-Outcome.commit) c.args.self.now) c.end_doubt.ensures.ok c.end_doubt.ensures.err
 
 pub returns-in-Commit-clause-held : goal.returns-in-Commit-clause-held
 returns-in-Commit-clause-held c =
@@ -15,7 +12,7 @@ returns-in-Commit-clause-held c =
 
 pub returns-in-Copy-clause-held : goal.returns-in-Copy-clause-held
 returns-in-Copy-clause-held c =
-    ap (λ (d : DurableState). keys d.copies) c.set_copy.ensures ∙ applied_keys (log_record.Copy c.in-Copy.rec c.in-Copy.stored) c.args.self.now
+    held_by _ _ _ c.set_copy.result (applied_keys (log_record.Copy c.in-Copy.rec c.in-Copy.stored) c.args.self.now) c.set_copy.ensures.ok c.set_copy.ensures.err
 
 pub returns-in-Checkpoint-clause-held : goal.returns-in-Checkpoint-clause-held
 returns-in-Checkpoint-clause-held c =

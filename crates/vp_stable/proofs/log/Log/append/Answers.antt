@@ -19,7 +19,7 @@ returns-in_err-piece-clause-any_moment g c honest =
     let may = MayGainAt c.args.batch.now c.args.self.now in
     leaves_torn c.args.self.now old old (g.met.D.Disk.is_disk c.args.disk.now) may (may_stay c.args.batch.now c.args.self.now) honest c.requires.kept (tears_none old may)
 
--- a batch that isn't put there
+-- a batch that isn't written
 pub returns-in_err-put-clause-fault : goal.returns-in_err-put-clause-fault
 returns-in_err-put-clause-fault g c =
     let from : Standing = record { half = c.self.inside.half; generation = c.self.inside.generation; gate = c.self.inside.gate; second = c.self.inside.second } in

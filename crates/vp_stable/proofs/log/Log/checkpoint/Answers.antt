@@ -52,7 +52,7 @@ returns-in_err-clear-clause-any_moment g c honest =
     let first = rw (other_is c.self.inside.half c.self.invariant.0) at c.clear.ensures.any_moment in
     rw (← c.self.view_is) (clear_leaves c.args.durable.now from c.requires.form.copies.2 (g.D.Disk.state c.args.disk.now) (g.met.D.Disk.is_disk c.args.disk.now) honest kept (g.D.Disk.state c.clear.new.disk) first)
 
--- a checkpoint that isn't put there
+-- a checkpoint that isn't written
 pub returns-in_err-put-clause-fault : goal.returns-in_err-put-clause-fault
 returns-in_err-put-clause-fault g c =
     let from : Standing = record { half = c.self.inside.half; generation = c.self.inside.generation; gate = c.self.inside.gate; second = c.self.inside.second } in

@@ -17,7 +17,7 @@ pub returns-in_err-current-clause-any_moment : goal.returns-in_err-current-claus
 returns-in_err-current-clause-any_moment g c honest =
     quiet_leaves _ _ (g.met.D.Disk.is_disk c.args.disk.now) (quiet_join (quiet_one c.sync.ensures.leaves) c.read_current.ensures.quiet)
 
--- bytes that are no log
+-- bytes that are not a log
 pub returns-in_err-scan-clause-any_moment : goal.returns-in_err-scan-clause-any_moment
 returns-in_err-scan-clause-any_moment g c honest =
     quiet_leaves _ _ (g.met.D.Disk.is_disk c.args.disk.now) (quiet_join (quiet_one c.sync.ensures.leaves) c.read_current.ensures.quiet)

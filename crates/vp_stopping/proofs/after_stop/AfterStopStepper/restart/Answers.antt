@@ -1,5 +1,5 @@
 use Rattle.std.proofs.Common.{◌∙◌, refl, sym}
-use Rattle.vp_places.proofs.Started.{if_started_weaker}
+use Rattle.vp_world.proofs.Started.{if_started_weaker}
 use Rattle.vp_stopping.proofs.Waiting.{is_that, is_other}
 use Rattle.vp_stopping.proofs.after_stop.AfterStopStepper.restart.Goals as goal
 

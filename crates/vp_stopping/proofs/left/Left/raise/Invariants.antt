@@ -1,6 +1,6 @@
 use Rattle.std.proofs.Common.{◌≡◌, ◌++◌, map}
 use Rattle.std.specs.List.{AllByRecursion}
-use Rattle.vp_stops.specs.Stopped.{raised}
+use Rattle.vp_runs.specs.Stopped.{raised}
 use Rattle.vp_stopping.specs.Left.{CanRise}
 use Rattle.vp_stopping.proofs.left.Left.raise.Given as goal
 

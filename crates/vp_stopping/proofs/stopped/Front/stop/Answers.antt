@@ -2,7 +2,7 @@ use Rattle.std.proofs.Common.{◌≡◌, ◌∙◌, ap, sym, subst, Option, Some
 use Rattle.vp_model.specs.Site.{SiteState}
 use Rattle.vp_model.specs.World.{site_of}
 use Rattle.vp_world.specs.Steps.{taker}
-use Rattle.vp_hosts.specs.declared.host.StoppedLog.{StoppedLog}
+use Rattle.vp_cluster.specs.declared.host.StoppedLog.{StoppedLog}
 use Rattle.vp_stopping.specs.Singles.{StopsOf}
 use Rattle.vp_stopping.proofs.stopped.Front.stop.Goals as goal
 

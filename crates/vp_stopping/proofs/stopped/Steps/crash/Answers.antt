@@ -1,4 +1,4 @@
-use Rattle.vp_hosts.proofs.Changing.{answered_so}
+use Rattle.vp_cluster.proofs.Changing.{answered_so}
 use Rattle.vp_node.proofs.Faults.{gave_err}
 use Rattle.vp_stopping.proofs.Crashing.{kept_done, kept_ends, kept_ends_first, lost_done, lost_ends}
 use Rattle.vp_stopping.proofs.stopped.Steps.crash.Goals as goal

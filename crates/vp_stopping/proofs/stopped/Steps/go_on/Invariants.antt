@@ -1,5 +1,5 @@
 use Rattle.vp_model.specs.World.{run_from}
-use Rattle.vp_stops.specs.Stopped.{run_in}
+use Rattle.vp_runs.specs.Stopped.{run_in}
 use Rattle.vp_stopping.specs.AfterStop.{IsAfterStop}
 use Rattle.vp_stopping.proofs.Going.{Going, most_left}
 use Rattle.vp_stopping.proofs.stopped.Steps.go_on.Given as goal

@@ -1,6 +1,6 @@
 use Rattle.std.proofs.Common.{◌+◌, ◌-◌, ◌≤◌}
 use Rattle.std.specs.List.{range_with_len}
-use Rattle.vp_stops.specs.Stopped.{pass_over}
+use Rattle.vp_runs.specs.Stopped.{pass_over}
 use Rattle.vp_stopping.specs.Singles.{HaveDone}
 use Rattle.vp_stopping.proofs.stopped.Steps.lose.Given as goal
 

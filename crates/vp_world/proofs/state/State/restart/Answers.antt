@@ -3,7 +3,7 @@ use Rattle.std.specs.Option.{option_map_or}
 use Rattle.vp_model.specs.Types.{Shown}
 use Rattle.vp_model.specs.Types.shown
 use Rattle.vp_model.specs.World.{WorldState, shows, place_of, restart}
-use Rattle.vp_places.specs.Places.{restart_line}
+use Rattle.vp_world.specs.Places.{restart_line}
 use Rattle.vp_world.specs.Limits.{with_line}
 use Rattle.vp_world.specs.contracts.state.State.{the_view}
 use Rattle.vp_world.proofs.Moves.{restarts_so, restart_sends_none, both_ok}

@@ -1,0 +1,31 @@
+use Rattle.std.proofs.Common.{◌≡◌, ◌<◌, ◌+◌, sym, ◌∙◌, arith, length, take, false}
+use Rattle.vp_base.specs.Reading.{starts_any}
+use Rattle.vp_base.proofs.Among.{place_turn, place_starts, place_found, place_lost}
+use Rattle.vp_base.proofs.places.parse_place.Goals as goal
+use Rattle.vp_base.proofs.places.parse_place.Goals.{then-loop-count-test+else-some_starts, else-loop-count-test}
+
+pub loop-count-init : goal.loop-count-init
+loop-count-init c = (omega arith, place_starts c.args.names.now c.rest-bytes.result.now)
+
+pub loop-count-preserved : goal.loop-count-preserved
+loop-count-preserved c = (omega arith, sym (place_turn c.args.names.now c.rest-bytes.result.now c.loop-count.count c.loop-count-test.true (sym c.if-some_starts.ensures)) ∙ c.loop-count.invariant.1)
+
+pub returns-in-Some : goal.returns-in-Some
+returns-in-Some c =
+    let bytes = c.rest-bytes.result.now in
+    let n = c.loop-count.count in
+    let stops : n < length bytes → starts_any c.args.names.now (take (n + 1) bytes) ≡ false = elim c.loop-count-test.branch [
+      | then-loop-count-test+else-some_starts w ↦ λ _. sym w.if-some_starts.ensures
+      | else-loop-count-test w ↦ λ a. absurd (omega arith)
+    ] in
+    rw (c.advance.ensures, ← c.rest-bytes.ensures) (sym c.loop-count.invariant.1 ∙ place_found c.args.names.now bytes n c.in-Some.place stops c.in-Some.ensures)
+
+pub returns-in-None : goal.returns-in-None
+returns-in-None c =
+    let bytes = c.rest-bytes.result.now in
+    let n = c.loop-count.count in
+    let stops : n < length bytes → starts_any c.args.names.now (take (n + 1) bytes) ≡ false = elim c.loop-count-test.branch [
+      | then-loop-count-test+else-some_starts w ↦ λ _. sym w.if-some_starts.ensures
+      | else-loop-count-test w ↦ λ a. absurd (omega arith)
+    ] in
+    rw (← c.rest-bytes.ensures) (sym c.loop-count.invariant.1 ∙ place_lost c.args.names.now bytes n stops c.in-None.ensures)

@@ -1,3 +1,0 @@
-mod Attached
-mod Audits
-mod Calm

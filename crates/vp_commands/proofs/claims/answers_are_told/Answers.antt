@@ -1,5 +1,0 @@
-use Rattle.vp_commands.proofs.Calm as calm
-use Rattle.vp_commands.proofs.claims.answers_are_told.Goals as goal
-
-pub returns : goal.returns
-returns c = calm.answers_are_told c.answers_are_given.ensures

@@ -1,4 +1,0 @@
-pub mod Asked
-pub mod Audits
-pub mod Claims
-pub mod NodeEnds

@@ -1,0 +1,48 @@
+-- What an answer of another site does to the call that waits for it.
+use Rattle.std.specs.Prelude.{ℕ, ◌==◌, Bool, true, false, if◌then◌else◌, List, Option, Some, None, option_map}
+use Rattle.vp_model.specs.Types.{ViewId, Call, Message, Obstacle, Pending, Live, Ending}
+use Rattle.vp_base.specs.declared.site.Ending.TheVariants.{LockHeld, ViewChanged}
+use Rattle.vp_model.specs.Types.call
+use Rattle.vp_model.specs.Types.message
+use Rattle.vp_model.specs.Types.obstacle
+use Rattle.vp_model.specs.Words.{for_some}
+use Rattle.vp_model.specs.Catalogue.{Catalogue, find_record}
+use Rattle.vp_model.specs.Site.{Lent}
+use Rattle.vp_model.specs.Transactions.{close}
+use Rattle.vp_model.specs.Answers.{read_answered, write_answered, voted}
+
+-- the record that is read by a call with this number
+abbrev pub wanted_read : Catalogue → ℕ → Pending → Call → Option ℕ
+wanted_read catalogue number p (call.Read txn n name) = if p.number == number then find_record catalogue name else None
+wanted_read catalogue number p _ = None
+
+-- the record that is written, with its value
+abbrev pub wanted_write : Catalogue → ℕ → Pending → Call → Option (ℕ × List ℕ)
+wanted_write catalogue number p (call.Write txn n name value) = if p.number == number then option_map (λ rec. (rec, value)) (find_record catalogue name) else None
+wanted_write catalogue number p _ = None
+
+abbrev pub is_commit : Call → Bool
+is_commit (call.Commit txn number) = true
+is_commit _ = false
+
+-- how a transaction of this view ends where a site has refused its call
+abbrev pub refused_end : ℕ → Obstacle → ViewId → Call → Option Ending
+refused_end from (obstacle.Held holder) view (call.Read txn number name) = Some (LockHeld name from holder)
+refused_end from (obstacle.Held holder) view (call.Write txn number name value) = Some (LockHeld name from holder)
+refused_end from (obstacle.Held holder) view _ = None
+refused_end from (obstacle.OtherView now) view words = Some (ViewChanged from view now)
+
+abbrev pub refusal : ℕ → ℕ → Obstacle → ViewId → Pending → Option Ending
+refusal from number why view p = if p.number == number then refused_end from why view p.call else None
+
+-- what a refusal does to the transaction whose call waits
+abbrev pub refusal_at : ℕ → ℕ → ℕ → Obstacle → Live → Pending → Lent → Lent
+refusal_at id from number why t p l = for_some (refusal from number why t.view p) (close id t) l
+
+-- what an answer, a refusal or a vote does to the transaction whose call waits for it
+abbrev pub answered : Catalogue → ℕ → ℕ → Message → Live → Pending → Lent → Lent
+answered catalogue id from (message.ReadAnswer txn number value) t p l = read_answered catalogue from number value t p p.call l
+answered catalogue id from (message.WriteAnswer txn number) t p l = write_answered catalogue from number t p p.call l
+answered catalogue id from (message.Refuse txn number why) t p l = refusal_at id from number why t p l
+answered catalogue id from (message.Vote txn) t p l = voted catalogue id from t p p.call l
+answered catalogue id from _ t p l = l

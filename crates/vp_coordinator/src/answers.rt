@@ -1,0 +1,324 @@
+//! What the answers of other sites do to a call that waits for them, and what the inquiries of other sites do.
+
+ghost use Rattle.std.specs.Prelude.{◌≡◌, [], OnOk, IfOk, option_copied, true, false};
+ghost use Rattle.vp_model.specs.Words.{is_empty, for_some};
+ghost use Rattle.vp_model.specs.Calls.{answer_read, answer_write};
+ghost use Rattle.vp_model.specs.Answers.{count_in, read_answered, write_answered, voted, on_ack, on_inquire, on_answer};
+ghost use Rattle.vp_model.specs.Transactions.{decide};
+ghost use Rattle.vp_transactions.specs.Waiting.{waits, waiting_call};
+ghost use Rattle.vp_coordinator.specs.InPlace.{in_place};
+ghost use Rattle.vp_coordinator.specs.Answered.{wanted_read, wanted_write, is_commit, refused_end, refusal, refusal_at, answered};
+
+use crate::lent::Lent;
+use vp_base::{
+    Call, CallNo, CopyOf, Ending, LogRecord, Message, NoMemory, Obstacle, Pending, RecId, SiteId,
+    TxnId, Value, ViewId,
+};
+use vp_catalog::{Catalog, others_of};
+use vp_transactions::Handled;
+
+/// What the row of an answer reads: the sender, the site that received it, and the catalogue.
+#[derive(Clone, Copy)]
+pub struct Incoming<'a> {
+    pub catalog: &'a Catalog,
+    pub from: SiteId,
+    pub id: SiteId,
+}
+
+/// The record that the pending call reads, where it is a read with this number.
+fn wanted_read(catalog: &Catalog, number: CallNo, p: &Pending) -> Option<RecId>
+    ensures { result ≡ wanted_read catalog.now number p.now p.now.call }
+{
+    match &p.call {
+        Call::Read { name, .. } if p.number == number => catalog.find(name),
+        _ => None,
+    }
+}
+
+/// The record that the pending call writes and its value, where it is a write with this number.
+fn wanted_write(
+    catalog: &Catalog,
+    number: CallNo,
+    p: &Pending,
+) -> Result<Option<(RecId, Value)>, NoMemory>
+    ensures { IfOk result (λ wanted. wanted ≡ wanted_write catalog.now number p.now p.now.call) }
+{
+    match &p.call {
+        Call::Write { name, value, .. } if p.number == number => match catalog.find(name) {
+            None => Ok(None),
+            Some(rec) => Ok(Some((rec, value.copy_of()?))),
+        },
+        _ => Ok(None),
+    }
+}
+
+fn is_commit(call: &Call) -> bool
+    ensures { result ≡ is_commit call.now }
+{
+    matches!(call, Call::Commit { .. })
+}
+
+/// How a transaction of this view ends where a site has refused its call.
+fn refused_end(
+    from: SiteId,
+    why: &Obstacle,
+    view: ViewId,
+    call: &Call,
+) -> Result<Option<Ending>, NoMemory>
+    ensures { IfOk result (λ end. end ≡ refused_end from why.now view call.now) }
+{
+    match why {
+        Obstacle::OtherView { now } => Ok(Some(Ending::ViewChanged {
+            at: from,
+            held: view,
+            now: *now,
+        })),
+        Obstacle::Held { owner } => match call {
+            Call::Read { name, .. } | Call::Write { name, .. } => Ok(Some(Ending::LockHeld {
+                name: name.copy_of()?,
+                at: from,
+                owner: *owner,
+            })),
+            _ => Ok(None),
+        },
+    }
+}
+
+fn refusal(
+    from: SiteId,
+    number: CallNo,
+    why: &Obstacle,
+    handled: &Handled,
+) -> Result<Option<Ending>, NoMemory>
+    ensures { IfOk result (λ end. end ≡ refusal from number why.now handled.now.live.view handled.now.pending) }
+{
+    if handled.pending.number == number {
+        refused_end(from, why, handled.live.view, &handled.pending.call)
+    } else {
+        Ok(None)
+    }
+}
+
+/// Counts the site's answer to a read; where no other is missing, the read is answered.
+#[tactic(auto, using(crate::proofs::Rows::wait_in_place))]
+fn count_read(
+    lent: &mut Lent,
+    from: SiteId,
+    handled: &mut Handled,
+    rec: RecId,
+    value: Value,
+) -> Result<(), NoMemory>
+    ensures { OnOk result (lent.new ≡
+        count_in from handled.old.live handled.old.pending (answer_read handled.old.live handled.old.pending rec value)
+        (in_place handled.old.live lent.old)) }
+{
+    let missing = others_of(&handled.pending.missing, from)?;
+    if missing.as_slice().is_empty() {
+        lent.answer_read(handled, rec, value)
+    } else {
+        lent.wait_for(handled, missing)
+    }
+}
+
+#[tactic(auto, using(crate::proofs::Answered::questions))]
+fn on_read_answer(
+    lent: &mut Lent,
+    came: &Incoming<'_>,
+    handled: &mut Handled,
+    number: CallNo,
+    value: &Value,
+) -> Result<(), NoMemory>
+    requires { waits handled.old.live ≡ true }
+    ensures { OnOk result (lent.new ≡
+        read_answered came.now.catalog.now came.now.from number value.now handled.old.live handled.old.pending handled.old.pending.call
+        (in_place handled.old.live lent.old)) }
+{
+    match wanted_read(came.catalog, number, &handled.pending) {
+        None => {
+            lent.put_back(handled);
+            Ok(())
+        }
+        Some(rec) => {
+            let value = value.copy_of()?;
+            count_read(lent, came.from, handled, rec, value)
+        }
+    }
+}
+
+/// Counts the site's lock for a write; where no other is missing, the write is answered.
+#[tactic(auto, using(crate::proofs::Rows::wait_in_place))]
+fn count_write(
+    lent: &mut Lent,
+    from: SiteId,
+    handled: &mut Handled,
+    rec: RecId,
+    value: Value,
+) -> Result<(), NoMemory>
+    ensures { OnOk result (lent.new ≡
+        count_in from handled.old.live handled.old.pending (answer_write handled.old.live handled.old.pending rec value)
+        (in_place handled.old.live lent.old)) }
+{
+    let missing = others_of(&handled.pending.missing, from)?;
+    if missing.as_slice().is_empty() {
+        lent.answer_write(handled, rec, &value)
+    } else {
+        lent.wait_for(handled, missing)
+    }
+}
+
+#[tactic(auto, using(crate::proofs::Answered::questions))]
+fn on_write_answer(
+    lent: &mut Lent,
+    came: &Incoming<'_>,
+    handled: &mut Handled,
+    number: CallNo,
+) -> Result<(), NoMemory>
+    requires { waits handled.old.live ≡ true }
+    ensures { OnOk result (lent.new ≡
+        write_answered came.now.catalog.now came.now.from number handled.old.live handled.old.pending handled.old.pending.call
+        (in_place handled.old.live lent.old)) }
+{
+    match wanted_write(came.catalog, number, &handled.pending)? {
+        None => {
+            lent.put_back(handled);
+            Ok(())
+        }
+        Some((rec, value)) => count_write(lent, came.from, handled, rec, value),
+    }
+}
+
+#[tactic(auto, using(crate::proofs::Rows::close_own))]
+fn on_refuse(
+    lent: &mut Lent,
+    came: &Incoming<'_>,
+    handled: &mut Handled,
+    number: CallNo,
+    why: &Obstacle,
+) -> Result<(), NoMemory>
+    requires { waits handled.old.live ≡ true }
+    ensures { OnOk result (lent.new ≡ refusal_at came.now.id came.now.from number why.now handled.old.live handled.old.pending (in_place handled.old.live lent.old)) }
+{
+    match refusal(came.from, number, why, handled)? {
+        None => {
+            lent.put_back(handled);
+            Ok(())
+        }
+        Some(end) => lent.close(came.id, &mut handled.live, end),
+    }
+}
+
+/// Counts the site's yes vote; where no other is missing, the transaction commits. (Two-phase commit: Bernstein, Hadzilacos and
+/// Goodman 1987, chapter 7.)
+#[tactic(auto, using(crate::proofs::Rows::wait_in_place))]
+fn count_vote(lent: &mut Lent, came: &Incoming<'_>, handled: &mut Handled) -> Result<(), NoMemory>
+    ensures { OnOk result (lent.new ≡
+        count_in came.now.from handled.old.live handled.old.pending (decide came.now.catalog.now came.now.id handled.old.live)
+        (in_place handled.old.live lent.old)) }
+{
+    let missing_votes = others_of(&handled.pending.missing, came.from)?;
+    if missing_votes.as_slice().is_empty() {
+        lent.decide(came.catalog, came.id, &mut handled.live)
+    } else {
+        lent.wait_for(handled, missing_votes)
+    }
+}
+
+#[tactic(auto, using(crate::proofs::Answered::questions))]
+fn on_vote(lent: &mut Lent, came: &Incoming<'_>, handled: &mut Handled) -> Result<(), NoMemory>
+    requires { waits handled.old.live ≡ true }
+    ensures { OnOk result (lent.new ≡
+        voted came.now.catalog.now came.now.id came.now.from handled.old.live handled.old.pending handled.old.pending.call
+        (in_place handled.old.live lent.old)) }
+{
+    if is_commit(&handled.pending.call) {
+        return count_vote(lent, came, handled);
+    }
+    lent.put_back(handled);
+    Ok(())
+}
+
+#[tactic(auto, unfolding(vp_model::specs::Answers::on_ack))]
+fn on_ack(lent: &mut Lent, from: SiteId, txn: &TxnId) -> Result<(), NoMemory>
+    ensures { OnOk result (lent.new ≡ on_ack from txn.now lent.old) }
+{
+    if !lent.coordinator.waits_for(txn, from) {
+        return Ok(());
+    }
+    lent.coordinator.acknowledge(txn, from);
+    lent.effects.force(LogRecord::Acked {
+        txn: *txn,
+        site: from,
+    })
+}
+
+/// Answers an inquiry. A coordinator without a decision answers abort, which is presumed abort; it is silent while the transaction
+/// is live.
+#[tactic(auto, unfolding(vp_model::specs::Answers::on_inquire))]
+fn on_inquire(lent: &mut Lent, id: SiteId, from: SiteId, txn: &TxnId) -> Result<(), NoMemory>
+    ensures { OnOk result (lent.new ≡ on_inquire id from txn.now lent.old) }
+{
+    if txn.site == id && !lent.coordinator.is_live(txn) {
+        let commit = lent.coordinator.is_decided(txn);
+        return lent
+            .effects
+            .send(id, from, Message::Outcome { txn: *txn, commit });
+    }
+    Ok(())
+}
+
+/// Does what an answer, a refusal or a vote does to the call that waits for it.
+fn answered(
+    lent: &mut Lent,
+    came: &Incoming<'_>,
+    handled: &mut Handled,
+    message: &Message,
+) -> Result<(), NoMemory>
+    requires { waits handled.old.live ≡ true }
+    ensures { OnOk result (lent.new ≡
+        answered came.now.catalog.now came.now.id came.now.from message.now handled.old.live handled.old.pending (in_place handled.old.live lent.old)) }
+{
+    match message {
+        Message::ReadAnswer { number, value, .. } => {
+            on_read_answer(lent, came, handled, *number, value.as_ref())
+        }
+        Message::WriteAnswer { number, .. } => on_write_answer(lent, came, handled, *number),
+        Message::Refuse { number, why, .. } => on_refuse(lent, came, handled, *number, why),
+        Message::Vote { .. } => on_vote(lent, came, handled),
+        _ => {
+            lent.put_back(handled);
+            Ok(())
+        }
+    }
+}
+
+/// Handles an answer, a refusal or a vote, where a call of the transaction waits for it.
+fn on_awaited(
+    lent: &mut Lent,
+    came: &Incoming<'_>,
+    txn: &TxnId,
+    message: &Message,
+) -> Result<(), NoMemory>
+    ensures { OnOk result (lent.new ≡
+        for_some (waiting_call txn.now came.now.from lent.old.live) (λ h. answered came.now.catalog.now came.now.id came.now.from message.now h.live h.pending) lent.old) }
+{
+    match lent.coordinator.take_waiting(txn, came.from)? {
+        None => Ok(()),
+        Some(mut handled) => answered(lent, came, &mut handled, message),
+    }
+}
+
+/// Does what a message does to the transactions that this site began.
+#[tactic(auto, unfolding(vp_model::specs::Answers::on_answer), using(crate::proofs::Answered::awaited))]
+pub fn on_answer(lent: &mut Lent, came: &Incoming<'_>, message: &Message) -> Result<(), NoMemory>
+    ensures { OnOk result (lent.new ≡ on_answer came.now.catalog.now came.now.id came.now.from message.now lent.old) }
+{
+    match message {
+        Message::ReadAnswer { txn, .. } => on_awaited(lent, came, txn, message),
+        Message::WriteAnswer { txn, .. } => on_awaited(lent, came, txn, message),
+        Message::Refuse { txn, .. } => on_awaited(lent, came, txn, message),
+        Message::Vote { txn } => on_awaited(lent, came, txn, message),
+        Message::Ack { txn } => on_ack(lent, came.from, txn),
+        Message::Inquire { txn } => on_inquire(lent, came.id, came.from, txn),
+        _ => Ok(()),
+    }
+}

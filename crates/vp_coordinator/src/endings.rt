@@ -1,0 +1,224 @@
+//! How a transaction goes on after an operation, and how it ends.
+
+ghost use Rattle.std.specs.Prelude.{◌≡◌, ◌++◌, ◌∷◌, [], OnOk, Some, None, true, false, if◌then◌else◌};
+ghost use Rattle.vp_base.specs.declared.message.Message.TheVariants as message;
+ghost use Rattle.vp_base.specs.declared.site.Ending.TheVariants as ending;
+ghost use Rattle.vp_model.specs.Words.{is_empty};
+ghost use Rattle.vp_model.specs.Site.{lent_reply, with_reply, with_commit, with_messages};
+ghost use Rattle.vp_model.specs.Transactions.{entry_of, last_writes, complete, wait_for, close, keep_writes, decided, decide};
+ghost use Rattle.vp_model.specs.Calls.{handling, answer_read, answer_write};
+ghost use Rattle.vp_transactions.specs.Waiting.{waits, standing_for};
+ghost use Rattle.vp_coordinator.specs.InPlace.{in_place};
+
+use crate::final_writes::{last_writes, writes_held, writing_parts};
+use crate::lent::Lent;
+use std::mem;
+use vp_base::{
+    Answer, Commit, CopyOf, Effects, Ending, Live, LogRecord, Name, NoMemory, Op, Ops, Owner,
+    RecId, SiteId, Sites, Value, Writes,
+};
+use vp_catalog::Catalog;
+use vp_transactions::{Handled, tell_outcome};
+
+impl Lent {
+    /// Puts the transaction back as it was, and leaves in `handled` what was in its place.
+    pub fn put_back(&mut self, handled: &mut Handled)
+        requires { waits handled.old.live ≡ true }
+        ensures row { self.new ≡ in_place handled.old.live self.old }
+        ensures left { handled.new ≡ record handled.old { live = standing_for handled.old.live self.old.live } }
+    {
+        self.coordinator.put_live(&mut handled.live)
+    }
+
+    /// Gives the call this answer, which is not kept.
+    pub fn refuse(&mut self, handled: &mut Handled, answer: Answer) -> Result<(), NoMemory>
+        requires { waits handled.old.live ≡ true }
+        ensures { OnOk result (self.new ≡ lent_reply answer handled.old.pending.port (in_place handled.old.live self.old)) }
+    {
+        let port = handled.pending.port;
+        self.put_back(handled);
+        self.effects.reply(port, answer)
+    }
+
+    /// Adds the operation to the transaction; gives its answer and keeps it.
+    #[tactic(auto, unfolding(vp_model::specs::Transactions::complete), using(crate::proofs::Rows::in_places))]
+    pub fn complete(
+        &mut self,
+        handled: &mut Handled,
+        operation: Op,
+        answer: Answer,
+    ) -> Result<(), NoMemory>
+        ensures { OnOk result (self.new ≡ complete handled.old.live handled.old.pending operation answer (in_place handled.old.live self.old)) }
+    {
+        reply_with(handled.pending.port, &answer, &mut self.effects)?;
+        add_answer(&mut handled.live, operation, answer)?;
+        self.put_back(handled);
+        Ok(())
+    }
+
+    /// Answers the read with this value.
+    pub fn answer_read(
+        &mut self,
+        handled: &mut Handled,
+        rec: RecId,
+        value: Value,
+    ) -> Result<(), NoMemory>
+        ensures { OnOk result (self.new ≡ answer_read handled.old.live handled.old.pending rec value (in_place handled.old.live self.old)) }
+    {
+        let answer = Answer::Value {
+            txn: handled.txn(),
+            number: handled.number(),
+            value: value.copy_of()?,
+        };
+        self.complete(handled, Op::Read { rec, value }, answer)
+    }
+
+    /// Answers the write.
+    pub fn answer_write(
+        &mut self,
+        handled: &mut Handled,
+        rec: RecId,
+        value: &Value,
+    ) -> Result<(), NoMemory>
+        ensures { OnOk result (self.new ≡ answer_write handled.old.live handled.old.pending rec value.now (in_place handled.old.live self.old)) }
+    {
+        let value = value.copy_of()?;
+        let answer = Answer::Written {
+            txn: handled.txn(),
+            number: handled.number(),
+        };
+        self.complete(handled, Op::Write { rec, value }, answer)
+    }
+
+    /// Lets the call wait for these sites.
+    pub fn wait_for(&mut self, handled: &mut Handled, sites: Sites) -> Result<(), NoMemory>
+        requires { is_empty sites ≡ false }
+        ensures { OnOk result (self.new ≡ wait_for handled.old.live handled.old.pending sites self.old) }
+    {
+        handled.pending.missing = sites;
+        handled.attach_call()?;
+        self.coordinator.put_live(&mut handled.live);
+        Ok(())
+    }
+
+    /// Aborts the transaction. Its answers are kept with its end.
+    #[tactic(auto, unfolding(vp_model::specs::Transactions::close, vp_model::specs::Transactions::finish))]
+    pub fn close(&mut self, id: SiteId, t: &mut Live, why: Ending) -> Result<(), NoMemory>
+        ensures row { OnOk result (self.new ≡ close id t.old why self.old) }
+        ensures left { OnOk result (t.new ≡ record t.old { answers = [] }) }
+    {
+        tell_outcome(id, &t.txn, false, t.parts.as_slice(), &mut self.effects)?;
+        self.here.locks.release(t.txn);
+        self.coordinator.finish(t, why, &mut self.effects)
+    }
+
+    /// Aborts the transaction, since another owner has a lock on the record of this name.
+    #[tactic(auto, using(crate::proofs::Rows::in_places))]
+    pub fn close_blocked(
+        &mut self,
+        id: SiteId,
+        handled: &mut Handled,
+        name: &Name,
+        holder: Owner,
+    ) -> Result<(), NoMemory>
+        ensures { OnOk result (self.new ≡ close id (handling handled.old.live handled.old.pending) (ending.LockHeld name.now id holder) (in_place handled.old.live self.old)) }
+    {
+        let why = Ending::LockHeld {
+            name: name.copy_of()?,
+            at: id,
+            owner: holder,
+        };
+        handled.attach_call()?;
+        self.close(id, &mut handled.live, why)
+    }
+
+    #[tactic(auto, unfolding(vp_model::specs::Transactions::keep_writes))]
+    fn keep_writes(
+        &mut self,
+        catalog: &Catalog,
+        id: SiteId,
+        t: &Live,
+        writes: &Writes,
+    ) -> Result<(), NoMemory>
+        requires { writes.now ≡ last_writes t.now.ops }
+        ensures { OnOk result (self.new ≡ keep_writes catalog.now id t.now self.old) }
+    {
+        let alloc = t.ops.allocator();
+        let own = writes_held(alloc, catalog, id, writes.as_slice())?;
+        self.here.copies.write(&t.view, own.as_slice())?;
+        let waiting = writing_parts(alloc, catalog, t, writes.as_slice())?;
+        self.coordinator.keep_decision(&t.txn, waiting.copy_of()?)?;
+        self.effects.force(LogRecord::Commit {
+            txn: t.txn,
+            view: t.view,
+            writes: own,
+            waiting,
+        })
+    }
+
+    /// Forces the decision to the log where the transaction wrote.
+    fn keep_written(&mut self, catalog: &Catalog, id: SiteId, t: &Live) -> Result<(), NoMemory>
+        ensures { OnOk result (self.new ≡
+            (if is_empty (last_writes t.now.ops) then self.old else keep_writes catalog.now id t.now self.old)) }
+    {
+        let writes = last_writes(t.ops.allocator(), t.ops.as_slice())?;
+        if writes.as_slice().is_empty() {
+            return Ok(());
+        }
+        self.keep_writes(catalog, id, t, &writes)
+    }
+
+    #[tactic(auto, unfolding(vp_model::specs::Transactions::decided, vp_model::specs::Transactions::finish))]
+    fn decided(&mut self, id: SiteId, t: &mut Live) -> Result<(), NoMemory>
+        ensures row { OnOk result (self.new ≡ decided id t.old self.old) }
+        ensures left { OnOk result (t.new ≡ record t.old { ops = []; answers = [] }) }
+    {
+        tell_commit(id, t, &mut self.effects)?;
+        self.here.locks.release(t.txn);
+        self.coordinator
+            .finish(t, Ending::Committed, &mut self.effects)
+    }
+
+    /// Commits the transaction: where it wrote, the decision is forced to the log before any message of it is sent. Its operations
+    /// go to the journal, and its answers are kept with its end. (Two-phase commit: Bernstein, Hadzilacos and Goodman 1987, chapter
+    /// 7.)
+    #[tactic(auto, unfolding(vp_model::specs::Transactions::decide))]
+    pub fn decide(&mut self, catalog: &Catalog, id: SiteId, t: &mut Live) -> Result<(), NoMemory>
+        ensures row { OnOk result (self.new ≡ decide catalog.now id t.old self.old) }
+        ensures left { OnOk result (t.new ≡ record t.old { ops = []; answers = [] }) }
+    {
+        self.keep_written(catalog, id, t)?;
+        self.decided(id, t)
+    }
+}
+
+/// Gives the call a copy of this answer.
+fn reply_with(port: u16, answer: &Answer, effects: &mut Effects) -> Result<(), NoMemory>
+    ensures { OnOk result (effects.new ≡ with_reply answer.now port effects.old) }
+{
+    effects.reply(port, answer.copy_of()?)
+}
+
+/// Adds the operation to the transaction, and keeps its answer.
+fn add_answer(t: &mut Live, operation: Op, answer: Answer) -> Result<(), NoMemory>
+    ensures { OnOk result (t.new ≡ record t.old { ops = t.old.ops ++ operation ∷ []; answers = t.old.answers ++ answer ∷ []; pending = None }) }
+{
+    t.pending = None;
+    t.ops.push(operation)?;
+    t.answers.push(answer)
+}
+
+/// Gives the transaction to the journal, with its operations, and sends its commit to its parts.
+fn tell_commit(id: SiteId, t: &mut Live, effects: &mut Effects) -> Result<(), NoMemory>
+    ensures live { OnOk result (t.new ≡ record t.old { ops = [] }) }
+    ensures effects { OnOk result (effects.new ≡ with_messages id (message.Outcome t.old.txn true) t.old.parts (with_commit (entry_of t.old) effects.old)) }
+{
+    let none = Ops::new(t.ops.allocator());
+    let ops = mem::replace(&mut t.ops, none);
+    effects.commit(Commit {
+        txn: t.txn,
+        view: t.view,
+        ops,
+    })?;
+    tell_outcome(id, &t.txn, true, t.parts.as_slice(), effects)
+}

@@ -1,5 +1,0 @@
-use Rattle.vp_decoding.proofs.Told.{one_frame}
-use Rattle.vp_decoding.proofs.laws.spellings_are_of_one_frame.Goals as goal
-
-pub returns : goal.returns
-returns c = one_frame

@@ -1,0 +1,9 @@
+pub mod Deeds
+pub mod Alone
+pub mod Runs
+pub mod Choices
+pub mod Messages
+pub mod Follows
+pub mod Taking
+pub mod Waiting
+pub mod Whole

@@ -1,0 +1,10 @@
+use Rattle.std.proofs.Common.{refl}
+use Rattle.vp_model.proofs.Computed.{computes}
+use Rattle.vp_runs.proofs.WorkedRuns.{spells}
+use Rattle.vp_fitting.specs.Asked.{asks}
+use Rattle.vp_fitting.specs.Merged.{lowest, merged_from, merged}
+use Rattle.vp_fitting.proofs.worked.a_begin.Goals as goal
+
+pub returns : goal.returns
+unfolding computes spells asks lowest merged_from merged
+returns c = refl

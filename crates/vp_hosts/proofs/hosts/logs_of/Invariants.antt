@@ -1,6 +1,0 @@
-use Rattle.std.proofs.Common.{◌≡◌, map, take}
-use Rattle.vp_hosts.specs.Hosts.{site_log}
-use Rattle.vp_hosts.proofs.hosts.logs_of.Given as goal
-
-abbrev pub invariant-loop-host : goal.invariant-loop-host
-invariant-loop-host l = l.logs.items ≡ map site_log (take l.host-index l.hosts)

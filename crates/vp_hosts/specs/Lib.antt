@@ -1,4 +1,0 @@
-pub mod Hosts
-pub mod Letters
-pub mod Ports
-pub mod Stops

@@ -1,4 +1,0 @@
-pub mod Kept
-pub mod Lives
-pub mod Worked
-pub mod Laws

@@ -1,0 +1,69 @@
+//! What a site does with what comes.
+
+ghost use Rattle.std.specs.Prelude.{◌≡◌, IfOk};
+ghost use Rattle.vp_catalog.specs.Document.{IsCatalogue};
+ghost use Rattle.vp_laws.specs.Shapes.{IsInput, IsShaped};
+ghost use Rattle.vp_model.specs.Step.{step};
+ghost use Rattle.vp_runs.specs.Arrivals.{IsArrival};
+ghost use Rattle.vp_runs.specs.Turns.{step_turn, quiet_turn, turn_on};
+ghost use Rattle.vp_node.specs.Taking.{Does, IsStepOf};
+
+use crate::sending::datagrams_of;
+use crate::turned::TurnEffects;
+use std::alloc::Global;
+use vp_base::{Input, NoMemory};
+use vp_catalog::Catalog;
+use vp_laws::shaped::{given_are_frames, steps_are_shaped};
+use vp_runs::Arrival;
+use vp_site::Site;
+
+/// Does the step of an input.
+fn step(site: Site, catalog: &Catalog, input: Input) -> Result<(Site, TurnEffects), NoMemory>
+    requires catalogue { IsCatalogue catalog.now }
+    requires site { IsShaped catalog.now site }
+    requires input { IsInput input }
+    ensures does { IfOk result (λ it. Does (step_turn catalog.now site.id (step catalog.now site input)) it.0 it.1) }
+    ensures stepped { IfOk result (λ it. record { site = it.0; effects = it.1.effects } ≡ step catalog.now site input) }
+{
+    steps_are_shaped();
+    given_are_frames();
+    let id = site.id();
+    let (site, effects) = site.step(catalog, &input)?;
+    let messages = effects.messages.as_slice();
+    let datagrams = datagrams_of(catalog, id, messages, effects.replies.as_slice())?;
+    let turn_effects = TurnEffects {
+        effects,
+        datagrams,
+        stop: false,
+    };
+    Ok((site, turn_effects))
+}
+
+/// Does a turn without a step.
+fn pass(site: Site, alloc: Global, stop: bool) -> (Site, TurnEffects)
+    ensures { Does (quiet_turn site stop) result.0 result.1 }
+{
+    (site, TurnEffects::quiet(alloc, stop))
+}
+
+/// Does the turn of what came, without a disk. The records of its step must be synced before its datagrams are sent.
+#[tactic(auto, unfolding(vp_runs::specs::Turns::turn_on))]
+pub fn turn_on(
+    site: Site,
+    catalog: &Catalog,
+    what: Arrival,
+) -> Result<(Site, TurnEffects), NoMemory>
+    requires catalogue { IsCatalogue catalog.now }
+    requires site { IsShaped catalog.now site }
+    requires what { IsArrival what }
+    ensures does { IfOk result (λ it. Does (turn_on catalog.now site what) it.0 it.1) }
+    ensures stepped { IfOk result (λ it. IsStepOf catalog.now site what it.0 it.1.effects) }
+{
+    let alloc = catalog.sites().allocator();
+    match what {
+        Arrival::Gives { input } => step(site, catalog, input),
+        Arrival::Stops => Ok(pass(site, alloc, true)),
+        Arrival::Bad { .. } => Ok(pass(site, alloc, false)),
+        Arrival::Stray => Ok(pass(site, alloc, false)),
+    }
+}

@@ -1,6 +1,0 @@
-use Rattle.std.proofs.Common.{arith}
-use Rattle.vp_onecopy.proofs.Places.{among_below}
-use Rattle.vp_onecopy.proofs.reading.take_record.Goals as goal
-
-pub overflow_cast-place : goal.overflow_cast-place
-overflow_cast-place c = omega (arith, c.requires, among_below c.args.names.now c.args.cursor.now c.in_ok-place.place c.take_place.new.cursor c.in_ok-place.ensures)

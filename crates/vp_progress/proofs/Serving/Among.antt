@@ -1,0 +1,112 @@
+-- Sites that are together serve their clients, as far as records are free there.
+use Rattle.std.proofs.Common.{◌≡◌, ◌≢◌, ◌∙◌, ap, sym, subst, ℕ, ◌-◌, ◌^◌, ◌<◌, ◌≤◌, true, List, refl, length, arith}
+use Rattle.std.specs.Prelude.{Some}
+use Rattle.std.specs.List.{Contains, AllByRecursion, list_any}
+use Rattle.vp_text.proofs.Items.{all_each}
+use Rattle.vp_model.specs.Types.{Doubt, Commit}
+use Rattle.vp_model.specs.Words.{has, keys}
+use Rattle.vp_model.specs.Site.{SiteState}
+use Rattle.vp_model.specs.Refresh.{refreshing_of}
+use Rattle.vp_model.specs.World.{WorldState, Schedule, site_of}
+use Rattle.vp_laws.proofs.Lists.Members.{Has, contains, has_of, has_test, has_from_test}
+use Rattle.vp_laws.proofs.Worlds.Events.{in_last}
+use Rattle.vp_laws.proofs.Invariant.Known.{Known}
+use Rattle.vp_laws.proofs.Keeping.Known.{known_last}
+use Rattle.vp_progress.specs.Going.{serves}
+use Rattle.vp_progress.specs.Progress.{world_of}
+use Rattle.vp_progress.specs.Clients.{Wish, IsServed}
+use Rattle.vp_progress.specs.Together.{IsFree, AreTogether, StayTogether, IsGrantable}
+use Rattle.vp_progress.proofs.Going.{world_goes_on, passing_flows_not}
+use Rattle.vp_progress.proofs.Serving.Sites.{Rest, IsResting}
+use Rattle.vp_progress.proofs.Serving.Worlds.{IsUnused}
+use Rattle.vp_progress.proofs.Serving.Commits.{Committed}
+use Rattle.vp_progress.proofs.Serving.Begun.{Resting, Grantable, serves_all}
+use Rattle.vp_progress.proofs.Serving.Served.{same_accessible, rest_in, rest_of}
+
+one_state : (k : ℕ) (x y : SiteState) (w : WorldState) → site_of w k ≡ Some x → site_of w k ≡ Some y → x ≡ y
+one_state k x y w a b = let z = sym a ∙ b in grind (arith, z)
+
+module _ (s : Schedule) (ns : List ℕ) (q : ℕ) (t : AreTogether s.catalogue ns (world_of s)) (here : has ns q ≡ true) where
+  abbrev w : WorldState
+  w = world_of s
+
+  among : (k : ℕ) → Has t.view.members k → Has ns k
+  among k m = has_from_test ns k (sym (t.members k) ∙ has_test t.view.members k m)
+
+  members : (k : ℕ) → Has ns k → Has t.view.members k
+  members k m = has_from_test t.view.members k (t.members k ∙ has_test ns k m)
+
+  rests_as : (k : ℕ) (x : SiteState) → site_of w k ≡ Some x → rest_of w k ≡ record { locks = x.locks; refresh = x.refresh; doubts = x.doubts }
+  rests_as k x up = ap rest_in up
+
+  resting : Resting s.catalogue ns t.view q (has_from_test ns q here) (rest_of w) among members w.journal w
+  resting = record {
+    known = in_last s.catalogue (Known s.catalogue) (known_last s.catalogue) s.events;
+    joined = λ a b m n. t.joined a b (has_test ns a m) (has_test ns b n);
+    same = refl;
+    rests = λ k m. let x = t.idle k (has_test ns k m) in (x.0, x.1, subst (λ (r : Rest). IsResting t.view r x.0) (sym (rests_as k x.0 x.1)) (record { held = x.2.held; live = x.2.live; parts = x.2.parts; refresh = refl; doubts = refl; locks = λ l there. there }));
+  }
+
+  unused : (rec : ℕ) → IsFree s.catalogue ns w rec → IsUnused s.catalogue ns t.view q (rest_of w) among rec
+  unused rec f = record {
+    enough = same_accessible s.catalogue rec t.view.members ns t.members f.enough;
+    unlocked = λ k l m there.
+        let x = t.idle k (has_test ns k m) in
+        (t.free k rec x.0 (has_test ns k m) x.1 f).unlocked l (contains x.0.locks l (subst (λ (r : Rest). Has r.locks l) (rests_as k x.0 x.1) there));
+    quiet = λ k m. let x = t.idle k (has_test ns k m) in ap (λ (r : Rest). refreshing_of rec r.refresh) (rests_as k x.0 x.1) ∙ (t.free k rec x.0 (has_test ns k m) x.1 f).refreshed;
+  }
+
+  -- each site has just the doubts that it had, and at most the locks
+  module _ (entry : Commit) (new : WorldState) (c : Committed s.catalogue ns t.view q (has_from_test ns q here) (rest_of w) among members w.journal entry new) where
+    same_doubts : (k : ℕ) (x y : SiteState) → Has ns k → site_of w k ≡ Some x → site_of new k ≡ Some y → y.doubts ≡ x.doubts
+    same_doubts k x y m up now = let r = c.rests k m in ap (λ (z : SiteState). z.doubts) (one_state k y r.0 new now r.1) ∙ r.2.doubts ∙ ap (λ (r : Rest). r.doubts) (rests_as k x up)
+
+    still_free : (rec : ℕ) → IsFree s.catalogue ns w rec → IsFree s.catalogue ns new rec
+    still_free rec f = record {
+      enough = f.enough;
+      certain = λ k y m now. let x = t.idle k m in ap (list_any (λ (d : Doubt). has (keys d.writes) rec)) (same_doubts k x.0 y (has_from_test ns k m) x.1 now) ∙ f.certain k x.0 m x.1;
+    }
+
+    was_free : (rec : ℕ) → IsFree s.catalogue ns new rec → IsFree s.catalogue ns w rec
+    was_free rec f = record {
+      enough = f.enough;
+      certain = λ k x m up. let r = c.rests k (has_from_test ns k m) in ap (list_any (λ (d : Doubt). has (keys d.writes) rec)) (sym (same_doubts k x r.0 (has_from_test ns k m) up r.1)) ∙ f.certain k r.0 m r.1;
+    }
+
+    together : AreTogether s.catalogue ns new
+    together = record {
+      view = t.view;
+      members = t.members;
+      joined = λ a b m n. c.joined a b (has_from_test ns a m) (has_from_test ns b n);
+      idle = λ k m.
+          let r = c.rests k (has_from_test ns k m) in
+          let x = t.idle k m in
+          (r.0, r.1, record { held = r.2.held; live = r.2.live; parts = r.2.parts; doubts = λ d there. x.2.doubts d (subst (λ (ds : List Doubt). Contains ds d) (same_doubts k x.0 r.0 (has_from_test ns k m) x.1 r.1) there) });
+      free = λ k rec y m now f.
+          let r = c.rests k (has_from_test ns k m) in
+          let x = t.idle k m in
+          let is = one_state k y r.0 new now r.1 in
+          let old = t.free k rec x.0 m x.1 (was_free rec f) in
+          record {
+            unlocked = λ l there. old.unlocked l (contains x.0.locks l (subst (λ (r : Rest). Has r.locks l) (rests_as k x.0 x.1) (r.2.locks l (subst (λ (z : SiteState). Has z.locks l) is (has_of y.locks l there)))));
+            refreshed = ap (λ (z : SiteState). refreshing_of rec z.refresh) is ∙ ap (refreshing_of rec) (r.2.refresh ∙ ap (λ (r : Rest). r.refresh) (rests_as k x.0 x.1)) ∙ old.refreshed;
+          };
+    }
+
+  grantable : (wish : Wish) → IsGrantable s.catalogue ns w wish → Grantable s.catalogue ns t.view q (has_from_test ns q here) (rest_of w) among members w.journal wish
+  grantable wish g = (g.0, g.1, unused g.0 g.2)
+
+  pub served_among : (x : SiteState) (wishes : List Wish) → site_of w q ≡ Some x → x.seq < 2 ^ 32 - 1 → length wishes ≤ 64 → AllByRecursion (IsGrantable s.catalogue ns w) wishes → IsServed s ns q wishes (StayTogether s.catalogue ns w)
+  served_among x wishes up left few free =
+      let c = serves_all s.catalogue ns t.view q (has_from_test ns q here) (rest_of w) among members w.journal wishes w resting x up left few (all_each _ _ grantable wishes free) in
+      let is = world_goes_on s c.events (passing_flows_not s.catalogue (serves q ns) (λ w count. refl) c.events w c.passing) in
+      let after : StayTogether s.catalogue ns w _ = record { together = together c.so.entry _ c.so.committed; free = still_free c.so.entry _ c.so.committed } in
+      record {
+        more = c.events;
+        serving = c.passing;
+        entry = c.so.entry;
+        own = c.so.own;
+        fulfilled = c.so.fulfilled;
+        journal = ap (λ (w : WorldState). w.journal) is ∙ c.so.committed.same;
+        after = subst (StayTogether s.catalogue ns w) (sym is) after;
+      }

@@ -1,0 +1,325 @@
+-- A read or a write is done: at once, or when the holders that are asked have answered.
+use Rattle.std.proofs.Common.{◌≡◌, ◌≢◌, ◌⊎◌, ◌∙◌, ap, sym, subst, ℕ, ◌+◌, ◌<◌, ◌≤◌, Bool, true, false, List, [], ◌∷◌, ◌++◌, length, refl, arith, ⊎_elim, inl, inr}
+use Rattle.std.specs.Prelude.{Option, Some, None, ◌==◌, ◌&&◌, not, nat_eq, nat_lt, nat_le}
+use Rattle.std.proofs.lemmas.Bool.Decides.{nat_tests}
+use Rattle.vp_model.specs.Types.{ViewId, View, Stored, Op, Commit, Answer, Message, Pending, Live}
+use Rattle.vp_model.specs.Types.answer
+use Rattle.vp_model.specs.Types.call
+use Rattle.vp_model.specs.Types.input
+use Rattle.vp_model.specs.Types.message
+use Rattle.vp_model.specs.Types.op
+use Rattle.vp_model.specs.Words.{first, for_each, has, is_empty, put_number, value_at}
+use Rattle.vp_model.specs.Catalogue.{Catalogue, find_record, holders, weights_of, accessible}
+use Rattle.vp_model.specs.Locks.{conflict}
+use Rattle.vp_model.specs.Site.{SiteState, Lent, begin_step, put_back}
+use Rattle.vp_model.specs.Transactions.{last_writes, last_changes, entry_of, complete}
+use Rattle.vp_model.specs.Refresh.{members_in, is_usable_in, other_holders_in}
+use Rattle.vp_model.specs.Messages.{holds_view, grant}
+use Rattle.vp_model.specs.Calls.{handled, answer_read, answer_write, read, read_at, write, write_at, write_elsewhere, take_lock}
+use Rattle.vp_model.specs.Step.{step}
+use Rattle.vp_model.specs.World.{WorldState}
+use Rattle.vp_laws.proofs.Lists.Members.{Has, has_none, has_one, has_one_is, has_first, has_more, has_cons, has_cases, has_test, has_from_test, filter_has, filter_keeps, both_true}
+use Rattle.vp_laws.proofs.Lists.Changes.{put_new}
+use Rattle.vp_laws.proofs.Lists.Views.{put_keeps, put_only}
+use Rattle.vp_laws.proofs.Lists.Numbers.{differs, not_same}
+use Rattle.vp_laws.proofs.Moves.LocalViews.{letter}
+use Rattle.vp_laws.proofs.Moves.Table.{lent_at}
+use Rattle.vp_laws.proofs.Moves.Calls.{waiting, done}
+use Rattle.vp_laws.proofs.Worlds.Scenes.{scene_of}
+use Rattle.vp_laws.proofs.Copies.Force.{shared_by}
+use Rattle.vp_laws.proofs.Invariant.Held.{has_copy}
+use Rattle.vp_laws.proofs.Invariant.Known.{Known}
+use Rattle.vp_progress.specs.Going.{serves}
+use Rattle.vp_progress.specs.Clients.{Wish, name_in, Fulfils}
+use Rattle.vp_progress.proofs.Can.{Can, can_now}
+use Rattle.vp_progress.proofs.Acts.{Did}
+use Rattle.vp_progress.proofs.Current.{holds_it}
+use Rattle.vp_progress.proofs.Serving.Rows.{read_own, read_copy, read_there, write_again, write_copy, write_there, write_alone, write_asks, reads, writes}
+use Rattle.vp_progress.proofs.Serving.Answers.{reads_answered, writes_answered}
+use Rattle.vp_progress.proofs.Serving.Parts.{grants_read, grants_write}
+use Rattle.vp_progress.proofs.Serving.Sites.{Rest, LeadsOn, leads_first, rests_free, Gives, grants_on}
+use Rattle.vp_progress.proofs.Serving.Leading.{completes, locks_on, asks_read, asks_writes}
+use Rattle.vp_progress.proofs.Serving.Worlds.{TakesAt, IsUnused, Serving, Exchanged, calls, led_in, own_moves, exchanges}
+use Rattle.vp_progress.proofs.Serving.Waiting.{still_left, Asked, Counted, counts, exchanged, waits_all}
+
+-- ---- parts that are put among others
+
+each_only : (sites parts : List ℕ) (k : ℕ) → Has (for_each sites put_number parts) k → Has parts k ⊎ Has sites k
+each_only [] parts k h = inl h
+each_only (s ∷ sites) parts k h =
+    ⊎_elim (λ old. ⊎_elim (λ was. inl was) (λ (one : s ≡ k). inr (rw one (has_first k sites))) (put_only s parts k old)) (λ more. inr (has_more s sites k more)) (each_only sites (put_number s parts) k h)
+
+each_keeps : (sites parts : List ℕ) (k : ℕ) → Has parts k → Has (for_each sites put_number parts) k
+each_keeps [] parts k h = h
+each_keeps (s ∷ sites) parts k h = each_keeps sites (put_number s parts) k (put_keeps s parts k h)
+
+put_there : (s : ℕ) (parts : List ℕ) → Has (put_number s parts) s
+put_there s parts = put_new nat_eq nat_lt s parts
+
+each_there : (sites parts : List ℕ) (k : ℕ) → Has sites k → Has (for_each sites put_number parts) k
+each_there [] parts k h = absurd (has_none k h)
+each_there (s ∷ sites) parts k h =
+    ⊎_elim (λ (one : s ≡ k). each_keeps sites (put_number s parts) k (rw one (put_there k parts))) (λ more. each_there sites (put_number s parts) k more) (has_cons s sites k h)
+
+-- ---- the other holders of a record in the view
+
+pub other_holder : (catalogue : Catalogue) (id rec k : ℕ) (v : View) (held : Option View) → held ≡ Some v → Has (other_holders_in catalogue id held rec) k → Has v.members k × (k ≢ id) × Has (holders catalogue rec) k
+other_holder catalogue id rec k v held e h =
+    let f = filter_has (λ (q : ℕ). has (members_in held) q && not (q == id)) (holders catalogue rec) k h in
+    let b = both_true (has (members_in held) k) (not (k == id)) f.1 in
+    (has_from_test v.members k (rw e at b.0), differs k id b.1, f.0)
+
+pub is_other : (catalogue : Catalogue) (id rec k : ℕ) (v : View) (held : Option View) → held ≡ Some v → Has v.members k → k ≢ id → Has (holders catalogue rec) k → Has (other_holders_in catalogue id held rec) k
+is_other catalogue id rec k v held e member other holder =
+    filter_keeps (λ (q : ℕ). has (members_in held) q && not (q == id)) (holders catalogue rec) k holder (rw (e, has_test v.members k member, not_same k id other) refl)
+
+-- an accessible record has a holder in the view
+a_holder : (catalogue : Catalogue) (rec : ℕ) (members : List ℕ) → accessible catalogue rec members ≡ true → (k : ℕ) × Has (holders catalogue rec) k × Has members k
+a_holder catalogue rec members e = let h = shared_by (weights_of catalogue rec) members members e e in (h.0, h.1, h.2)
+
+first_of : (xs : List ℕ) (k : ℕ) → Has xs k → (j : ℕ) × (first xs ≡ Some j) × Has xs j
+first_of [] k h = absurd (has_none k h)
+first_of (x ∷ xs) k h = (x, refl, has_first x xs)
+
+few_ops : (n : ℕ) → n < 64 → nat_le 64 n ≡ false
+few_ops n h = grind (arith, nat_tests, h)
+
+module _ (catalogue : Catalogue) (ns : List ℕ) (v : View) (q : ℕ) (lead : Has ns q) (rest : ℕ → Rest) (among : (k : ℕ) → Has v.members k → Has ns k) (journal : List Commit) where
+  abbrev pub Goes : Live → List ℕ → WorldState → Type 0
+  Goes t missing w = Serving catalogue ns v q rest among journal t missing w
+
+  abbrev pub Free : ℕ → Type 0
+  Free rec = IsUnused catalogue ns v q rest among rec
+
+  abbrev Reaches : WorldState → (WorldState → Type 0) → Type 0
+  Reaches w Q = Can catalogue (serves q ns) w Q
+
+  -- the wish is fulfilled by one operation more
+  pub record Done (t : Live) (wish : Wish) (w : WorldState) : Type 0 where
+    pub operation : Op
+    pub fulfils : Fulfils catalogue wish operation
+    pub now : Live
+    pub goes : Goes now [] w
+    pub idle : now.pending ≡ None
+    pub ops : now.ops ≡ t.ops ++ operation ∷ []
+    pub named : now.txn ≡ t.txn
+
+  -- it writes nothing, or a free record
+  abbrev WritesFree : Op → Type 0
+  WritesFree (op.Read rec value) = Unit {0}
+  WritesFree (op.Write rec value) = Free rec
+
+  written_free : (operation : Op) (rec : ℕ) (value : List ℕ) → WritesFree operation → operation ≡ op.Write rec value → Free rec
+  written_free (op.Read rec value) other new h e = cc
+  written_free (op.Write rec value) other new h e = let same : rec ≡ other = cc in subst Free same h
+
+  -- the operation is done, where no part is missing
+  finishes : (t : Live) (missing : List ℕ) (w new : WorldState) (f : Goes t missing w) (p : Pending) (operation : Op) (words : Answer) (l : Lent) → ((k : ℕ) → Has t.parts k → TakesAt t.txn k w) → WritesFree operation → LeadsOn (rest q) t l → Known catalogue (scene_of new) → Did w new q f.at (put_back (begin_step f.at) (complete t p operation words l)) → Goes (done t operation words) [] new
+  finishes t missing w new f p operation words l all free g known d =
+      own_moves catalogue ns v q rest among journal t (done t operation words) missing [] w new f (complete t p operation words l) known d (completes (rest q) t l g p operation words) refl
+      (λ rec h. ⊎_elim (λ old. f.free rec (h.0, old)) (λ one. written_free operation rec h.0 free (has_one_is operation (op.Write rec h.0) one)) (has_cases t.ops (operation ∷ []) (op.Write rec h.0) h.1))
+      (λ k h. h) (λ k h. inr (all k h))
+
+  -- with no part missing, each has come
+  all_there : (t : Live) (w : WorldState) → Goes t [] w → (k : ℕ) → Has t.parts k → TakesAt t.txn k w
+  all_there t w f k part =
+      let i = (led_in catalogue ns v q rest among journal t [] w f).1 k part in
+      let o = f.others k i.0 i.1 in
+      ⊎_elim (λ none. absurd (has_none k none)) (λ there. (o.at, o.up, there)) (o.part part)
+
+  -- a lock that the transaction asks for at another holder is granted
+  module _ (rec : ℕ) (free : Free rec) (t : Live) (missing : List ℕ) (w : WorldState) (f : Goes t missing w) (k : ℕ) (here : Has ns k) (n : k ≢ q) (holder : Has (holders catalogue rec) k) (part : Has t.parts k) (number : ℕ) where
+    abbrev lender : SiteState
+    lender = (f.others k here n).at
+
+    copy_there : (stored : Stored) × (value_at rec lender.copies ≡ Some stored)
+    copy_there = let o = f.others k here n in has_copy catalogue (scene_of w) k o.at o.up (f.known.views.site k o.at o.up).kept f.known.held rec holder
+
+    holds_there : holds_view lender t.view ≡ true
+    holds_there = subst (λ (i : ViewId). holds_view lender i ≡ true) (sym (led_in catalogue ns v q rest among journal t missing w f).0) (holds_it lender v (f.others k here n).lends.held)
+
+    free_there : (exclusive : Bool) → conflict rec exclusive t.txn lender.locks ≡ None
+    free_there exclusive = rests_free (rest k) rec exclusive t.txn lender.locks (f.others k here n).lends.locks (λ l h. free.unlocked k l here h)
+
+    abbrev Gets : Message → Type 0
+    Gets answer = Can catalogue (serves q ns) w (Exchanged catalogue ns v q rest among journal t missing k answer w)
+
+    granted_there : (exclusive : Bool) (words answer : Message) → Has w.sent (letter q k words) → step catalogue lender (input.Message q words) ≡ grant t.txn t.view rec exclusive answer q (begin_step lender) → Gets answer
+    granted_there exclusive words answer sent row =
+        let lends = (f.others k here n).lends in
+        exchanges catalogue ns v q rest among journal lead t missing w k here n f part words answer sent (subst (Gives v (rest k) t.txn lender lends q answer) (sym row) (grants_on v (rest k) t.txn lender lends t.view rec exclusive answer q))
+
+    reads_there : Has w.sent (letter q k (message.ReadRequest t.txn t.view number rec)) → Gets (message.ReadAnswer t.txn number copy_there.0.value)
+    reads_there sent = granted_there false _ _ sent (grants_read catalogue lender q t.txn t.view number rec copy_there.0 holds_there (f.others k here n).lends.new copy_there.1 (free_there false))
+
+    writes_there : Has w.sent (letter q k (message.WriteRequest t.txn t.view number rec)) → Gets (message.WriteAnswer t.txn number)
+    writes_there sent = granted_there true _ _ sent (grants_write catalogue lender q t.txn t.view number rec copy_there.0 holds_there (f.others k here n).lends.new copy_there.1 (free_there true))
+
+  module _ (t : Live) (w : WorldState) (f : Goes t [] w) (idle : t.pending ≡ None) (few : length t.ops < 64) (name : List ℕ) (rec : ℕ) (found : find_record catalogue name ≡ Some rec) (free : Free rec) where
+    abbrev x : SiteState
+    x = f.at
+
+    abbrev number : ℕ
+    number = length t.answers + 1
+
+    mine : LeadsOn (rest q) t (lent_at x)
+    mine = leads_first v (rest q) t x f.leads
+
+    usable : is_usable_in catalogue x.held rec ≡ true
+    usable = subst (λ (held : Option View). is_usable_in catalogue held rec ≡ true) (sym f.leads.held) free.enough
+
+    unlocked : (exclusive : Bool) → conflict rec exclusive t.txn x.locks ≡ None
+    unlocked exclusive = rests_free (rest q) rec exclusive t.txn x.locks f.leads.locks (λ l h. free.unlocked q l lead h)
+
+    id_is : x.id ≡ q
+    id_is = (f.known.views.site q x f.up).id
+
+    -- another holder of the record in the view
+    other_site : (k : ℕ) → Has (other_holders_in catalogue x.id x.held rec) k → Has ns k × (k ≢ q) × Has (holders catalogue rec) k
+    other_site k h = let o = other_holder catalogue x.id rec k v x.held f.leads.held h in (among k o.0, (λ same. o.1 (same ∙ sym id_is)), o.2)
+
+    -- the step that the call takes, where it is done at once
+    at_once : (p : Pending) (words : Answer) (operation : Op) (wish : Wish) (l : Lent) (new : WorldState) → Fulfils catalogue wish operation → WritesFree operation → LeadsOn (rest q) t l → Known catalogue (scene_of new) → Did w new q x (put_back (begin_step x) (complete t p operation words l)) → Reaches new (Done t wish)
+    at_once p words operation wish l new fulfils writes g known d = can_now catalogue (serves q ns) _ new (record {
+      operation = operation;
+      fulfils = fulfils;
+      now = done t operation words;
+      goes = finishes t [] w new f p operation words l (all_there t w f) writes g known d;
+      idle = refl;
+      ops = refl;
+      named = refl;
+    })
+
+    -- ---- a read
+
+    module _ (k : ℕ) (other : Has (other_holders_in catalogue x.id x.held rec) k) where
+      abbrev read_call : Pending
+      read_call = handled 0 number (call.Read t.txn number name)
+
+      abbrev reader : Live
+      reader = record t { remote = t.remote ++ (k, rec) ∷ []; parts = put_number k t.parts }
+
+      abbrev read_ask : ℕ → Message
+      read_ask j = message.ReadRequest t.txn t.view number rec
+
+      read_one : (missing : List ℕ) (j : ℕ) (u : WorldState) → Has (k ∷ []) j → Has missing j → Goes (waiting reader read_call missing) missing u → Asked catalogue ns v q lead rest among journal reader read_call read_ask (Done t (Wish.read name)) (λ sites. sites) (λ sites j h. h) still_left missing u → Reaches u (Counted catalogue ns v q lead rest among journal reader read_call read_ask (Done t (Wish.read name)) (λ sites. sites) (λ sites j h. h) still_left missing j u)
+      read_one missing j u one waits g asked =
+          let is : k ≡ j = has_one_is k j one in
+          let o = other_site j (subst (Has (other_holders_in catalogue x.id x.held rec)) is other) in
+          let now = waiting reader read_call missing in
+          let c = copy_there rec free now missing u g j o.0 o.1 o.2 (subst (λ (j : ℕ). Has (put_number k t.parts) j) is (put_there k t.parts)) number in
+          exchanged catalogue ns v q lead rest among journal reader read_call read_ask (Done t (Wish.read name)) (λ sites. sites) (λ sites j h. h) still_left missing j u (message.ReadAnswer t.txn number c.0.value)
+          (reads_there rec free now missing u g j o.0 o.1 o.2 (subst (λ (j : ℕ). Has (put_number k t.parts) j) is (put_there k t.parts)) number (asked j waits))
+          λ mid e. counts catalogue ns v q lead rest among journal reader read_call read_ask (Done t (Wish.read name)) (λ sites. sites) (λ sites j h. h) still_left missing j mid e.serving o.0 waits e.takes (message.ReadAnswer t.txn number c.0.value) e.answered
+          (answer_read now (record read_call { missing = missing }) rec c.0.value)
+          (reads_answered catalogue j now (record read_call { missing = missing }) refl (has_test missing j waits) e.serving.at t.txn number name c.0.value rec e.serving.leads.live refl found)
+          λ all new known d. can_now catalogue (serves q ns) _ new (record {
+            operation = op.Read rec c.0.value;
+            fulfils = found;
+            now = done now (op.Read rec c.0.value) (answer.Value t.txn number c.0.value);
+            goes = finishes now missing mid new e.serving (record read_call { missing = missing }) (op.Read rec c.0.value) (answer.Value t.txn number c.0.value) (lent_at e.serving.at) all tt (leads_first v (rest q) now e.serving.at e.serving.leads) known d;
+            idle = refl;
+            ops = refl;
+            named = refl;
+          })
+
+      read_asked : (new : WorldState) → Known catalogue (scene_of new) → Did w new q x (put_back (begin_step x) (read_at x.id t read_call rec k (lent_at x))) → Reaches new (Done t (Wish.read name))
+      read_asked new known d =
+          let a = asks_read (rest q) t (lent_at x) mine x.id read_call rec k in
+          waits_all catalogue ns v q lead rest among journal reader read_call read_ask (Done t (Wish.read name)) (λ sites. sites) (λ sites j h. h) still_left (k ∷ []) read_one 1 (k ∷ []) new (λ j h. h) (omega arith) refl
+          (own_moves catalogue ns v q rest among journal t (waiting reader read_call (k ∷ [])) [] (k ∷ []) w new f _ known d a.0 refl f.free (λ j h. put_keeps k t.parts j h)
+          (λ j h. ⊎_elim (λ old. inr (all_there t w f j old)) (λ (one : k ≡ j). inl (rw one (has_one j))) (put_only k t.parts j h)))
+          (λ j h. d.acted.sends _ (subst (λ (i : ℕ). Has (read_at x.id t read_call rec k (lent_at x)).effects.messages (letter i j (read_ask j))) id_is (subst (λ (j : ℕ). Has (read_at x.id t read_call rec k (lent_at x)).effects.messages (letter x.id j (read_ask k))) (has_one_is k j h) a.1)))
+
+    read_done : Reaches w (Done t (Wish.read name))
+    read_done =
+        calls catalogue ns v q rest among (Done t (Wish.read name)) w f.known x f.up (call.Read t.txn number name) refl
+        λ new known d. go new known d (value_at rec (last_writes t.ops)) refl (value_at rec x.copies) refl
+      where
+        p : Pending
+        p = handled 0 number (call.Read t.txn number name)
+
+        row : step catalogue x (input.Call 0 (call.Read t.txn number name)) ≡ put_back (begin_step x) (read catalogue x.id x.held t p name rec (lent_at x))
+        row = reads catalogue x t number f.leads.live refl idle name rec found (few_ops (length t.ops) few) usable
+
+        asks : (new : WorldState) → Known catalogue (scene_of new) → Did w new q x (step catalogue x (input.Call 0 (call.Read t.txn number name))) → value_at rec (last_writes t.ops) ≡ None → value_at rec x.copies ≡ None → Reaches new (Done t (Wish.read name))
+        asks new known d e c =
+            let h = a_holder catalogue rec v.members free.enough in
+            let away : h.0 ≢ q = (λ (same : h.0 ≡ q). let copy = has_copy catalogue (scene_of w) q x f.up (f.known.views.site q x f.up).kept f.known.held rec (subst (Has (holders catalogue rec)) same h.1) in let z = sym c ∙ copy.1 in cc) in
+            let k = first_of (other_holders_in catalogue x.id x.held rec) h.0 (is_other catalogue x.id rec h.0 v x.held f.leads.held h.2 (λ same. away (same ∙ id_is)) h.1) in
+            read_asked k.0 k.2 new known (subst (Did w new q x) (row ∙ ap (put_back (begin_step x)) (read_there catalogue x.id x.held t (lent_at x) p name rec k.0 e c k.1)) d)
+
+        go : (new : WorldState) → Known catalogue (scene_of new) → Did w new q x (step catalogue x (input.Call 0 (call.Read t.txn number name))) → (o : Option (List ℕ)) → value_at rec (last_writes t.ops) ≡ o → (c : Option Stored) → value_at rec x.copies ≡ c → Reaches new (Done t (Wish.read name))
+        go new known d (Some value) e c r = at_once p (answer.Value t.txn number value) (op.Read rec value) (Wish.read name) (lent_at x) new found tt mine known (subst (Did w new q x) (row ∙ ap (put_back (begin_step x)) (read_own catalogue x.id x.held t (lent_at x) p name rec value e)) d)
+        go new known d None e (Some stored) r = at_once p (answer.Value t.txn number stored.value) (op.Read rec stored.value) (Wish.read name) (take_lock t.txn rec false (lent_at x)) new found tt (locks_on (rest q) t (lent_at x) mine rec false) known (subst (Did w new q x) (row ∙ ap (put_back (begin_step x)) (read_copy catalogue x.id x.held t (lent_at x) p name rec stored e r (unlocked false))) d)
+        go new known d None e None r = asks new known d e r
+
+    -- ---- a write
+
+    module _ (value : List ℕ) where
+      abbrev write_call : Pending
+      write_call = handled 0 number (call.Write t.txn number name value)
+
+      abbrev sites : List ℕ
+      sites = other_holders_in catalogue x.id x.held rec
+
+      abbrev writer : Live
+      writer = record t { parts = for_each sites put_number t.parts }
+
+      abbrev write_ask : ℕ → Message
+      write_ask j = message.WriteRequest t.txn t.view number rec
+
+      abbrev Written : WorldState → Type 0
+      Written u = Done t (Wish.write name value) u
+
+      write_one : (missing : List ℕ) (j : ℕ) (u : WorldState) → Has sites j → Has missing j → Goes (waiting writer write_call missing) missing u → Asked catalogue ns v q lead rest among journal writer write_call write_ask Written (λ sites. sites) (λ sites j h. h) still_left missing u → Reaches u (Counted catalogue ns v q lead rest among journal writer write_call write_ask Written (λ sites. sites) (λ sites j h. h) still_left missing j u)
+      write_one missing j u one waits g asked =
+          let o = other_site j one in
+          let now = waiting writer write_call missing in
+          exchanged catalogue ns v q lead rest among journal writer write_call write_ask Written (λ sites. sites) (λ sites j h. h) still_left missing j u (message.WriteAnswer t.txn number)
+          (writes_there rec free now missing u g j o.0 o.1 o.2 (each_there sites t.parts j one) number (asked j waits))
+          λ mid e. counts catalogue ns v q lead rest among journal writer write_call write_ask Written (λ sites. sites) (λ sites j h. h) still_left missing j mid e.serving o.0 waits e.takes (message.WriteAnswer t.txn number) e.answered
+          (answer_write now (record write_call { missing = missing }) rec value)
+          (writes_answered catalogue j now (record write_call { missing = missing }) refl (has_test missing j waits) e.serving.at t.txn number name value rec e.serving.leads.live refl found)
+          λ all new known d. can_now catalogue (serves q ns) _ new (record {
+            operation = op.Write rec value;
+            fulfils = (found, refl);
+            now = done now (op.Write rec value) (answer.Written t.txn number);
+            goes = finishes now missing mid new e.serving (record write_call { missing = missing }) (op.Write rec value) (answer.Written t.txn number) (lent_at e.serving.at) all free (leads_first v (rest q) now e.serving.at e.serving.leads) known d;
+            idle = refl;
+            ops = refl;
+            named = refl;
+          })
+
+      write_asked : (l : Lent) → LeadsOn (rest q) t l → (new : WorldState) → Known catalogue (scene_of new) → is_empty sites ≡ false → Did w new q x (put_back (begin_step x) (write_at x.id t write_call rec sites l)) → Reaches new Written
+      write_asked l leads new known some d =
+          let a = asks_writes (rest q) t l leads x.id write_call rec sites in
+          waits_all catalogue ns v q lead rest among journal writer write_call write_ask Written (λ sites. sites) (λ sites j h. h) still_left sites write_one (length sites) sites new (λ j h. h) (omega arith) some
+          (own_moves catalogue ns v q rest among journal t (waiting writer write_call sites) [] sites w new f _ known d a.0 refl f.free (λ j h. each_keeps sites t.parts j h)
+          (λ j h. ⊎_elim (λ old. inr (all_there t w f j old)) (λ more. inl more) (each_only sites t.parts j h)))
+          (λ j h. d.acted.sends _ (subst (λ (i : ℕ). Has (write_at x.id t write_call rec sites l).effects.messages (letter i j (write_ask j))) id_is (a.1 j h)))
+
+      write_on : (l : Lent) → LeadsOn (rest q) t l → (new : WorldState) → Known catalogue (scene_of new) → Did w new q x (put_back (begin_step x) (write_elsewhere catalogue x.id x.held t write_call rec value l)) → Reaches new Written
+      write_on l leads new known d = go (is_empty sites) refl
+        where
+          go : (b : Bool) → is_empty sites ≡ b → Reaches new Written
+          go true e = at_once write_call (answer.Written t.txn number) (op.Write rec value) (Wish.write name value) l new (found, refl) free leads known (subst (Did w new q x) (ap (put_back (begin_step x)) (write_alone catalogue x.id x.held t l write_call rec value e)) d)
+          go false e = write_asked l leads new known e (subst (Did w new q x) (ap (put_back (begin_step x)) (write_asks catalogue x.id x.held t l write_call rec value e)) d)
+
+      write_done : Reaches w Written
+      write_done =
+          calls catalogue ns v q rest among Written w f.known x f.up (call.Write t.txn number name value) refl
+          λ new known d. go new known d (value_at rec (last_changes (entry_of t))) refl (value_at rec x.copies) refl
+        where
+          row : step catalogue x (input.Call 0 (call.Write t.txn number name value)) ≡ put_back (begin_step x) (write catalogue x.id x.held t write_call name value rec (lent_at x))
+          row = writes catalogue x t number f.leads.live refl idle name value rec found (few_ops (length t.ops) few) usable
+
+          go : (new : WorldState) → Known catalogue (scene_of new) → Did w new q x (step catalogue x (input.Call 0 (call.Write t.txn number name value))) → (o : Option (List ℕ)) → value_at rec (last_changes (entry_of t)) ≡ o → (c : Option Stored) → value_at rec x.copies ≡ c → Reaches new Written
+          go new known d (Some before) e c r = at_once write_call (answer.Written t.txn number) (op.Write rec value) (Wish.write name value) (lent_at x) new (found, refl) free mine known (subst (Did w new q x) (row ∙ ap (put_back (begin_step x)) (write_again catalogue x.id x.held t (lent_at x) write_call name value rec before e)) d)
+          go new known d None e (Some stored) r = write_on (take_lock t.txn rec true (lent_at x)) (locks_on (rest q) t (lent_at x) mine rec true) new known (subst (Did w new q x) (row ∙ ap (put_back (begin_step x)) (write_copy catalogue x.id x.held t (lent_at x) write_call name value rec stored e r (unlocked true))) d)
+          go new known d None e None r = write_on (lent_at x) mine new known (subst (Did w new q x) (row ∙ ap (put_back (begin_step x)) (write_there catalogue x.id x.held t (lent_at x) write_call name value rec e r)) d)
+
+  -- a wish of a free record is fulfilled
+  pub fulfils_one : (t : Live) (w : WorldState) → Goes t [] w → t.pending ≡ None → length t.ops < 64 → (wish : Wish) (rec : ℕ) → find_record catalogue (name_in wish) ≡ Some rec → Free rec → Reaches w (Done t wish)
+  fulfils_one t w f idle few (Wish.read name) rec found free = read_done t w f idle few name rec found free
+  fulfils_one t w f idle few (Wish.write name value) rec found free = write_done t w f idle few name rec found free value

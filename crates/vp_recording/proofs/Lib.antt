@@ -1,0 +1,9 @@
+pub mod Digits
+pub mod HexExact
+pub mod FirstBytes
+pub mod LineTexts
+pub mod Newlines
+pub mod Steps
+pub mod Answering
+pub mod Only
+pub mod Nodes

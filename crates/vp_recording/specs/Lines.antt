@@ -1,0 +1,26 @@
+-- The texts of the lines of recordings.
+use Rattle.std.specs.Prelude.{◌≡◌, ℕ, ◌≤◌, List, [], ◌∷◌, ◌++◌, codes}
+use Rattle.std.specs.Fmt.{decimal}
+use Rattle.hex.specs.Hex.{encode_lower}
+use Rattle.vp_recording.specs.Hex.{IsDatagram, most_bytes}
+
+-- the line behind the catalogue
+abbrev pub key : List ℕ
+key = codes "recordings\n"
+
+-- a word, a text, and the end of the line
+abbrev pub worded : List ℕ → List ℕ → List ℕ
+worded word text = word ++ (text ++ 10 ∷ [])
+
+abbrev pub hex_line : List ℕ → List ℕ → List ℕ
+hex_line word bytes = worded word (encode_lower bytes)
+
+abbrev pub number_line : List ℕ → ℕ → List ℕ
+number_line word n = worded word (decimal n)
+
+-- The line is of what was no frame, with a place in it; or of a frame that was passed over.
+abbrev pub BadText : List ℕ → Type 0
+BadText text = (at : ℕ) × (at ≤ most_bytes) × (text ≡ number_line (codes "bad ") at)
+
+abbrev pub StrayText : List ℕ → Type 0
+StrayText text = (frame : List ℕ) × IsDatagram frame × (text ≡ hex_line (codes "stray ") frame)

@@ -1,3 +1,0 @@
-pub mod Holders
-pub mod TableRoutes
-pub mod InvRoutes

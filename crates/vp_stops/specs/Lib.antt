@@ -1,3 +1,0 @@
-pub mod Stopped
-pub mod Laws
-pub mod Worked

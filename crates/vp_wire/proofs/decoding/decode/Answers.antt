@@ -1,0 +1,12 @@
+use Rattle.vp_text.proofs.Whole.{whole_ok, whole_err}
+use Rattle.vp_wire.proofs.Frames.{frame_exact}
+use Rattle.vp_wire.proofs.decoding.decode.Goals as goal
+
+pub overflow_sub-result : goal.overflow_sub-result
+overflow_sub-result c = (whole_err frame_exact c.args.bytes.now c.in-Err-Unexpected.e.left (rw (c.new-cursor.ensures, c.in-Err-Unexpected.field-0-is) at c.in-Err-Unexpected.ensures)).0
+
+pub returns-in-Ok : goal.returns-in-Ok
+returns-in-Ok c = whole_ok frame_exact c.args.bytes.now c.in-Ok.frame c.read_whole.new.cursor (rw c.new-cursor.ensures at c.in-Ok.ensures)
+
+pub returns-in-Err-Unexpected : goal.returns-in-Err-Unexpected
+returns-in-Err-Unexpected c = (whole_err frame_exact c.args.bytes.now c.in-Err-Unexpected.e.left (rw (c.new-cursor.ensures, c.in-Err-Unexpected.field-0-is) at c.in-Err-Unexpected.ensures)).1
