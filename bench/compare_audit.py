@@ -6,7 +6,7 @@ usage: compare_audit.py PROGRAM [SEED [COUNT [REFERENCE]]]
 PROGRAM is the built vpdb, REFERENCE the folder of the reference implementation. Each seed makes one schedule: half of them are of
 `compare_replay.py`, whole, with 1 to 16 sites and crashes in doubt; in one of twenty a site is restarted until its log has a checkpoint,
 or nearly; the others are busy ones that end within a commit. `vpdb logs` gives the logs, and what a crash or a fault may make of them is
-done to some: a batch behind the closed gate, whole or in part, a half that is cut, damaged, or not there. Then some of the sites are audited,
+done to some: a batch after the closed gate, whole or in part, a half that is cut, damaged, or not there. Then some of the sites are audited,
 mostly several, also with a site that the catalogue lacks. Bytes and exit statuses have to agree, and the bytes of the logs have to stay. Seeds are
 shared out over the processors; the first that differs is printed, and ends the run.
 """
@@ -47,7 +47,7 @@ def torn(draw, half, other):
     """What a crash or a fault may leave of a half."""
     kind = draw.randrange(6)
     tail = other[1 : draw.randrange(1, len(other) + 1)] if other else b""
-    if kind < 3 and half:  # a beginning of a batch behind the closed gate
+    if kind < 3 and half:  # a beginning of a batch after the closed gate
         return half + tail
     if kind == 3 and half:
         return half[: draw.randrange(len(half))]

@@ -4,7 +4,7 @@
 usage: compare_recover.py PROGRAM [SEED [COUNT [REFERENCE]]]
 
 PROGRAM is built by `build.py answer_logs PROGRAM`; REFERENCE is the folder of the reference implementation's modules. An input is
-half 0 of a log and a batch. A third of the halves are whole: gates and batches up to a closed gate, and behind it nothing, any
+half 0 of a log and a batch. A third of the halves are whole: gates and batches up to a closed gate, and after it nothing, any
 bytes, or what an append leaves that stopped before its gate was opened. The others are damaged: cut, joined, a bit, a byte or a
 run of bytes changed, put in or taken out. Then each cut of a short half of each seed up to the twentieth is an input, and each of
 its bits flipped. Of each the answers have to agree: the half and the place of the fault, or the batches, each record with its
@@ -36,14 +36,14 @@ class Halves:
             data = self.records.encode_batch(self.draws.batch())
         return data
 
-    def behind_a_gate(self, longest):
+    def after_a_gate(self, longest):
         data = self.bytes_of_batch(longest)
         return len(data).to_bytes(8, "big") + data
 
     def whole(self, longest=LONGEST):
         count = self.draw.choice([0, 1, 1, 2, 3])
-        half = b"".join(b"\1" + self.behind_a_gate(longest) for _ in range(count)) + self.draw.choice([b"\0", b"\0", b"\2", b"\xff"])
-        left = [b"", b"\1", bytes(self.draw.choices(range(256), k=20)), self.behind_a_gate(longest) + b"\0"]
+        half = b"".join(b"\1" + self.after_a_gate(longest) for _ in range(count)) + self.draw.choice([b"\0", b"\0", b"\2", b"\xff"])
+        left = [b"", b"\1", bytes(self.draw.choices(range(256), k=20)), self.after_a_gate(longest) + b"\0"]
         return half + self.draw.choice(left)
 
     def drawn(self):
@@ -55,7 +55,7 @@ class Halves:
 
     def each_damage(self):
         """The inputs of a short half of two batches, cut at each place, and with each of its bits flipped."""
-        half = b"".join(b"\1" + self.behind_a_gate(SHORT) for _ in range(2)) + b"\0"
+        half = b"".join(b"\1" + self.after_a_gate(SHORT) for _ in range(2)) + b"\0"
         batch = self.bytes_of_batch(SHORT)
         for place, byte in enumerate(half):
             yield half[:place], batch

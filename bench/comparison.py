@@ -24,7 +24,7 @@ def modules(folder, *names):
 
 
 def joined(pieces):
-    """The pieces of bytes, each behind the count of its bytes in 16 bits."""
+    """The pieces of bytes, each after the count of its bytes in 16 bits."""
     return b"".join(len(piece).to_bytes(2, "big") + piece for piece in pieces)
 
 
@@ -53,7 +53,7 @@ def in_rounds(seeds, many, drawn):
 def compare_pieces(program, rounds, right, what, head=()):
     """Compares the two pieces that the program answers to each input with what `right` gives, and tells how many were refused.
 
-    An input is a tuple of pieces. Those of a round are given to one run, behind the pieces of the head. The answer is the exit status
+    An input is a tuple of pieces. Those of a round are given to one run, after the pieces of the head. The answer is the exit status
     of the comparison: 1 where an input tells the two apart.
     """
     count, places = 0, {}

@@ -9,17 +9,17 @@ client at site 1, in chunks of 12, each beside as many plain fsyncs or round tri
 which of them comes first changes. What counts is the median of the chunks' ratios. It says little on a busy machine, where one fsync may
 take fifty times as long as the next.
 
-A write is `begin`, `write` and `commit`. Each append to a log is two syncs: one of the batch with a closed gate behind it, one of the
+A write is `begin`, `write` and `commit`. Each append to a log is two syncs: one of the batch with a closed gate after it, one of the
 gate as it is opened. On the way from the first call to the answer of the commit there are
 
 - 4 syncs: both other sites at once force their yes before they vote (2), then site 1 forces the commit before it tells it (2);
 - 5 round trips: three of the client to site 1, one of the write to the other sites, one of the prepare.
 
-Behind the answer each other site forces the outcome before it acknowledges it (2 at both at once), and site 1 each of the two
-acknowledgements (4). Where the client goes on at once, its next write is answered behind all of them, so writes in a row cost 10 syncs
+After the answer each other site forces the outcome before it acknowledges it (2 at both at once), and site 1 each of the two
+acknowledgements (4). Where the client goes on at once, its next write is answered after all of them, so writes in a row cost 10 syncs
 each. Both are timed: alone, with all queues empty before, against 4 plain fsyncs, and in a row, against 10.
 
-A plain fsync is that of a file in the same folder behind a write of as many bytes as the batch has, or of one byte for its gate. As two
+A plain fsync is that of a file in the same folder after a write of as many bytes as the batch has, or of one byte for its gate. As two
 fsyncs at once are another thing than one, writes alone are also told as a multiple of fsyncs in the same pattern: two threads, two
 each, and then two more.
 
@@ -47,7 +47,7 @@ MODULES = ("base", "client", "records", "wire")
 
 
 class Plain:
-    """A file to which pieces are written, with an fsync behind each."""
+    """A file to which pieces are written, with an fsync after each."""
 
     def __init__(self, folder, name):
         self._file = os.open(os.path.join(folder, name), os.O_RDWR | os.O_CREAT)
@@ -62,7 +62,7 @@ class Plain:
 
 
 def lengths(reference):
-    """How many bytes the append of each record of a write has, with the length before it and the gate behind it."""
+    """How many bytes the append of each record of a write has, with the length before it and the gate after it."""
     records, base = reference.records, reference.base
     txn, writes = base.TxnId(1, 1, 1), ((0, base.Change("1000")),)
     made = {

@@ -30,7 +30,7 @@ def damaged(draw, data, other):
         return data[:place]
     if kind == 1:  # a bit flipped
         return data[:place] + bytes([data[place] ^ 1 << draw.randrange(8)]) + data[place + 1 :]
-    if kind == 2:  # a byte put in, often behind the end
+    if kind == 2:  # a byte put in, often after the end
         place = draw.choice([place, len(data)])
         return data[:place] + bytes([draw.randrange(256)]) + data[place:]
     if kind == 3:  # a byte taken out

@@ -7,7 +7,7 @@ PROGRAM is the built vpdb. There are COUNT inputs, 1,000 if nothing is said, for
 (of `compare_replay.py`), their traces with histories, and their catalogues, with one to four damages. Bits, bytes, runs of bytes, words and
 lines are changed, moved, cut, put in and taken out, and numbers are as large as they may be, or larger. A run has to end with a status that
 `docs/FORMATS.md` has for such an input, and to print last what stands there beside it; a fault has to be at a line and a byte that the
-input has, or right behind them.
+input has, or right after them.
 
 Each 1,000 inputs it prints the first seed that is still to come and the ends so far, so that a run that is ended has told what it did.
 """
@@ -62,7 +62,7 @@ def hurt(draw, text, other):
 
 
 def is_place(text, line, byte):
-    """Has the text such a line, and the line such a byte, or are they right behind?"""
+    """Has the text such a line, and the line such a byte, or are they right after?"""
     lines = text.split(b"\n")
     return 1 <= line <= len(lines) + 1 and 1 <= byte <= len((lines + [b""])[line - 1]) + 1
 

@@ -1,12 +1,12 @@
 #!/usr/bin/env python3
-"""Follows pages word for word: runs their blocks of bash in one shell, and compares what each line prints with what stands behind it.
+"""Follows pages word for word: runs their blocks of bash in one shell, and compares what each line prints with what stands after it.
 
 usage: follow_pages.py VPDB [--times N] [--at-once N] PAGE..
 
 A page is a file of the repository, such as README.md or docs/CLUSTER.md. The blocks that begin with ```bash of all pages are run one
-after the other, in one shell that begins in a folder with the repository's `operate` and `docs`, and VPDB as crates/vpdb/out/vpdb. What stands behind
+after the other, in one shell that begins in a folder with the repository's `operate` and `docs`, and VPDB as crates/vpdb/out/vpdb. What stands after
 a `#` is what the line prints on its standard output, if it begins as something that is printed (`PRINTED` here); `..` in it stands for anything within a
-line, `, three times` for three such lines, and a line that is a `#` alone goes on. Behind any other `#`, as behind none, nothing is printed.
+line, `, three times` for three such lines, and a line that is a `#` alone goes on. After any other `#`, as after none, nothing is printed.
 
 Blocks that begin with ```bash root are of the page where the script runs as root and finds ip and nft. There each run has a network, processes and a folder of its own (unshare), so that --at-once of them (8) may go on side by side;
 else one goes on after the other, and that is said. Prints the first lines that differ of each run, how many runs had none, and ends with status 1 where one had.
@@ -36,7 +36,7 @@ ALONE = ["unshare", "--net", "--pid", "--fork", "--kill-child", "--mount-proc", 
 
 
 class Line:
-    """A command of a page, which may take several lines, and what stands behind it."""
+    """A command of a page, which may take several lines, and what stands after it."""
 
     def __init__(self, page, number):
         self.page, self.number = page, number
@@ -87,7 +87,7 @@ def lines_of(page, fences):
 
 
 def script_of(lines):
-    """The commands, each behind the line that says which one it is."""
+    """The commands, each after the line that says which one it is."""
     return "".join(f"printf '\\001%s\\n' {place}\n{line.command}" for place, line in enumerate(lines)) + "printf '\\001over\\n'\n"
 
 

@@ -6,7 +6,7 @@ gate_minutes.py [FOLDER]
 Runs `rt ci` in FOLDER (here, if none is named) from nothing, and looks at its processes twice a second: where the kit's `rt ci` keeps what
 has passed, it is told to prove all anew. The unit is the processor time of the first check of `vp_base` in the same run, since machines
 differ, and since other work makes each job dearer; the last line of the table says how many seconds that was. The run's own output goes
-to standard error, the table, in Markdown, to standard output, and behind it each edit with its cost, the dearest first; so it is where
+to standard error, the table, in Markdown, to standard output, and after it each edit with its cost, the dearest first; so it is where
 this script is ended before the run. Before `vp_base` was checked, the unit is a second. The status is the run's.
 """
 

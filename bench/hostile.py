@@ -141,7 +141,7 @@ def run(program, reference, seed, count, folder):
         working, said = calls_before(caller)
         log, sockets = node.halves(), {0: bound(), 2: bound(ports[2]), 3: bound(ports[3])}
         begin = time.monotonic()
-        counts = flood(hostile, count, sockets, ports[SITE], Recording(life.path, behind=True))
+        counts = flood(hostile, count, sockets, ports[SITE], Recording(life.path, after=True))
         seconds = time.monotonic() - begin
         insist_on_state(node, caller, working, said, log)
     print(f"seed {seed}: {count} datagrams were sent, {counts.total()} arrived: {counts['bad']} bad, {counts['stray']} stray;"

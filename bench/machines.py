@@ -61,7 +61,7 @@ class Trial:
         subprocess.run(script("machines", self.path, self.addresses, *words), check=True)
 
     def _call(self, site, lines, name):
-        words = script("call", self.path, "--site", site, "--limit", LIMIT, "--vpdb", self.program, behind=on(site))
+        words = script("call", self.path, "--site", site, "--limit", LIMIT, "--vpdb", self.program, after=on(site))
         return Caller(words, lines, f"{self.nodes.folder}/{name}{site}")
 
     def _harm(self):
@@ -127,7 +127,7 @@ class Trial:
             try:
                 for node in self.nodes.values():
                     node.start_wholly()
-                beats = [subprocess.Popen(script("beat", self.path, "--only", site, "--probe", 0.7, behind=on(site)), stdout=subprocess.DEVNULL) for site in SITES]
+                beats = [subprocess.Popen(script("beat", self.path, "--only", site, "--probe", 0.7, after=on(site)), stdout=subprocess.DEVNULL) for site in SITES]
                 outcomes = self._do_transfers()
                 balances = self._balances()
                 for beat in beats:

@@ -75,11 +75,11 @@ class Life:
 
 
 class Recording:
-    """The lines of a file that grows, one after the other: from its start on, or only those that come behind what it has now."""
+    """The lines of a file that grows, one after the other: from its start on, or only those that come after what it has now."""
 
-    def __init__(self, path, behind=False):
+    def __init__(self, path, after=False):
         self._file = open(path, "rb")
-        if behind:
+        if after:
             self._file.seek(0, 2)
 
     def next(self):
@@ -93,7 +93,7 @@ class Recording:
         return line[:-1].decode("ascii")
 
     def is_over(self):
-        """Is there nothing behind the lines that were taken?"""
+        """Is there nothing after the lines that were taken?"""
         return not self._file.read()
 
 

@@ -18,9 +18,9 @@ def reference_in(folder):
     return SimpleNamespace(**dict(zip(MODULES, modules(folder, *MODULES))), merge_words=[f"{folder}/vporacle", "merge"])
 
 
-def script(name, *words, behind=()):
-    """The words that run a script of `operate`, behind others such as those of a network namespace."""
-    return [*behind, sys.executable, str(OPERATE / name), *map(str, words)]
+def script(name, *words, after=()):
+    """The words that run a script of `operate`, after others such as those of a network namespace."""
+    return [*after, sys.executable, str(OPERATE / name), *map(str, words)]
 
 
 class Caller:

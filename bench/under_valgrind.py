@@ -5,7 +5,7 @@ usage: under_valgrind.py PROGRAM [ROWS [TOOL ..]]
 
 PROGRAM is the built vpdb. ROWS has a folder for each input, with the words of the command line, the input, the output and the exit status
 in the files `words`, `stdin`, `stdout` and `status`. Inputs of the commands that speak to others are left out. Where a word TOOL is given, it and
-those behind it are what PROGRAM is run under, in place of valgrind; with `env` it runs alone, which suits a PROGRAM that has such a test built in.
+those after it are what PROGRAM is run under, in place of valgrind; with `env` it runs alone, which suits a PROGRAM that has such a test built in.
 
 In no run may valgrind find a byte that is read and was not written or lies outside, or a block that is lost; it tells them on the standard
 error, which has to stay empty. The inputs whose output or status is not that of ROWS are named at the end: some may be of later programs.

@@ -80,7 +80,7 @@ class Reply(NamedTuple):
     kind: int
     site: int
     view: Optional[View]
-    txn: bytes  # that has begun or is unknown, as it stands in a frame
+    txn: bytes  # that has begun or is unknown, as it is in a frame
 
 
 def read_reply(data):

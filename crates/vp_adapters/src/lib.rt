@@ -10,4 +10,4 @@ mod words;
 pub use log_files::LogFiles;
 pub use socket::Socket;
 pub use streams::ClosedStreams;
-pub use words::words_behind;
+pub use words::words_after;

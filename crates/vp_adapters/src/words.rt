@@ -7,7 +7,7 @@ use vp_base::{NoMemory, Word};
 
 /// Reads the words of the command line after the `first` ones, of which the program's name is one. The list is empty, which is no
 /// command, if a word isn't UTF-8.
-pub fn words_behind<R: Env + Alloc<A = Global>>(
+pub fn words_after<R: Env + Alloc<A = Global>>(
     rt: &R,
     first: usize,
 ) -> Result<Vec<Word>, NoMemory> {

@@ -7,7 +7,7 @@ ghost use Rattle.vp_audit.specs.Audited.{can_of, found, is_dated, newest_of, row
 
 use vp_base::{CopyOf, Doubt, NoMemory, RecId, Seq, SiteId, Sites, Stored, TxnId, ViewId};
 use vp_catalog::Catalog;
-use vp_lists::{Keyed, is_same_txn, put_in, txn_comes_before, view_comes_before};
+use vp_lists::{HasKey, is_same_txn, put_in, txn_comes_before, view_comes_before};
 use vp_records::Durable;
 
 /// Whether the value of a record is sure.
@@ -50,7 +50,7 @@ pub type Report = Seq<Found>;
 /// Sites with their durable parts, ascending by site.
 pub type Parts = Seq<(SiteId, Durable)>;
 
-impl Keyed for DoubtAt {
+impl HasKey for DoubtAt {
     ghost use Rattle.vp_audit.specs.Audited.{same_row, row_before};
 
     ghost same = { same_row };

@@ -76,14 +76,14 @@ impl TxnId {
         ensures { Appends result out.old.items (txn_text self.now) out.new.items }
     {
         self.site.print(out)?;
-        print_behind(out, b'.', self.life)?;
-        print_behind(out, b'.', self.seq)
+        print_after(out, b'.', self.life)?;
+        print_after(out, b'.', self.seq)
     }
 }
 
 /// Appends a mark and then the number. After an error a beginning of them may have been appended.
 #[tactic(auto, using(vp_text::proofs::Printing::printing))]
-pub fn print_behind(out: &mut Vec<u8>, mark: u8, number: u32) -> Result<(), NoMemory>
+pub fn print_after(out: &mut Vec<u8>, mark: u8, number: u32) -> Result<(), NoMemory>
     ensures { Appends result out.old.items (mark ∷ decimal number) out.new.items }
 {
     out.push(mark)?;

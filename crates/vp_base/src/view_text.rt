@@ -11,7 +11,7 @@ use crate::fault::BadName;
 use crate::ids::ViewId;
 use crate::limits::LAST_SITE;
 use crate::memory::NoMemory;
-use crate::txn_text::print_behind;
+use crate::txn_text::print_after;
 use vp_text::{Cursor, Unexpected, print_number};
 
 impl ViewId {
@@ -65,7 +65,7 @@ impl ViewId {
         ensures { Appends result out.old.items (view_text self.now) out.new.items }
     {
         print_number(out, self.number)?;
-        print_behind(out, b'@', u32::from(self.site))
+        print_after(out, b'@', u32::from(self.site))
     }
 }
 

@@ -19,28 +19,28 @@ pub shifted : (x count good : ℕ) → x / 2 ^ (8 * (count - 1 - good)) ≡ x / 
 shifted x count good = ap (λ (p : ℕ). x / p) (ap (λ (k : ℕ). 2 ^ (8 * k)) (omega arith) ∙ shift_bytes (count - (good + 1)))
 
 -- the digits after the first `good` bytes
-abbrev Behind : ℕ → ℕ → ℕ → ℕ → ℕ → List ℕ → Result (ℕ × List ℕ) ℕ
-Behind low high count good front bytes = digits_within_at low high (count - good) front (drop good bytes)
+abbrev Following : ℕ → ℕ → ℕ → ℕ → ℕ → List ℕ → Result (ℕ × List ℕ) ℕ
+Following low high count good front bytes = digits_within_at low high (count - good) front (drop good bytes)
 
 one_more : (count good : ℕ) → good < count → count - good ≡ suc (count - (good + 1))
 one_more count good lt = omega arith
 
-behind_next : (low high count good front : ℕ) (bytes : List ℕ) → good < count → good < length bytes
-    → Behind low high count good front bytes ≡ digits_within_at low high (suc (count - (good + 1))) front (get_or bytes good 0 ∷ drop (good + 1) bytes)
-behind_next low high count good front bytes lt inside = rw (one_more count good lt, drop_more bytes good 0 inside) refl
+after_next : (low high count good front : ℕ) (bytes : List ℕ) → good < count → good < length bytes
+    → Following low high count good front bytes ≡ digits_within_at low high (suc (count - (good + 1))) front (get_or bytes good 0 ∷ drop (good + 1) bytes)
+after_next low high count good front bytes lt inside = rw (one_more count good lt, drop_more bytes good 0 inside) refl
 
 pub digit_goes : (low high count good front : ℕ) (bytes : List ℕ) → good < count → good < length bytes → get_or bytes good 0 < 256
     → low / 256 ^ (count - (good + 1)) ≤ front * 256 + get_or bytes good 0 → front * 256 + get_or bytes good 0 ≤ high / 256 ^ (count - (good + 1))
-    → Behind low high count good front bytes ≡ Behind low high count (good + 1) (front * 256 + get_or bytes good 0) bytes
+    → Following low high count good front bytes ≡ Following low high count (good + 1) (front * 256 + get_or bytes good 0) bytes
 digit_goes low high count good front bytes lt inside byte above below =
     let n = count - (good + 1) in
     let c = get_or bytes good 0 in
     let fits : range_fits low high n front c ≡ true = and_from (is_byte c) _ (lt-ltb c 256 byte) (within_from (low / 256 ^ n) (high / 256 ^ n) (front * 256 + c) above below) in
-    behind_next low high count good front bytes lt inside ∙ rw fits refl
+    after_next low high count good front bytes lt inside ∙ rw fits refl
 
 pub digit_fails : (low high count good front : ℕ) (bytes : List ℕ) → good < count → good < length bytes
     → (front * 256 + get_or bytes good 0 < low / 256 ^ (count - (good + 1))) ⊎ (high / 256 ^ (count - (good + 1)) < front * 256 + get_or bytes good 0)
-    → Behind low high count good front bytes ≡ Err (length bytes - good)
+    → Following low high count good front bytes ≡ Err (length bytes - good)
 digit_fails low high count good front bytes lt inside outside =
     let n = count - (good + 1) in
     let c = get_or bytes good 0 in
@@ -50,14 +50,14 @@ digit_fails low high count good front bytes lt inside outside =
     let f : (b : Bool) → range_fits low high n front c ≡ b → b ≡ false = λ b. elim b as (λ b. range_fits low high n front c ≡ b → b ≡ false) [ true ↦ λ e. absurd (no e) | false ↦ λ e. refl ] in
     let fails : range_fits low high n front c ≡ false = f (range_fits low high n front c) refl in
     let left : length (c ∷ drop (good + 1) bytes) ≡ length bytes - good = omega (arith, length-drop (good + 1) bytes) in
-    behind_next low high count good front bytes lt inside ∙ rw (fails, left) refl
+    after_next low high count good front bytes lt inside ∙ rw (fails, left) refl
 
-pub digit_short : (low high count good front : ℕ) (bytes : List ℕ) → good < count → good ≡ length bytes → Behind low high count good front bytes ≡ Err (length bytes - good)
+pub digit_short : (low high count good front : ℕ) (bytes : List ℕ) → good < count → good ≡ length bytes → Following low high count good front bytes ≡ Err (length bytes - good)
 digit_short low high count good front bytes lt over =
     let none : 0 ≡ length bytes - good = omega (arith, over) in
     rw (one_more count good lt, drop_all good bytes (omega (arith, over)), ← none) refl
 
-pub digits_all : (low high count good front : ℕ) (bytes : List ℕ) → good ≡ count → Behind low high count good front bytes ≡ Ok (front, drop good bytes)
+pub digits_all : (low high count good front : ℕ) (bytes : List ℕ) → good ≡ count → Following low high count good front bytes ≡ Ok (front, drop good bytes)
 digits_all low high count good front bytes all =
     let none : count - good ≡ 0 = omega (arith, all) in
     rw none refl

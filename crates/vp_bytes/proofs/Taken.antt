@@ -19,14 +19,14 @@ record Split (n : ℕ) (xs : List ℕ) : Type 0 where
   parts : xs ≡ front ++ rest
   count : length front ≡ n
   bytes : AllByRecursion IsByte front
-  behind : rest ≡ drop n xs
+  following : rest ≡ drop n xs
 
 split : (n : ℕ) (xs : List ℕ) → ((i : ℕ) → slice_index xs i < 256) → n ≤ length xs → Split n xs
-split zero xs each le = record { front = []; rest = xs; parts = refl; count = refl; bytes = tt; behind = refl }
+split zero xs each le = record { front = []; rest = xs; parts = refl; count = refl; bytes = tt; following = refl }
 split (suc n) [] each le = absurd (omega (arith, le))
 split (suc n) (x ∷ xs) each le =
     let w = split n xs (λ i. each (suc i)) (omega (arith, le)) in
-    record { front = x ∷ w.front; rest = w.rest; parts = ap (λ (t : List ℕ). x ∷ t) w.parts; count = ap (λ (k : ℕ). suc k) w.count; bytes = (each 0, w.bytes); behind = w.behind }
+    record { front = x ∷ w.front; rest = w.rest; parts = ap (λ (t : List ℕ). x ∷ t) w.parts; count = ap (λ (k : ℕ). suc k) w.count; bytes = (each 0, w.bytes); following = w.following }
 
 free_ends : {A : Type 0} {L : A → List ℕ → Type 0} → IsFree L → (a : A) (text rest : List ℕ) → L a text → (b : A) (r : List ℕ) → L b (text ++ r) → Apart r rest
 free_ends free a text rest la b [] lb = tt
@@ -43,7 +43,7 @@ number_taken some n least xs each le above =
     } in
     let read : digits_at some n 0 (w.front ++ w.rest) ≡ Ok (big_number n w.front, w.rest) =
     (number_exact some n least).again (big_number n w.front) w.front w.rest is (λ b r l. free_ends (number_free some n) (big_number n w.front) w.front w.rest is b r l) in
-    ap (digits_at some n 0) w.parts ∙ read ∙ rw (number, ← w.behind) refl
+    ap (digits_at some n 0) w.parts ∙ read ∙ rw (number, ← w.following) refl
 
 pub number_short : (some : Bool) (n front : ℕ) (xs : List ℕ) → ((i : ℕ) → slice_index xs i < 256) → length xs < n → digits_at some n front xs ≡ Err 0
 number_short some zero front xs each lt = absurd (omega (arith, lt))

@@ -9,11 +9,11 @@ use Rattle.vp_text.specs.Printing.{Appends, is_begun}
 use Rattle.vp_text.proofs.Printing.{begun_none, begun_whole, begun_first, begun_then, begun_byte}
 
 -- the last part, after the others
-pub behind : {E : Type 0} (result : Result ⊤ E) (old front part text new : List ℕ) → text ≡ front ++ part → Appends result (old ++ front) part new → Appends result old text new
-behind (Ok x) old front part text new e a =
+pub following : {E : Type 0} (result : Result ⊤ E) (old front part text new : List ℕ) → text ≡ front ++ part → Appends result (old ++ front) part new → Appends result old text new
+following (Ok x) old front part text new e a =
     let whole : new ≡ old ++ text = a.whole ∙ append_assoc old front part ∙ ap (λ (t : List ℕ). old ++ t) (sym e) in
     record { whole = whole; begun = begun_whole old text new whole }
-behind (Err x) old front part text new e a =
+following (Err x) old front part text new e a =
     record { whole = tt; begun = subst (λ (t : List ℕ). is_begun old t new ≡ true) (sym e) (begun_then old front part new a.begun) }
 
 -- only the first parts

@@ -7,7 +7,7 @@ ghost use Rattle.vp_bytes.specs.Codes.{code_at};
 use vp_text::{Cursor, Unexpected};
 
 /// Kinds, each of which has one byte for its code.
-pub trait Coded: Sized {
+pub trait HasCode: Sized {
     // The kind that a code means.
     ghost kind: { ℕ → Option Self };
 
@@ -17,7 +17,7 @@ pub trait Coded: Sized {
 }
 
 /// Reads the code of a kind.
-pub fn read_coded<K: Coded>(cursor: &mut Cursor) -> Result<K, Unexpected>
+pub fn read_coded<K: HasCode>(cursor: &mut Cursor) -> Result<K, Unexpected>
     ensures { Reads (λ k. k) (λ e. e.left) result cursor.new (code_at K.kind cursor.old) }
 {
     let rest = cursor.rest();

@@ -48,13 +48,13 @@ fn read_copy(
     alloc: Global,
     cursor: &mut Cursor,
     least: u16,
-    behind: u16,
+    following: u16,
 ) -> Result<(RecId, Stored), LineFault>
-    requires { least + behind ≤ 255 }
-    ensures read { Tries (λ c. c) line_left result cursor.new (copy_at behind least cursor.old) }
-    ensures range { IfOk result (λ c. (least ≤ c.0) × (c.0 ≤ 255 - behind)) }
+    requires { least + following ≤ 255 }
+    ensures read { Tries (λ c. c) line_left result cursor.new (copy_at following least cursor.old) }
+    ensures range { IfOk result (λ c. (least ≤ c.0) × (c.0 ≤ 255 - following)) }
 {
-    let rec = read_byte(cursor, least as u8, (255 - behind) as u8)?;
+    let rec = read_byte(cursor, least as u8, (255 - following) as u8)?;
     let value = read_value(alloc, cursor)?;
     let date = read_view(cursor)?;
     Ok((RecId::new(rec), Stored { value, date }))

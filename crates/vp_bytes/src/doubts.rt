@@ -49,15 +49,15 @@ fn read_doubt(
     alloc: Global,
     cursor: &mut Cursor,
     last: Option<TxnId>,
-    behind: u64,
+    following: u64,
 ) -> Result<Doubt, LineFault>
     requires last { IfSome last IsTxn }
-    requires room { next_rank last + behind ≤ last_rank }
-    ensures read { Tries (λ d. d) line_left result cursor.new (doubt_at behind (next_rank last) cursor.old) }
+    requires room { next_rank last + following ≤ last_rank }
+    ensures read { Tries (λ d. d) line_left result cursor.new (doubt_at following (next_rank last) cursor.old) }
     ensures txn { IfOk result (λ d. IsTxn d.txn) }
-    ensures range { IfOk result (λ d. (next_rank last ≤ rank d.txn) × (rank d.txn + behind ≤ last_rank)) }
+    ensures range { IfOk result (λ d. (next_rank last ≤ rank d.txn) × (rank d.txn + following ≤ last_rank)) }
 {
-    let txn = read_ascending_txn(cursor, last, behind)?;
+    let txn = read_ascending_txn(cursor, last, following)?;
     let view = read_view(cursor)?;
     let writes = read_writes(alloc, cursor)?;
     Ok(Doubt { txn, view, writes })

@@ -16,7 +16,7 @@ mod reading;
 mod txn_ranges;
 mod words;
 
-pub use code::{Coded, read_coded};
+pub use code::{HasCode, read_coded};
 pub use copies::{put_copies, put_copy, read_copies};
 pub use decisions::{put_decisions, read_decisions};
 pub use doubts::{put_doubt, put_doubts, read_doubts};

@@ -64,12 +64,12 @@ fn read_some_recs(alloc: Global, cursor: &mut Cursor, count: u8) -> Result<Recs,
 }
 
 /// Reads a record from `least` on that leaves room for the others after it.
-fn read_rec_from(cursor: &mut Cursor, least: u16, behind: u8) -> Result<u8, Unexpected>
-    requires { least + behind ≤ 255 }
-    ensures read { Reads (λ x. x) (λ e. e.left) result cursor.new (ascending_at 255 behind least cursor.old) }
-    ensures range { IfOk result (λ x. (least ≤ x) × (x ≤ 255 - behind)) }
+fn read_rec_from(cursor: &mut Cursor, least: u16, following: u8) -> Result<u8, Unexpected>
+    requires { least + following ≤ 255 }
+    ensures read { Reads (λ x. x) (λ e. e.left) result cursor.new (ascending_at 255 following least cursor.old) }
+    ensures range { IfOk result (λ x. (least ≤ x) × (x ≤ 255 - following)) }
 {
-    read_byte(cursor, least as u8, 255 - behind)
+    read_byte(cursor, least as u8, 255 - following)
 }
 
 /// Reads a count up to 64 and then as many writes, ascending by record.
@@ -104,13 +104,13 @@ fn read_write(
     alloc: Global,
     cursor: &mut Cursor,
     least: u16,
-    behind: u8,
+    following: u8,
 ) -> Result<(RecId, Value), LineFault>
-    requires { least + behind ≤ 255 }
-    ensures read { Tries (λ w. w) line_left result cursor.new (write_at behind least cursor.old) }
-    ensures range { IfOk result (λ w. (least ≤ w.0) × (w.0 ≤ 255 - behind)) }
+    requires { least + following ≤ 255 }
+    ensures read { Tries (λ w. w) line_left result cursor.new (write_at following least cursor.old) }
+    ensures range { IfOk result (λ w. (least ≤ w.0) × (w.0 ≤ 255 - following)) }
 {
-    let rec = read_rec_from(cursor, least, behind)?;
+    let rec = read_rec_from(cursor, least, following)?;
     let value = read_value(alloc, cursor)?;
     Ok((RecId::new(rec), value))
 }

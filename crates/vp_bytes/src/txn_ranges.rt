@@ -71,15 +71,15 @@ fn seq_to(high: &TxnId, site: u8, life: u32) -> u32
 pub fn read_ascending_txn(
     cursor: &mut Cursor,
     last: Option<TxnId>,
-    behind: u64,
+    following: u64,
 ) -> Result<TxnId, Unexpected>
     requires last { IfSome last IsTxn }
-    requires room { next_rank last + behind ≤ last_rank }
-    ensures read { Reads (λ t. t) (λ e. e.left) result cursor.new (ascending_txn_at behind (next_rank last) cursor.old) }
+    requires room { next_rank last + following ≤ last_rank }
+    ensures read { Reads (λ t. t) (λ e. e.left) result cursor.new (ascending_txn_at following (next_rank last) cursor.old) }
     ensures txn { IfOk result IsTxn }
-    ensures range { IfOk result (λ t. (next_rank last ≤ rank t) × (rank t + behind ≤ last_rank)) }
+    ensures range { IfOk result (λ t. (next_rank last ≤ rank t) × (rank t + following ≤ last_rank)) }
 {
-    read_txn_between(cursor, &txn_above(last), &txn_below(behind))
+    read_txn_between(cursor, &txn_above(last), &txn_below(following))
 }
 
 /// The least transaction above the last one, if there is one.
@@ -125,15 +125,15 @@ fn next_txn(txn: TxnId) -> TxnId
     }
 }
 
-/// The highest transaction that leaves room for `behind` others after it.
-fn txn_below(behind: u64) -> TxnId
-    ensures { result ≡ ranked (last_rank - behind) }
+/// The highest transaction that leaves room for `following` others after it.
+fn txn_below(following: u64) -> TxnId
+    ensures { result ≡ ranked (last_rank - following) }
 {
     let most = u64::from(u32::MAX);
-    let lives = behind / most;
+    let lives = following / most;
     TxnId {
         site: SiteId::of(LAST_SITE - (lives / most) as u8),
         life: (most - lives % most) as u32,
-        seq: (most - behind % most) as u32,
+        seq: (most - following % most) as u32,
     }
 }

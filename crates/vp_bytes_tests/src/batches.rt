@@ -108,10 +108,10 @@ fn joined(alloc: Global, front: &[u8], bytes: &[u8]) -> Result<Vec<u8>, NoMemory
 fn rows_answered(alloc: Global, front: &[u8], rows: &[u8]) -> Result<usize, NoMemory> {
     let mut rest = rows;
     for row in 0..rows.len() {
-        let [count, answer, behind @ ..] = rest else {
+        let [count, answer, following @ ..] = rest else {
             return Ok(row);
         };
-        let (bytes, others) = behind.split_at(usize::from(*count).min(behind.len()));
+        let (bytes, others) = following.split_at(usize::from(*count).min(following.len()));
         let all = joined(alloc, front, bytes)?;
         if !has_answer(alloc, &all, *answer)? {
             return Ok(row);

@@ -4,13 +4,13 @@ use crate::durable::{decision_count, two_sites, txn};
 use std::alloc::Global;
 use std::process::Abort;
 use vp_base::{CopyOf, Decision, Decisions, SiteId, Sites};
-use vp_records::Decided;
+use vp_records::DecisionTable;
 
 /// Orders of decisions; the first one is that of transactions.
 const ORDERS: [[u32; 3]; 2] = [[1, 2, 3], [3, 1, 2]];
 
 /// Decisions on these transactions, each of which waits for the sites 2 and 3.
-fn given(rt: &impl Abort, alloc: Global, seqs: &[u32]) -> Decided {
+fn given(rt: &impl Abort, alloc: Global, seqs: &[u32]) -> DecisionTable {
     let mut list = Decisions::new(alloc);
     for seq in seqs {
         let decision = Decision {
@@ -19,7 +19,7 @@ fn given(rt: &impl Abort, alloc: Global, seqs: &[u32]) -> Decided {
         };
         list.push(decision).expect(rt, "memory");
     }
-    Decided::copied(&list).expect(rt, "memory")
+    DecisionTable::copied(&list).expect(rt, "memory")
 }
 
 #[test]

@@ -6,7 +6,7 @@ use vp_base::{
     Copies, CopyOf, Decisions, InDoubt, LogRecord, RecId, SiteId, Sites, Stored, TxnId, Value,
     ViewId, Writes,
 };
-use vp_records::{Decided, Durable};
+use vp_records::{DecisionTable, Durable};
 
 pub(crate) fn txn(seq: u32) -> TxnId {
     TxnId {
@@ -82,7 +82,7 @@ fn has(durable: &Durable, rec: u8, text: &[u8], number: u64) -> bool {
 }
 
 /// How many decisions there are.
-pub(crate) fn decision_count(rt: &impl Abort, decided: &Decided) -> usize {
+pub(crate) fn decision_count(rt: &impl Abort, decided: &DecisionTable) -> usize {
     let list = decided.list().expect(rt, "memory");
     list.as_slice().len()
 }

@@ -131,10 +131,10 @@ const LISTS: &[u8] = b"\
 fn rows_answered(alloc: Global, rows: &[u8]) -> Result<usize, NoMemory> {
     let mut rest = rows;
     for row in 0..rows.len() {
-        let [count, answer, behind @ ..] = rest else {
+        let [count, answer, following @ ..] = rest else {
             return Ok(row);
         };
-        let (bytes, others) = behind.split_at(usize::from(*count).min(behind.len()));
+        let (bytes, others) = following.split_at(usize::from(*count).min(following.len()));
         if place(alloc, bytes)?.unwrap_or(255) != usize::from(*answer) {
             return Ok(row);
         }

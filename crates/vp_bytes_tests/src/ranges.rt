@@ -245,10 +245,10 @@ fn answer(alloc: Global, field: Field, bytes: &[u8]) -> Option<usize> {
 fn rows_answered(alloc: Global, field: Field, rows: &[u8]) -> usize {
     let mut rest = rows;
     for row in 0..rows.len() {
-        let [count, expected, behind @ ..] = rest else {
+        let [count, expected, following @ ..] = rest else {
             return row;
         };
-        let (bytes, others) = behind.split_at(usize::from(*count).min(behind.len()));
+        let (bytes, others) = following.split_at(usize::from(*count).min(following.len()));
         if answer(alloc, field, bytes) != Some(usize::from(*expected)) {
             return row;
         }
@@ -384,11 +384,11 @@ fn copies_doubts_and_decisions_have_their_bytes(rt: HostRuntime) {
 }
 
 /// How many bytes are left at the fault of a transaction that must be above the last one and be followed by so many others.
-fn ascending_left(bytes: &[u8], last: Option<TxnId>, behind: u64) -> Option<usize>
+fn ascending_left(bytes: &[u8], last: Option<TxnId>, following: u64) -> Option<usize>
     requires last { IfSome last IsTxn }
-    requires room { next_rank last + behind ≤ last_rank }
+    requires room { next_rank last + following ≤ last_rank }
 {
-    match read_ascending_txn(&mut Cursor::new(bytes), last, behind) {
+    match read_ascending_txn(&mut Cursor::new(bytes), last, following) {
         Ok(_txn) => None,
         Err(e) => Some(e.left),
     }
@@ -396,7 +396,7 @@ fn ascending_left(bytes: &[u8], last: Option<TxnId>, behind: u64) -> Option<usiz
 
 #[test]
 #[tactic(auto, unfolding(vp_bytes::specs::Ranges::rank))]
-fn the_next_transaction_leaves_room_for_those_behind_it(rt: HostRuntime) {
+fn the_next_transaction_leaves_room_for_those_after_it(rt: HostRuntime) {
     let top = b"\x10\xff\xff\xff\xff\xff\xff\xff\xff";
     assert!(rt; ascending_left(top, None, 0).is_none());
     assert!(rt; ascending_left(top, None, 1) == Some(1));
@@ -404,7 +404,7 @@ fn the_next_transaction_leaves_room_for_those_behind_it(rt: HostRuntime) {
 
 #[test]
 #[tactic(auto, unfolding(vp_bytes::specs::Ranges::rank))]
-fn behind_the_last_of_a_life_comes_the_next_life(rt: HostRuntime) {
+fn after_the_last_of_a_life_comes_the_next_life(rt: HostRuntime) {
     let same = ascending_left(b"\x01\0\0\0\x01\0\0\0\x01", Some(txn(1, 1, u32::MAX)), 0);
     assert!(rt; same == Some(5));
     let next = ascending_left(b"\x01\0\0\0\x02\0\0\0\x01", Some(txn(1, 1, u32::MAX)), 0);
@@ -413,7 +413,7 @@ fn behind_the_last_of_a_life_comes_the_next_life(rt: HostRuntime) {
 
 #[test]
 #[tactic(auto, unfolding(vp_bytes::specs::Ranges::rank))]
-fn behind_the_last_of_a_site_comes_the_next_site(rt: HostRuntime) {
+fn after_the_last_of_a_site_comes_the_next_site(rt: HostRuntime) {
     let last = txn(1, u32::MAX, u32::MAX);
     let same = ascending_left(b"\x01\0\0\0\x02\0\0\0\x01", Some(last), 0);
     assert!(rt; same == Some(9));

@@ -2,7 +2,7 @@
 use Rattle.std.proofs.Common.{◌≡◌, ℕ, ◌<◌, List, [], ◌∷◌, length, Result, Ok, Err, refl, sym, ap, subst, ◌∙◌, arith}
 use Rattle.std.proofs.lemmas.Bool.{false≢true}
 use Rattle.vp_text.specs.Documents.{IsFaultyLine}
-use Rattle.vp_text.proofs.Determined.{Plain, plain, Stops, whole_same, bad_same, faulty_same, bad_not_faulty, bad_behind_all, whole_not_faulty}
+use Rattle.vp_text.proofs.Determined.{Plain, plain, Stops, whole_same, bad_same, faulty_same, bad_not_faulty, bad_after_all, whole_not_faulty}
 use Rattle.vp_model.specs.Catalogue.{Catalogue}
 use Rattle.vp_catalog.specs.declared.entry.Entry.{Entry}
 use Rattle.vp_catalog.specs.declared.entry.Entry.TheVariants as kind
@@ -44,7 +44,7 @@ ok_ok text c d h k =
 ok_bad : (text : List ℕ) (c : Catalogue) (line at : ℕ) → Answered text (Ok c) → IsBadEntry text line at → ⊥
 ok_bad text c line at h b =
     let s = text_of text c h in
-    let same = bad_behind_all nothing after EntryText Onward text (lines_plain text) s.lines s.lines_are line at b.bad in
+    let same = bad_after_all nothing after EntryText Onward text (lines_plain text) s.lines s.lines_are line at b.bad in
     no_site s.lines (omega (arith, ap length same.lines, b.owed (ap length same.rest))) (subst (λ (c : Catalogue). 0 < length c.sites) (sym s.says) h.0.some)
   where
     no_site : (es : List Entry) → length es ≡ 0 → 0 < length (all_said es).sites → ⊥

@@ -20,15 +20,15 @@ within result old first more new err begun = begun_err result old (first ++ more
 pub joined : (old first more mid new : List ℕ) → mid ≡ old ++ first → new ≡ mid ++ more → new ≡ old ++ (first ++ more)
 joined old first more mid new e whole = whole ∙ ap (λ (t : List ℕ). t ++ more) e ∙ append_assoc old first more
 
-pub behind : {E : Type 0} (result : Result ⊤ E) (old first more mid new : List ℕ) → mid ≡ old ++ first → Appends result mid more new → Appends result old (first ++ more) new
-behind (Ok x) old first more mid new e a =
+pub following : {E : Type 0} (result : Result ⊤ E) (old first more mid new : List ℕ) → mid ≡ old ++ first → Appends result mid more new → Appends result old (first ++ more) new
+following (Ok x) old first more mid new e a =
     record { whole = joined old first more mid new e a.whole; begun = begun_then old first more new (subst (λ (t : List ℕ). is_begun t more new ≡ true) e a.begun) }
-behind (Err x) old first more mid new e a = record { whole = a.whole; begun = begun_then old first more new (subst (λ (t : List ℕ). is_begun t more new ≡ true) e a.begun) }
+following (Err x) old first more mid new e a = record { whole = a.whole; begun = begun_then old first more new (subst (λ (t : List ℕ). is_begun t more new ≡ true) e a.begun) }
 
 -- the texts of a list's items, one after another: one more of them, after an error a beginning of one more, and all
 module _ {X : Type 0} (f : X → List ℕ) (xs : List X) (i : ℕ) where
-  pub item_behind : (x : X) (old mid new : List ℕ) → i < length xs → x ≡ get_or xs i x → mid ≡ old ++ flat_map f (take i xs) → new ≡ mid ++ f x → new ≡ old ++ flat_map f (take (i + 1) xs)
-  item_behind x old mid new lt is before e =
+  pub item_after : (x : X) (old mid new : List ℕ) → i < length xs → x ≡ get_or xs i x → mid ≡ old ++ flat_map f (take i xs) → new ≡ mid ++ f x → new ≡ old ++ flat_map f (take (i + 1) xs)
+  item_after x old mid new lt is before e =
       let one : flat_map f (x ∷ []) ≡ f x = append-nil (f x) in
       let more : flat_map f (take (i + 1) xs) ≡ flat_map f (take i xs) ++ f x =
       ap (λ (t : List X). flat_map f t) (take_more xs i x lt ∙ ap (λ (y : X). take i xs ++ y ∷ []) (sym is)) ∙ flat_map-append f (take i xs) (x ∷ []) ∙ ap (λ (t : List ℕ). flat_map f (take i xs) ++ t) one in

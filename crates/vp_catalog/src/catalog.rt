@@ -11,7 +11,7 @@ ghost use Rattle.vp_model.specs.Catalogue.{sites_of, find_record, weights_of, ho
 use crate::entry::Entry;
 use crate::fault::CatalogFault;
 use crate::others::{least_other, others_in};
-use crate::placed::{Placed, has_site, number_of};
+use crate::placed::{CatalogRecord, has_site, number_of};
 use indexmap::IndexSet;
 use std::alloc::Global;
 use std::marker::Model;
@@ -25,7 +25,7 @@ use vp_base::{
 pub struct Catalog {
     sites: Sites,
     ports: Vec<(SiteId, u16)>,
-    records: Vec<Placed>,
+    records: Vec<CatalogRecord>,
     names: IndexSet<Vec<u8>>,
 }
 
@@ -92,7 +92,7 @@ impl Catalog {
     }
 
     /// Appends a record. Where memory is lacking, the catalogue stays as it is.
-    fn add_record(&mut self, placed: Placed) -> Result<(), NoMemory>
+    fn add_record(&mut self, placed: CatalogRecord) -> Result<(), NoMemory>
         requires room { length self.old.records < 256 }
         requires allowed { IsRecord (sites_of self.old) placed }
         requires fresh { has_name self.old placed.name ≡ false }
@@ -179,7 +179,7 @@ impl Catalog {
     }
 
     /// The records, each at its place.
-    pub fn records(&self) -> &[Placed]
+    pub fn records(&self) -> &[CatalogRecord]
         ensures { result.now ≡ self.now.records }
     {
         &self.records
@@ -210,7 +210,7 @@ impl Catalog {
         }
     }
 
-    fn placed(&self, rec: RecId) -> Option<&Placed>
+    fn placed(&self, rec: RecId) -> Option<&CatalogRecord>
         ensures { option_copied result ≡ slice_get self.now.records rec }
     {
         self.records.get(usize::from(rec.get()))
@@ -365,7 +365,7 @@ pub fn members_of<'a>(held: Option<&'a View>, none: &'a Sites) -> &'a Sites
     }
 }
 
-fn copy_records(alloc: Global, records: &[Placed]) -> Result<Vec<Placed>, NoMemory>
+fn copy_records(alloc: Global, records: &[CatalogRecord]) -> Result<Vec<CatalogRecord>, NoMemory>
     ensures { IfOk result (λ copies. copies.items ≡ records.now) }
 {
     let mut copies = Vec::new(alloc);
@@ -378,7 +378,7 @@ fn copy_records(alloc: Global, records: &[Placed]) -> Result<Vec<Placed>, NoMemo
 /// The copies that a site has of these records, of which there are at most 256.
 fn copies_at(
     alloc: Global,
-    records: &[Placed],
+    records: &[CatalogRecord],
     site: SiteId,
 ) -> Result<Vec<(RecId, Stored)>, NoMemory>
     requires { length records.now ≤ 256 }

@@ -1,6 +1,6 @@
 //! The lines of a catalogue.
 
-use crate::placed::Placed;
+use crate::placed::CatalogRecord;
 use vp_base::SiteId;
 
 /// What a line of a catalogue says.
@@ -9,5 +9,5 @@ pub enum Entry {
     /// A site and its port.
     Site { site: SiteId, port: u16 },
     /// A record and the weights of its copies.
-    Record(Placed),
+    Record(CatalogRecord),
 }

@@ -10,16 +10,16 @@ use std::marker::Model;
 use vp_base::{CopyOf, Name, NoMemory, SiteId, Sites, Value};
 
 /// A record: its name, the value that each copy starts with, and the weights of its copies, ascending by holder.
-pub struct Placed {
+pub struct CatalogRecord {
     pub name: Name,
     pub start: Value,
     holders: Sites,
     weights: Vec<(SiteId, u16)>,
 }
 
-impl Drop for Placed {
+impl Drop for CatalogRecord {
     fn drop(self) {
-        let Placed {
+        let CatalogRecord {
             name: _,
             start: _,
             holders: _,
@@ -28,7 +28,7 @@ impl Drop for Placed {
     }
 }
 
-impl Model for Placed {
+impl Model for CatalogRecord {
     ghost use Rattle.std.specs.Prelude.{◌≡◌, ◌≤◌, length};
     ghost use Rattle.vp_model.specs.Catalogue.{RecordEntry};
     ghost use Rattle.vp_model.specs.Words.{keys};
@@ -40,10 +40,10 @@ impl Model for Placed {
     ghost invariant = { λ p. (p.holders ≡ keys p.weights.items) × (length p.weights.items ≤ 16) };
 }
 
-impl CopyOf for Placed {
-    fn copy_of(&self) -> Result<Placed, NoMemory> {
+impl CopyOf for CatalogRecord {
+    fn copy_of(&self) -> Result<CatalogRecord, NoMemory> {
         let alloc = *self.weights.allocator();
-        Placed::new(
+        CatalogRecord::new(
             alloc,
             self.name.copy_of()?,
             self.start.copy_of()?,
@@ -52,18 +52,18 @@ impl CopyOf for Placed {
     }
 }
 
-impl Placed {
+impl CatalogRecord {
     /// Makes a record with these weights, and the list of its holders, which takes memory.
     pub(crate) fn new(
         alloc: Global,
         name: Name,
         start: Value,
         weights: Vec<(SiteId, u16)>,
-    ) -> Result<Placed, NoMemory>
+    ) -> Result<CatalogRecord, NoMemory>
         requires { length weights.items ≤ 16 }
         ensures { IfOk result (λ placed. placed ≡ record { name = name; start = start; weights = weights.items }) }
     {
-        Ok(Placed {
+        Ok(CatalogRecord {
             name,
             start,
             holders: holders_of(alloc, &weights)?,

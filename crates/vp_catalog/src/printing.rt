@@ -6,7 +6,7 @@ ghost use Rattle.vp_text.specs.Printing.{Appends};
 ghost use Rattle.vp_model.specs.Texts.Schedule.{site_line, weight_text, record_line, catalogue_text};
 
 use crate::catalog::Catalog;
-use crate::placed::Placed;
+use crate::placed::CatalogRecord;
 use vp_base::{NoMemory, SiteId};
 use vp_text::print_number;
 
@@ -46,7 +46,7 @@ fn print_weights(out: &mut Vec<u8>, weights: &[(SiteId, u16)]) -> Result<(), NoM
 }
 
 /// Appends the value that each copy starts with, the weights of the copies, and a newline.
-fn print_copies(out: &mut Vec<u8>, placed: &Placed) -> Result<(), NoMemory>
+fn print_copies(out: &mut Vec<u8>, placed: &CatalogRecord) -> Result<(), NoMemory>
     ensures { Appends result out.old.items
         (placed.now.start ++ (flat_map weight_text placed.now.weights ++ 10 ∷ []))
         out.new.items }
@@ -57,7 +57,7 @@ fn print_copies(out: &mut Vec<u8>, placed: &Placed) -> Result<(), NoMemory>
     Ok(())
 }
 
-fn print_record(out: &mut Vec<u8>, placed: &Placed) -> Result<(), NoMemory>
+fn print_record(out: &mut Vec<u8>, placed: &CatalogRecord) -> Result<(), NoMemory>
     ensures { Appends result out.old.items (record_line placed.now) out.new.items }
 {
     out.extend_from_slice(b"record ")?;
@@ -66,7 +66,7 @@ fn print_record(out: &mut Vec<u8>, placed: &Placed) -> Result<(), NoMemory>
     print_copies(out, placed)
 }
 
-fn print_records(out: &mut Vec<u8>, records: &[Placed]) -> Result<(), NoMemory>
+fn print_records(out: &mut Vec<u8>, records: &[CatalogRecord]) -> Result<(), NoMemory>
     ensures { Appends result out.old.items (flat_map record_line records.now) out.new.items }
 {
     for placed in records {

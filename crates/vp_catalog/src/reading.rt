@@ -7,7 +7,7 @@ ghost use Rattle.vp_catalog.specs.EntryReading.{some_above, weight_at, weights_a
 
 use crate::catalog::Catalog;
 use crate::entry::Entry;
-use crate::placed::Placed;
+use crate::placed::CatalogRecord;
 use crate::site::parse_site;
 use std::alloc::Global;
 use vp_base::{LAST_SITE, LineFault, Name, SiteId, Value};
@@ -103,7 +103,7 @@ fn parse_record(alloc: Global, cursor: &mut Cursor, sites: &[SiteId]) -> Result<
     cursor.literal(b" ")?;
     let start = Value::parse(alloc, cursor)?;
     let weights = parse_weights(alloc, cursor, sites)?;
-    Ok(Entry::Record(Placed::new(alloc, name, start, weights)?))
+    Ok(Entry::Record(CatalogRecord::new(alloc, name, start, weights)?))
 }
 
 /// Reads a site above the last one, and its port.

@@ -4,7 +4,7 @@ use Rattle.std.specs.Prelude.{Option, Some, None}
 use Rattle.vp_model.specs.Types.{Answer, Call}
 use Rattle.vp_outside.specs.Links.{LinkState, Hands}
 use Rattle.vp_outside.specs.declared.datagram.Datagram.{Datagram}
-use Rattle.vp_outside.specs.declared.datagram.Handed.{Handed}
+use Rattle.vp_outside.specs.declared.datagram.Dispatch.{Dispatch}
 use Rattle.vp_outside.proofs.Passed.{hands_none, hands_then}
 use Rattle.vp_runs.specs.Asking.{call_datagram}
 use Rattle.vp_client.specs.Asked.{IsSent, Asks}
@@ -23,5 +23,5 @@ conversations_hand_over port site turns [] old new h = ([], hands_none old.hande
 conversations_hand_over port site turns (x ∷ more) old new h =
     let first = asked_sent port site turns x.0 x.1 old h.0 h.1 in
     let rest = conversations_hand_over port site turns more h.0 new h.2 in
-    let frame : Handed = record { after = old.given; datagram = call_datagram port site x.0 } in
+    let frame : Dispatch = record { after = old.given; datagram = call_datagram port site x.0 } in
     (frame ∷ rest.0, hands_then old.handed h.0.handed new.handed (frame ∷ []) rest.0 first rest.1, ap (λ (ds : List Datagram). call_datagram port site x.0 ∷ ds) rest.2)

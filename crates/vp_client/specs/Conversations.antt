@@ -3,7 +3,7 @@ use Rattle.std.specs.Prelude.{◌≡◌, ℕ, List, [], ◌∷◌, ◌++◌, map
 use Rattle.vp_model.specs.Types.{Answer, Call}
 use Rattle.vp_outside.specs.Links.{LinkState, Hands}
 use Rattle.vp_outside.specs.declared.datagram.Datagram.{Datagram}
-use Rattle.vp_outside.specs.declared.datagram.Handed.{Handed}
+use Rattle.vp_outside.specs.declared.datagram.Dispatch.{Dispatch}
 use Rattle.vp_runs.specs.Asking.{call_datagram}
 use Rattle.vp_client.specs.Asked.{Asks}
 use Rattle.vp_client.specs.declared.asking.AskFault.{AskFault}
@@ -38,4 +38,4 @@ ConversationsJoin = (port site turns : ℕ) (front back : List Exchange) (old mi
 -- A conversation hands over the frames of its calls, in order, one for each, and no others.
 abbrev pub ConversationsHandOver : Type 0
 ConversationsHandOver = (port site turns : ℕ) (exchanges : List Exchange) (old new : LinkState) → Conversed port site turns exchanges old new →
-    (handed : List Handed) × Hands old.handed new.handed handed × (map (λ (h : Handed). h.datagram) handed ≡ frames_of port site exchanges)
+    (handed : List Dispatch) × Hands old.handed new.handed handed × (map (λ (h : Dispatch). h.datagram) handed ≡ frames_of port site exchanges)

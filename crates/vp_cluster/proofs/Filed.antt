@@ -7,11 +7,11 @@ use Rattle.std.proofs.lemmas.Option.{slice_get_read}
 use Rattle.bytes.proofs.Ranges.{drop-take_less}
 use Rattle.vp_outside.specs.declared.datagram.Datagram.{Datagram}
 use Rattle.vp_cluster.specs.declared.letter.Letter.{Letter}
-use Rattle.vp_cluster.specs.declared.sent_letters.Filed.{Filed}
+use Rattle.vp_cluster.specs.declared.sent_letters.LetterSpan.{LetterSpan}
 use Rattle.vp_cluster.specs.Letters.{in_order, sent_from, start_in, letters_in, AreInOrder}
 
 -- none begins after the end
-start_within : (end : ℕ) (fs : List Filed) → AreInOrder end fs → start_in end fs ≤ end
+start_within : (end : ℕ) (fs : List LetterSpan) → AreInOrder end fs → start_in end fs ≤ end
 start_within end [] h = omega arith
 start_within end (f ∷ fs) h =
     let rest = start_within end fs h.1 in
@@ -19,45 +19,45 @@ start_within end (f ∷ fs) h =
     omega (arith, rest, here)
 
 -- one more letter begins where the others end
-start_joins : (m n : ℕ) (fs : List Filed) (from to : ℕ) → start_in m (fs ++ record { from = from; to = to; start = n } ∷ []) ≡ start_in n fs
+start_joins : (m n : ℕ) (fs : List LetterSpan) (from to : ℕ) → start_in m (fs ++ record { from = from; to = to; start = n } ∷ []) ≡ start_in n fs
 start_joins m n [] from to = refl
 start_joins m n (f ∷ fs) from to = refl
 
-pub order_joins : (m n : ℕ) (fs : List Filed) (from to : ℕ) → n ≤ m → AreInOrder n fs → AreInOrder m (fs ++ record { from = from; to = to; start = n } ∷ [])
+pub order_joins : (m n : ℕ) (fs : List LetterSpan) (from to : ℕ) → n ≤ m → AreInOrder n fs → AreInOrder m (fs ++ record { from = from; to = to; start = n } ∷ [])
 order_joins m n [] from to le h = (le, tt)
 order_joins m n (f ∷ fs) from to le h = (rw (start_joins m n fs from to) h.0, order_joins m n fs from to le h.1)
 
-pub letter_joins : (bytes : List ℕ) (fs : List Filed) (from : ℕ) (d : Datagram) → AreInOrder (length bytes) fs
+pub letter_joins : (bytes : List ℕ) (fs : List LetterSpan) (from : ℕ) (d : Datagram) → AreInOrder (length bytes) fs
     → letters_in (bytes ++ d.bytes) (fs ++ record { from = from; to = d.port; start = length bytes } ∷ []) ≡ letters_in bytes fs ++ sent_from from d ∷ []
 letter_joins bytes [] from d h = rw (take_all (length (bytes ++ d.bytes)) (bytes ++ d.bytes) (omega arith), drop-append_seam bytes d.bytes) refl
 letter_joins bytes (f ∷ fs) from d h =
     rw (start_joins (length (bytes ++ d.bytes)) (length bytes) fs from d.port, take-append-le (start_in (length bytes) fs) bytes d.bytes (start_within (length bytes) fs h.1), letter_joins bytes fs from d h.1) refl
 
 -- a letter ends where the next one begins
-abbrev letter_then : List ℕ → Filed → ℕ → Letter
+abbrev letter_then : List ℕ → LetterSpan → ℕ → Letter
 letter_then bytes f end = record { from = f.from; to = f.to; bytes = drop f.start (take end bytes) }
 
-found : (bytes : List ℕ) (fs : List Filed) (i : ℕ) (f : Filed) → slice_get fs i ≡ Some f
+found : (bytes : List ℕ) (fs : List LetterSpan) (i : ℕ) (f : LetterSpan) → slice_get fs i ≡ Some f
     → slice_get (letters_in bytes fs) i ≡ Some (letter_then bytes f (start_in (length bytes) (drop (suc i) fs)))
 found bytes [] i f at = cc
-found bytes (g ∷ fs) zero f at = let same : g ≡ f = cc in ap (λ (x : Filed). Some (letter_then bytes x (start_in (length bytes) fs))) same
+found bytes (g ∷ fs) zero f at = let same : g ≡ f = cc in ap (λ (x : LetterSpan). Some (letter_then bytes x (start_in (length bytes) fs))) same
 found bytes (g ∷ fs) (suc i) f at = found bytes fs i f at
 
-nothing_behind : (bytes : List ℕ) (fs : List Filed) (i : ℕ) → length fs ≤ i → slice_get (letters_in bytes fs) i ≡ None
-nothing_behind bytes [] i le = refl
-nothing_behind bytes (f ∷ fs) zero le = absurd (omega (arith, le))
-nothing_behind bytes (f ∷ fs) (suc i) le = nothing_behind bytes fs i (omega (arith, le))
+nothing_after : (bytes : List ℕ) (fs : List LetterSpan) (i : ℕ) → length fs ≤ i → slice_get (letters_in bytes fs) i ≡ None
+nothing_after bytes [] i le = refl
+nothing_after bytes (f ∷ fs) zero le = absurd (omega (arith, le))
+nothing_after bytes (f ∷ fs) (suc i) le = nothing_after bytes fs i (omega (arith, le))
 
-pub none_found : (bytes : List ℕ) (fs : List Filed) (k : ℕ) → (k == 0) ≡ false → length fs ≤ k - 1 → in_order k (letters_in bytes fs) ≡ None
-none_found bytes fs k some le = rw (some) (nothing_behind bytes fs (k - 1) le)
+pub none_found : (bytes : List ℕ) (fs : List LetterSpan) (k : ℕ) → (k == 0) ≡ false → length fs ≤ k - 1 → in_order k (letters_in bytes fs) ≡ None
+none_found bytes fs k some le = rw (some) (nothing_after bytes fs (k - 1) le)
 
-start_at : (end : ℕ) (fs : List Filed) (i : ℕ) (f : Filed) → slice_get fs i ≡ Some f → start_in end (drop i fs) ≡ f.start
+start_at : (end : ℕ) (fs : List LetterSpan) (i : ℕ) (f : LetterSpan) → slice_get fs i ≡ Some f → start_in end (drop i fs) ≡ f.start
 start_at end [] i f at = cc
 start_at end (g ∷ fs) zero f at = let same : g ≡ f = cc in rw (← same) refl
 start_at end (g ∷ fs) (suc i) f at = start_at end fs i f at
 
 -- it ends at or after its start, and not after the end of all
-pub span_within : (end : ℕ) (fs : List Filed) (i : ℕ) → AreInOrder end fs → i < length fs → (start_in end (drop i fs) ≤ start_in end (drop (suc i) fs)) × (start_in end (drop (suc i) fs) ≤ end)
+pub span_within : (end : ℕ) (fs : List LetterSpan) (i : ℕ) → AreInOrder end fs → i < length fs → (start_in end (drop i fs) ≤ start_in end (drop (suc i) fs)) × (start_in end (drop (suc i) fs) ≤ end)
 span_within end [] i h lt = absurd (omega (arith, lt))
 span_within end (g ∷ fs) zero h lt = (h.0, start_within end fs h.1)
 span_within end (g ∷ fs) (suc i) h lt = span_within end fs i h.1 (omega (arith, lt))
@@ -68,13 +68,13 @@ more_bytes bytes more =
     omega (arith, longer)
 
 -- if more bytes follow the last letter
-pub order_longer : (m n : ℕ) (fs : List Filed) → n ≤ m → AreInOrder n fs → AreInOrder m fs
+pub order_longer : (m n : ℕ) (fs : List LetterSpan) → n ≤ m → AreInOrder n fs → AreInOrder m fs
 order_longer m n [] le h = tt
 order_longer m n (f ∷ []) le h = let here = h.0 in (omega (arith, here, le), tt)
 order_longer m n (f ∷ g ∷ fs) le h = (h.0, order_longer m n (g ∷ fs) le h.1)
 
 -- letter K, with a copy of its bytes
-pub letter_found : (bytes : List ℕ) (fs : List Filed) (k start end : ℕ) (f : Filed) (copied : List ℕ) → AreInOrder (length bytes) fs → (k == 0) ≡ false → k - 1 < length fs → f ≡ get_or fs (k - 1) f
+pub letter_found : (bytes : List ℕ) (fs : List LetterSpan) (k start end : ℕ) (f : LetterSpan) (copied : List ℕ) → AreInOrder (length bytes) fs → (k == 0) ≡ false → k - 1 < length fs → f ≡ get_or fs (k - 1) f
     → start ≡ start_in (length bytes) (drop (k - 1) fs) → end ≡ start_in (length bytes) (drop (suc (k - 1)) fs) → copied ≡ take (end - start) (drop start bytes)
     → Some (record { from = f.from; to = f.to; bytes = copied }) ≡ in_order k (letters_in bytes fs)
 letter_found bytes fs k start end f copied h some lt read starts ends is =

@@ -23,10 +23,10 @@ hosts_differ catalogue hosts k e =
     subst (IsDistinct nat_eq) (ports_of hosts) (subst (λ sites. IsDistinct nat_eq (map (λ (s : ℕ × ℕ). s.1) sites)) (sym e) k.ports_differ)
 
 -- a host after another one is found as if that one were not there
-behind : (host : HostValue) (hosts : List HostValue) → AllByRecursion (λ port. nat_eq host.port port ≡ false) (map (λ (host : HostValue). host.port) hosts) → (all : List HostValue)
+following : (host : HostValue) (hosts : List HostValue) → AllByRecursion (λ port. nat_eq host.port port ≡ false) (map (λ (host : HostValue). host.port) hosts) → (all : List HostValue)
     → AllByRecursion (λ (it : HostValue). host_at it.port all ≡ Some it) hosts → AllByRecursion (λ (it : HostValue). host_at it.port (host ∷ all) ≡ Some it) hosts
-behind host [] h all found = tt
-behind host (it ∷ hosts) h all found = (go (host.port == it.port) h.0 found.0, behind host hosts h.1 all found.1)
+following host [] h all found = tt
+following host (it ∷ hosts) h all found = (go (host.port == it.port) h.0 found.0, following host hosts h.1 all found.1)
   where
     go : (b : Bool) → b ≡ false → host_at it.port all ≡ Some it → cond b (Some host) (host_at it.port all) ≡ Some it
     go false e f = f
@@ -35,7 +35,7 @@ behind host (it ∷ hosts) h all found = (go (host.port == it.port) h.0 found.0,
 pub each_found : (hosts : List HostValue) → Differ hosts → AllByRecursion (λ (it : HostValue). host_at it.port hosts ≡ Some it) hosts
 unfolding IsDistinct
 each_found [] h = tt
-each_found (host ∷ hosts) h = (let same : (host.port == host.port) ≡ true = grind (arith, nat_tests) in rw same refl, behind host hosts h.0 hosts (each_found hosts h.1))
+each_found (host ∷ hosts) h = (let same : (host.port == host.port) ≡ true = grind (arith, nat_tests) in rw same refl, following host hosts h.0 hosts (each_found hosts h.1))
 
 -- ---- the first lives
 
@@ -48,8 +48,8 @@ other_than own (x ∷ xs) port it h f = go (x.port == port) refl f (other_than o
     go true e f rest = let is : x.port ≡ port = grind (arith, nat_tests, e) in subst (λ p. (own == p) ≡ false) is h.0
     go false e f rest = rest f
 
-found_behind : (host it : HostValue) (hosts : List HostValue) (port : ℕ) → (host.port == port) ≡ false → host_at port hosts ≡ Some it → host_at port (host ∷ hosts) ≡ Some it
-found_behind host it hosts port other f = rw other f
+found_following : (host it : HostValue) (hosts : List HostValue) (port : ℕ) → (host.port == port) ≡ false → host_at port hosts ≡ Some it → host_at port (host ∷ hosts) ≡ Some it
+found_following host it hosts port other f = rw other f
 
 abbrev HasBegun : Catalogue → List HostValue → ℕ → ℕ → Type 0
 HasBegun catalogue hosts id port = (it : HostValue) × (host_at port hosts ≡ Some it) × Begins catalogue id port it
@@ -64,7 +64,7 @@ begun_in catalogue (host ∷ hosts) d h id port e = go (host.id == id) refl e (b
     here same is = (host, (let found : (host.port == port) ≡ true = grind (arith, nat_tests, is) in rw found refl), subst (λ p. Begins catalogue id p host) is (subst (λ n. Begins catalogue n host.port host) same h.0))
 
     there : HasBegun catalogue hosts id port → HasBegun catalogue (host ∷ hosts) id port
-    there (it, found, begins) = (it, found_behind host it hosts port (other_than host.port hosts port it d.0 found) found, begins)
+    there (it, found, begins) = (it, found_following host it hosts port (other_than host.port hosts port it d.0 found) found, begins)
 
     go : (b : Bool) → (host.id == id) ≡ b → option_map (λ (s : ℕ × ℕ). s.1) (cond b (Some (address_of host)) (find (λ (s : ℕ × ℕ). s.0 == id) (map address_of hosts))) ≡ Some port
         → (value_at id (map address_of hosts) ≡ Some port → HasBegun catalogue hosts id port) → HasBegun catalogue (host ∷ hosts) id port

@@ -30,15 +30,15 @@ shown_some batch shown b same is e none =
     absurd (let z = sym e ∙ is ∙ test in cc)
 
 module _ (catalogue : Catalogue) (d : Datagram) (site : SiteState) (parts host : HostValue) (same : parts ≡ host) (is : IsHost catalogue host) where
-  abbrev behind : List Change → HostValue
-  behind disk = host_with parts.id parts.port disk None
+  abbrev following : List Change → HostValue
+  following disk = host_with parts.id parts.port disk None
 
   abbrev After : List Change → Option StoppedLog → Type 0
-  After disk left = Stops catalogue d site host (behind disk) left
+  After disk left = Stops catalogue d site host (following disk) left
 
-  stays_so : (disk : List Change) (left : Option StoppedLog) → IfSome left (λ it. it.log ≡ site_log (behind disk))
+  stays_so : (disk : List Change) (left : Option StoppedLog) → IfSome left (λ it. it.log ≡ site_log (following disk))
       → ((batches : List (List LogRecord)) → IsAt batches (Some site) parts → IfNone left ((turn_at catalogue site d).batch ≡ [])
-      × IfSome left (λ it. ((turn_at catalogue site d).batch ≢ []) × IsAt (with_batch it.kept (turn_at catalogue site d).batch batches) None (behind disk)))
+      × IfSome left (λ it. ((turn_at catalogue site d).batch ≢ []) × IsAt (with_batch it.kept (turn_at catalogue site d).batch batches) None (following disk)))
       → After disk left
   stays_so disk left log_is up = record {
     stays = record { host = parts_rest catalogue parts host same disk is; same_id = ap (λ (h : HostValue). h.id) same; same_port = ap (λ (h : HostValue). h.port) same };
@@ -59,7 +59,7 @@ module _ (catalogue : Catalogue) (d : Datagram) (site : SiteState) (parts host :
     stands batches h = subst (λ (log : Option Standing). IfSome log (λ at. StandsAt at batches (log_in parts))) up h.stands
 
     -- the turn has this batch: the log is left with or without it
-    pub stops_within : (left : List Change) (it : StoppedLog) → batch ≢ [] → it.log ≡ site_log (behind left) → GainsWhere batch at it.kept (log_on parts.disk) (log_on left) → After left (Some it)
+    pub stops_within : (left : List Change) (it : StoppedLog) → batch ≢ [] → it.log ≡ site_log (following left) → GainsWhere batch at it.kept (log_on parts.disk) (log_on left) → After left (Some it)
     stops_within left it some log_is gains = stays_so left (Some it) log_is (λ batches h. (
       tt,
       (

@@ -72,22 +72,22 @@ module _ (catalogue : Catalogue) (d : Datagram) (site : SiteState) (id port : �
   abbrev before : HostValue
   before = host_with id port old (Some from)
 
-  abbrev behind : HostValue
-  behind = host_with id port new (Some after.at)
+  abbrev following : HostValue
+  following = host_with id port new (Some after.at)
 
   abbrev turn : Turn
   turn = turn_at catalogue site d
 
   module _ (asked : asked_of new ≡ asked_of old) (saved : Steps (Saves turn from after.at) (state_after old true 0) (state_after new true 0)) where
-    stands_kept : (batches : List (List LogRecord)) → StandsAt from batches (log_in before) → StandsAt after.at (after_turn (node_at site batches) turn).batches (log_in behind)
+    stands_kept : (batches : List (List LogRecord)) → StandsAt from batches (log_in before) → StandsAt after.at (after_turn (node_at site batches) turn).batches (log_in following)
     stands_kept batches stands =
         subst (λ name. StandsAt after.at (after_turn (node_at site batches) turn).batches (content_of (changes_of name new))) (sym asked) (saved batches stands)
 
-    turned_at : (batches : List (List LogRecord)) → StandsAt from batches (log_in before) → IsAt (after_turn (node_at site batches) turn).batches (Some turn.site) behind
+    turned_at : (batches : List (List LogRecord)) → StandsAt from batches (log_in before) → IsAt (after_turn (node_at site batches) turn).batches (Some turn.site) following
     turned_at batches stands = record { has = have (stands_kept batches stands); is_up = refl; stands = stands_kept batches stands }
 
   takes_turn : (turn_effects : TurnEffects) → IsHost catalogue before → asked_of new ≡ asked_of old → Gives turn after turn_effects → IsStepOf catalogue site (arrival catalogue site.id d) after.site turn_effects.effects
-      → Steps (Saves turn from after.at) (state_after old true 0) (state_after new true 0) → IsKept catalogue after (state_after new true 0) → Takes catalogue d site before behind after.site turn_effects
+      → Steps (Saves turn from after.at) (state_after old true 0) (state_after new true 0) → IsKept catalogue after (state_after new true 0) → Takes catalogue d site before following after.site turn_effects
   takes_turn turn_effects is asked gives stepped saved kept = record {
     stays = record {
       host = record { port_is = is.port_is; kept = log_kept catalogue after (state_after new true 0) kept };

@@ -8,7 +8,7 @@ mod Replaced
 pub mod Acting
 mod Calls
 mod Coming
-mod Filed
+mod LetterSpan
 mod Found
 mod Lent
 pub mod Running

@@ -12,7 +12,7 @@ use Rattle.vp_wire.specs.declared.frame.Body.TheVariants as body
 use Rattle.vp_wire.specs.Grammar.{frame_of, frame_bytes}
 use Rattle.vp_runs.specs.Asking.{call_frame}
 use Rattle.vp_cluster.specs.declared.letter.Letter.{Letter}
-use Rattle.vp_cluster.specs.declared.sent_letters.Filed.{Filed}
+use Rattle.vp_cluster.specs.declared.sent_letters.LetterSpan.{LetterSpan}
 
 -- the frame in a letter from port 0, which is no site's, to the port of the site
 abbrev pub letter_to : Catalogue → ℕ → Frame → Option Letter
@@ -43,17 +43,17 @@ abbrev pub letter_for : Catalogue → Sent → Letter
 letter_for catalogue sent = record { from = port_of catalogue sent.from; to = port_of catalogue sent.to; bytes = frame_bytes (message_frame sent) }
 
 -- the index where the bytes of these letters begin; they end at this end
-abbrev pub start_in : ℕ → List Filed → ℕ
+abbrev pub start_in : ℕ → List LetterSpan → ℕ
 start_in end [] = end
 start_in end (f ∷ fs) = f.start
 
 -- the letters whose bytes are side by side in these
-abbrev pub letters_in : List ℕ → List Filed → List Letter
+abbrev pub letters_in : List ℕ → List LetterSpan → List Letter
 letters_in bytes [] = []
 letters_in bytes (f ∷ fs) =
     record { from = f.from; to = f.to; bytes = drop f.start (take (start_in (length bytes) fs) bytes) } ∷ letters_in bytes fs
 
 -- each letter ends at or after its start, and none after that end
-abbrev pub AreInOrder : ℕ → List Filed → Type 0
+abbrev pub AreInOrder : ℕ → List LetterSpan → Type 0
 AreInOrder end [] = Unit {0}
 AreInOrder end (f ∷ fs) = (f.start ≤ start_in end fs) × AreInOrder end fs

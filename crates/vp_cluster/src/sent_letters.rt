@@ -12,7 +12,7 @@ use vp_outside::Datagram;
 
 /// A letter whose bytes are among others, from this index to that of the next letter.
 #[derive(Clone, Copy)]
-struct Filed {
+struct LetterSpan {
     from: u16,
     to: u16,
     start: usize,
@@ -22,7 +22,7 @@ struct Filed {
 /// short.
 pub struct SentLetters {
     bytes: Vec<u8>,
-    filed: Vec<Filed>,
+    filed: Vec<LetterSpan>,
 }
 
 impl Drop for SentLetters {
@@ -44,7 +44,7 @@ impl Model for SentLetters {
 }
 
 /// The index where the bytes of the letters from this one in the list on begin; they end at `end`.
-fn start_in(filed: &[Filed], place: usize, end: usize) -> usize
+fn start_in(filed: &[LetterSpan], place: usize, end: usize) -> usize
     ensures { result ≡ start_in end (drop place filed.now) }
 {
     match filed.get(place) {
@@ -54,7 +54,7 @@ fn start_in(filed: &[Filed], place: usize, end: usize) -> usize
 }
 
 /// The indices of the first byte of this letter in the list and of the first byte after it.
-fn span(filed: &[Filed], place: usize, end: usize) -> (usize, usize)
+fn span(filed: &[LetterSpan], place: usize, end: usize) -> (usize, usize)
     requires order { AreInOrder end filed.now }
     requires at { place < length filed.now }
     ensures start { result.0 ≡ start_in end (drop place filed.now) }
@@ -81,7 +81,7 @@ impl SentLetters {
     {
         let start = self.bytes.len();
         self.bytes.extend_from_slice(&datagram.bytes)?;
-        self.filed.push(Filed {
+        self.filed.push(LetterSpan {
             from,
             to: datagram.port,
             start,

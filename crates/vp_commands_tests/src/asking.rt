@@ -7,7 +7,7 @@ use std::alloc::{AllocError, Global};
 use std::process::Abort;
 use vp_base::{Answer, Call, SiteId};
 use vp_client::{AskFault, ask};
-use vp_outside::{Datagram, Handed, Link, MemLink, SureLink};
+use vp_outside::{Datagram, Dispatch, Link, MemLink, SureLink};
 
 /// The port of site 1.
 const PORT: u16 = 7001;
@@ -40,7 +40,7 @@ fn begin<L: Link>(alloc: Global, link: &mut L, turns: u64) -> Result<Answer, Ask
 }
 
 /// Whether the frame of the begin was handed over to the site's port, before any datagram was given, and nothing else.
-fn is_begin(handed: &[Handed]) -> bool {
+fn is_begin(handed: &[Dispatch]) -> bool {
     match handed {
         [call] => {
             call.after == 0 && call.datagram.port == PORT && call.datagram.bytes.as_slice() == BEGIN

@@ -8,11 +8,11 @@ use std::alloc::{AllocError, Global};
 use std::process::Abort;
 use vp_base::{Call, NoMemory, SiteId};
 use vp_outside::{Datagram, Link, MemLink};
-use vp_status::{Defined, Status};
+use vp_status::{RunOutput, Status};
 use vp_top::call_site;
 
 /// What is defined for a begin at site 1, from port 7100.
-fn begin<L: Link>(alloc: Global, link: &mut L, turns: u64) -> Result<Defined, NoMemory>
+fn begin<L: Link>(alloc: Global, link: &mut L, turns: u64) -> Result<RunOutput, NoMemory>
     requires fresh { (L.state link.old).asked ≡ None }
 {
     call_site(alloc, link, 7100, PORT, SiteId::of(1), &Call::Begin, turns)

@@ -3,7 +3,7 @@
 use crate::{BEGIN, BEGUN, PORT, STARTED, STARTED_TWICE, Setup, datagram, said};
 use std::alloc::{AllocError, Global};
 use std::process::Abort;
-use vp_outside::{Datagram, Handed};
+use vp_outside::{Datagram, Dispatch};
 use vp_status::Status;
 
 /// The log's first half with Start of the last life.
@@ -37,7 +37,7 @@ const TURNS: [(&[u8], u64, &[u8], &[u8]); 3] = [
 ];
 
 /// Whether each of so many calls to begin, none or one, was answered at the port that it came from.
-fn are_begun(handed: &[Handed], turns: u64) -> bool {
+fn are_begun(handed: &[Dispatch], turns: u64) -> bool {
     match handed {
         [] => turns == 0,
         [it] => turns == 1 && it.datagram.port == 7100 && it.datagram.bytes.as_slice() == BEGUN,
@@ -46,7 +46,7 @@ fn are_begun(handed: &[Handed], turns: u64) -> bool {
 }
 
 #[test]
-fn a_node_ends_behind_its_turns(rt: HostRuntime) {
+fn a_node_ends_after_its_turns(rt: HostRuntime) {
     let alloc = rt.alloc();
     for (half, turns, text, log) in TURNS {
         let setup = Setup {

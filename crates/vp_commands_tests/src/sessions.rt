@@ -4,7 +4,7 @@ use crate::fixtures::BEGIN;
 use crate::gateways::{ANSWERS, HEAD, LINES, calm, joined, served};
 use std::alloc::Global;
 use std::process::Abort;
-use vp_outside::Handed;
+use vp_outside::Dispatch;
 use vp_status::Status;
 
 /// The first call of 1.1.1, which reads x, to site 1.
@@ -23,7 +23,7 @@ fn each_line_is_answered_in_any_cutting(rt: HostRuntime) {
 }
 
 /// Whether the two calls were handed over, the second after the answer to the first.
-fn are_calls(handed: &[Handed]) -> bool {
+fn are_calls(handed: &[Dispatch]) -> bool {
     match handed {
         [first, second] => {
             first.datagram.port == 7001

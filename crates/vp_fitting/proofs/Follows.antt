@@ -92,7 +92,7 @@ one_due n (d ∷ dues) h a b ha hb e = ⊎_elim
 no_lives : (n : ℕ) → n - n ≡ 0
 no_lives n = omega arith
 
--- in the life of the turn nothing stands before its input
+-- in the life of the turn nothing is before its input
 pub asked_here : (id : ℕ) (d : Due) (dues : List Due) → asked_from id d.life (d ∷ dues) ≡ asked_then (asks id d.turn.frame) (asked_from id d.life dues)
 asked_here id d dues = ap (λ (n : ℕ). again_then n (asked_then (asks id d.turn.frame) (asked_from id d.life dues))) (no_lives d.life)
 

@@ -78,10 +78,10 @@ asked_by s bytes given e = go (read_frame bytes) (bytes_are_read bytes) e
 
 -- the place of the first item that passes
 pub record IsPlaced {X : Type 0} (test : X → Bool) (i : ℕ) (xs : List X) (k : ℕ) : Type 0 where
-  pub behind : ℕ
-  pub k_is : k ≡ i + behind
+  pub following : ℕ
+  pub k_is : k ≡ i + following
   pub item : X
-  pub there : slice_get xs behind ≡ Some item
+  pub there : slice_get xs following ≡ Some item
   pub passes : test item ≡ true
 
 module _ {X : Type 0} (test : X → Bool) where
@@ -90,8 +90,8 @@ module _ {X : Type 0} (test : X → Bool) where
   placed (x ∷ xs) i k e = go (test x) refl e (placed xs (i + 1) k)
     where
       go : (b : Bool) → test x ≡ b → cond b (Some i) (position_from test (i + 1) xs) ≡ Some k → (position_from test (i + 1) xs ≡ Some k → IsPlaced test (i + 1) xs k) → IsPlaced test i (x ∷ xs) k
-      go true t q rest = let same : i ≡ k = cc in record { behind = 0; k_is = omega (arith, same); item = x; there = refl; passes = t }
-      go false t q rest = let r = rest q in record { behind = suc r.behind; k_is = (let z = r.k_is in omega (arith, z)); item = r.item; there = r.there; passes = r.passes }
+      go true t q rest = let same : i ≡ k = cc in record { following = 0; k_is = omega (arith, same); item = x; there = refl; passes = t }
+      go false t q rest = let r = rest q in record { following = suc r.following; k_is = (let z = r.k_is in omega (arith, z)); item = r.item; there = r.there; passes = r.passes }
 
   none_placed : (xs : List X) (i : ℕ) → position_from test i xs ≡ None → (x : X) → Has xs x → test x ≡ false
   none_placed [] i e x h = absurd (has_none x h)
@@ -133,7 +133,7 @@ pub lowest_is : (m : Sent) (w : WorldState) (k : ℕ) → lowest m w.sent ≡ So
 unfolding lowest
 lowest_is m w k e frame frames =
     let p = placed (same_sent m) w.sent 1 k e in
-    let at : message_at w k ≡ Some p.item = found k p.behind p.k_is p.item p.there in
+    let at : message_at w k ≡ Some p.item = found k p.following p.k_is p.item p.there in
     at ∙ ap (λ (x : Sent). Some x) (sym (one_message m p.item frame (frames p.item at) p.passes))
   where
     found : (k j : ℕ) → k ≡ 1 + j → (x : Sent) → slice_get w.sent j ≡ Some x → message_at w k ≡ Some x

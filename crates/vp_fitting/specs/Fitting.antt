@@ -55,7 +55,7 @@ abbrev pub again_then : ℕ → List Deed → List Deed
 again_then zero more = more
 again_then (suc lives) more = Deed.crashes ∷ Deed.restarts ∷ again_then lives more
 
--- what the turn's frame asks, and then this; behind a frame that is none of the site's nothing is asked
+-- what the turn's frame asks, and then this; after a frame that is none of the site's nothing is asked
 abbrev pub asked_then : Arrival → List Deed → List Deed
 asked_then (Gives given) more = Deed.takes given ∷ more
 asked_then Stops more = more

@@ -8,16 +8,16 @@ use Rattle.vp_outside.specs.Input.{SourceState, IsEnded, Took}
 use Rattle.vp_outside.specs.Output.{SinkState}
 use Rattle.vp_outside.specs.Links.{LinkState, Binds}
 use Rattle.vp_outside.specs.declared.datagram.Datagram.{Datagram}
-use Rattle.vp_outside.specs.declared.datagram.Handed.{Handed}
+use Rattle.vp_outside.specs.declared.datagram.Dispatch.{Dispatch}
 use Rattle.vp_outside.specs.declared.source.InputFault.{InputFault}
 use Rattle.vp_outside.specs.declared.source.InputFault.TheVariants as input
 use Rattle.vp_lines.specs.Ahead.{Ahead, untaken, fitting, rest_found, HasLine, HasNoLine, HasRest, Finds}
-use Rattle.vp_lines.specs.declared.unread.Found.{Found}
-use Rattle.vp_lines.specs.declared.unread.Found.TheVariants as found
+use Rattle.vp_lines.specs.declared.unread.LineFound.{LineFound}
+use Rattle.vp_lines.specs.declared.unread.LineFound.TheVariants as found
 use Rattle.vp_lines.proofs.Finding.{take_none, took_none, took_then, fitting_more}
 use Rattle.vp_gateway.specs.declared.end.GateEnd.{GateEnd}
 use Rattle.vp_gateway.specs.declared.end.GateEnd.TheVariants as ends
-use Rattle.vp_gateway.specs.declared.asked.Asked.{Asked}
+use Rattle.vp_gateway.specs.declared.asked.LineRequest.{LineRequest}
 use Rattle.vp_gateway.specs.Ends.{end_of_input}
 use Rattle.vp_gateway.specs.Lines.{line_as, whole_lines, last_line, all_lines}
 use Rattle.vp_gateway.specs.Sessions.{Talk, talk, HasAnswered, HasLost, HasCut, HasRunOut}
@@ -35,7 +35,7 @@ module _ (port site turns : ℕ) (old : Ahead) (source : SourceState) (sink : Si
     pub left : now.credit ≡ old.credit - length bytes
     pub front : List ℕ
     pub parts : old.unread ++ fitting old.credit bytes ≡ front ++ now.unread
-    pub done : List Asked
+    pub done : List LineRequest
     pub asks : Asks front done
     pub answered : HasAnswered port site turns (talk sink sink' link link') done
     pub same_source : source'.faults ≡ source.faults
@@ -72,7 +72,7 @@ module _ (port site turns : ℕ) (old : Ahead) (source : SourceState) (sink : Si
     none_behind : (n : HasNoLine 4097 now now' line source' source'') → whole_lines (body n.more) ≡ h.done
     none_behind n =
         let rest = now.unread ++ fitting now.credit n.more in
-        ap whole_lines (joined n.more) ∙ h.asks.whole rest ∙ ap (λ (l : List Asked). h.done ++ l) (none_whole rest n.plain) ∙ append-nil h.done
+        ap whole_lines (joined n.more) ∙ h.asks.whole rest ∙ ap (λ (l : List LineRequest). h.done ++ l) (none_whole rest n.plain) ∙ append-nil h.done
 
     answered_before : (more : List ℕ) → whole_lines (body more) ≡ h.done → HasAnswered port site turns (talk sink sink' link link') (whole_lines (body more))
     answered_before more same = subst (HasAnswered port site turns (talk sink sink' link link')) (sym same) h.answered
@@ -95,7 +95,7 @@ module _ (port site turns : ℕ) (old : Ahead) (source : SourceState) (sink : Si
     -- ---- a line was found, and answered
 
     module _ (f : HasLine 4097 now now' line source' source'') (sink'' : SinkState) (link'' : LinkState) where
-      abbrev asked : Asked
+      abbrev asked : LineRequest
       asked = line_as true f.body
 
       same_asked : line_as true line ≡ asked
@@ -121,7 +121,7 @@ module _ (port site turns : ℕ) (old : Ahead) (source : SourceState) (sink : Si
         parts = in_place;
         done = h.done ++ asked ∷ [];
         asks = asks_more h.front h.done f.body f.plain h.asks;
-        answered = answered_then port site turns sink sink' sink'' link link' link'' h.done asked h.answered (subst (λ (x : Asked). HasAnswered port site turns now_talk (x ∷ [])) same_asked a.0);
+        answered = answered_then port site turns sink sink' sink'' link link' link'' h.done asked h.answered (subst (λ (x : LineRequest). HasAnswered port site turns now_talk (x ∷ [])) same_asked a.0);
         same_source = f.same_faults ∙ h.same_source;
         same_sink = a.1 ∙ h.same_sink;
       }
@@ -149,7 +149,7 @@ module _ (port site turns : ℕ) (old : Ahead) (source : SourceState) (sink : Si
       broken ends.Limit a = absurd a
 
       pub breaks : (end : GateEnd) → AnswersLine port site turns (line_as true line) now_talk (Err end) → AnswersLines port site turns old source source'' (talk sink sink'' link link'') (Err end)
-      breaks end a = broken end (subst (λ (x : Asked). AnswersLine port site turns x now_talk (Err end)) same_asked a)
+      breaks end a = broken end (subst (λ (x : LineRequest). AnswersLine port site turns x now_talk (Err end)) same_asked a)
 
       pub smaller : length now'.unread + now'.credit < length now.unread + now.credit
       smaller =
@@ -158,10 +158,10 @@ module _ (port site turns : ℕ) (old : Ahead) (source : SourceState) (sink : Si
 
     -- ---- the input has ended
 
-    abbrev rest_of : {what : Found} → HasRest 4097 now now' line source' source'' what → List ℕ
+    abbrev rest_of : {what : LineFound} → HasRest 4097 now now' line source' source'' what → List ℕ
     rest_of f = now.unread ++ f.none.more
 
-    module _ (what : Found) (f : HasRest 4097 now now' line source' source'' what) where
+    module _ (what : LineFound) (f : HasRest 4097 now now' line source' source'' what) where
       rest_there : body f.none.more ≡ h.front ++ rest_of f
       rest_there =
           let few = f.few in
@@ -176,14 +176,14 @@ module _ (port site turns : ℕ) (old : Ahead) (source : SourceState) (sink : Si
       few_there = let few = f.few in let l = h.left in omega (arith, few, l, length-append h.bytes f.none.more)
 
       last_there : all_lines (body f.none.more) ≡ h.done ++ last_line (rest_of f)
-      last_there = ap all_lines rest_there ∙ h.asks.all (rest_of f) ∙ ap (λ (l : List Asked). h.done ++ l) (last_alone (rest_of f) plain_there)
+      last_there = ap all_lines rest_there ∙ h.asks.all (rest_of f) ∙ ap (λ (l : List LineRequest). h.done ++ l) (last_alone (rest_of f) plain_there)
 
     pub ended : (u : Unit {0}) → HasRest 4097 now now' line source' source'' found.End → AnswersLines port site turns old source source'' (talk sink sink' link link') (Ok u)
     ended u f = (
       taken f.none.more f.none.took,
       few_there found.End f,
       f.ended,
-      subst (HasAnswered port site turns (talk sink sink' link link')) (sym (last_there found.End f ∙ ap (λ (l : List Asked). h.done ++ l) (none (rest_of f) f.is) ∙ append-nil h.done)) h.answered,
+      subst (HasAnswered port site turns (talk sink sink' link link')) (sym (last_there found.End f ∙ ap (λ (l : List LineRequest). h.done ++ l) (none (rest_of f) f.is) ∙ append-nil h.done)) h.answered,
     )
       where
         none : (rest : List ℕ) → found.End ≡ rest_found rest → last_line rest ≡ []
@@ -191,14 +191,14 @@ module _ (port site turns : ℕ) (old : Ahead) (source : SourceState) (sink : Si
         none (c ∷ cs) e = absurd (let no : found.End ≡ found.Rest = e in cc)
 
     module _ (f : HasRest 4097 now now' line source' source'' found.Rest) (sink'' : SinkState) (link'' : LinkState) where
-      abbrev last : Asked
+      abbrev last : LineRequest
       last = line_as false (rest_of f)
 
       same_last : line_as false line ≡ last
       same_last = ap (line_as false) f.kept ∙ kept_as false (rest_of f)
 
       all_there : all_lines (body f.none.more) ≡ h.done ++ last ∷ []
-      all_there = last_there found.Rest f ∙ ap (λ (l : List Asked). h.done ++ l) (some (rest_of f) f.is)
+      all_there = last_there found.Rest f ∙ ap (λ (l : List LineRequest). h.done ++ l) (some (rest_of f) f.is)
         where
           some : (rest : List ℕ) → found.Rest ≡ rest_found rest → last_line rest ≡ line_as false rest ∷ []
           some [] e = absurd (let no : found.Rest ≡ found.End = e in cc)
@@ -236,7 +236,7 @@ module _ (port site turns : ℕ) (old : Ahead) (source : SourceState) (sink : Si
       by (Err ends.Limit) a = absurd a
 
       pub ends_with : (r : Result (Unit {0}) GateEnd) → AnswersLine port site turns (line_as false line) last_talk r → AnswersLines port site turns old source source'' (talk sink sink'' link link'') r
-      ends_with r a = by r (subst (λ (x : Asked). AnswersLine port site turns x last_talk r) same_last a)
+      ends_with r a = by r (subst (λ (x : LineRequest). AnswersLine port site turns x last_talk r) same_last a)
 
 -- ---- the whole
 
@@ -245,11 +245,11 @@ abbrev pub end_of : Result (Unit {0}) GateEnd → GateEnd
 end_of (Ok u) = ends.Done
 end_of (Err end) = end
 
-abbrev link_of : Option (List Datagram) → ℕ → Option (List Handed) → Option ℕ → Bool → ℕ → ℕ → LinkState
+abbrev link_of : Option (List Datagram) → ℕ → Option (List Dispatch) → Option ℕ → Bool → ℕ → ℕ → LinkState
 link_of left given handed asked bound faults losses =
     record { left = left; given = given; handed = handed; asked = asked; bound = bound; faults = faults; losses = losses }
 
-link_same : {l l' : Option (List Datagram)} {g g' : ℕ} {h h' : Option (List Handed)} {a a' : Option ℕ} {b b' : Bool} {f f' : ℕ} {s s' : ℕ} →
+link_same : {l l' : Option (List Datagram)} {g g' : ℕ} {h h' : Option (List Dispatch)} {a a' : Option ℕ} {b b' : Bool} {f f' : ℕ} {s s' : ℕ} →
     l ≡ l' → g ≡ g' → h ≡ h' → a ≡ a' → b ≡ b' → f ≡ f' → s ≡ s' → link_of l g h a b f s ≡ link_of l' g' h' a' b' f' s'
 link_same p q r t u v w = rw (p, q, r, t, u, v, w) refl
 

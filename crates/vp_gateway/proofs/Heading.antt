@@ -19,8 +19,8 @@ use Rattle.vp_outside.specs.Input.{SourceState, IsEnded, Took}
 use Rattle.vp_outside.specs.declared.source.InputFault.{InputFault}
 use Rattle.vp_outside.specs.declared.source.InputFault.TheVariants as input
 use Rattle.vp_lines.specs.Ahead.{Ahead, untaken, fitting, HasLine, HasNoLine, HasRest, Finds}
-use Rattle.vp_lines.specs.declared.unread.Found.{Found}
-use Rattle.vp_lines.specs.declared.unread.Found.TheVariants as found
+use Rattle.vp_lines.specs.declared.unread.LineFound.{LineFound}
+use Rattle.vp_lines.specs.declared.unread.LineFound.TheVariants as found
 use Rattle.vp_lines.proofs.Finding.{take_none, took_none, took_then, fitting_more}
 use Rattle.vp_heads.specs.declared.line.HeadLine.{HeadLine}
 use Rattle.vp_heads.specs.declared.head.Head.{Head}
@@ -99,9 +99,9 @@ module _ (source : SourceState) where
     pub bytes : List ℕ
     pub took : Took bytes source source'
     pub left : ahead.credit ≡ 16777217 - length bytes
-    pub behind : List ℕ
-    pub parts : take most bytes ≡ front ++ (text ++ behind)
-    pub whole : (IsLine text × (behind ≡ ahead.unread) × (length ahead.unread + ahead.credit < size)) ⊎ (HasNoNewline text × (behind ≡ []) × IsEnded source')
+    pub following : List ℕ
+    pub parts : take most bytes ≡ front ++ (text ++ following)
+    pub whole : (IsLine text × (following ≡ ahead.unread) × (length ahead.unread + ahead.credit < size)) ⊎ (HasNoNewline text × (following ≡ []) × IsEnded source')
     pub same_faults : source'.faults ≡ source.faults
 
   module _ (source' : SourceState) (ahead : Ahead) (head : Head) (number : ℕ) (h : Heading source' ahead head number) where
@@ -119,9 +119,9 @@ module _ (source : SourceState) where
     taken source'' more t = record { bytes = h.bytes ++ more; took = took_then h.bytes more source source' source'' h.took t }
 
     -- a line has no more bytes than it may have
-    fits : (more body behind : List ℕ) → ahead.unread ++ fitting ahead.credit more ≡ body ++ behind → length body ≤ most
-    fits more body behind e =
-        omega (arith, ap length (joined more), length-append h.front (ahead.unread ++ fitting ahead.credit more), ap length e, length-append body behind, length-take most (h.bytes ++ more))
+    fits : (more body following : List ℕ) → ahead.unread ++ fitting ahead.credit more ≡ body ++ following → length body ≤ most
+    fits more body following e =
+        omega (arith, ap length (joined more), length-append h.front (ahead.unread ++ fitting ahead.credit more), ap length e, length-append body following, length-take most (h.bytes ++ more))
 
     module _ (source'' : SourceState) (ahead' : Ahead) (line : List ℕ) where
       next_line : HasLine most ahead ahead' line source' source'' → Next size source'' ahead' h.front (line ++ 10 ∷ [])
@@ -135,13 +135,13 @@ module _ (source : SourceState) where
             bytes = h.bytes ++ f.more;
             took = took_then h.bytes f.more source source' source'' h.took f.took;
             left = let a = f.left in let b = h.left in omega (arith, a, b, length-append h.bytes f.more);
-            behind = ahead'.unread;
+            following = ahead'.unread;
             parts = joined f.more ∙ ap (λ (l : List ℕ). h.front ++ l) (f.parts ∙ there);
             whole = inl ((line, subst HasNoNewline (sym is) f.plain, refl), refl, less);
             same_faults = f.same_faults ∙ h.same_faults;
           }
 
-      next_rest : (what : Found) → HasRest most ahead ahead' line source' source'' what → Next size source'' ahead' h.front line
+      next_rest : (what : LineFound) → HasRest most ahead ahead' line source' source'' what → Next size source'' ahead' h.front line
       next_rest what f =
           let more = f.none.more in
           let few = f.few in
@@ -152,13 +152,13 @@ module _ (source : SourceState) where
             bytes = h.bytes ++ more;
             took = took_then h.bytes more source source' source'' h.took f.none.took;
             left = let a = f.left in let b = h.left in omega (arith, a, b, length-append h.bytes more);
-            behind = [];
+            following = [];
             parts = joined more ∙ ap (λ (l : List ℕ). h.front ++ l) (there ∙ sym is ∙ sym (append-nil line));
             whole = inr (subst HasNoNewline (there ∙ sym is) f.none.plain, refl, f.ended);
             same_faults = f.same_faults ∙ h.same_faults;
           }
 
-      pub next_text : (what : Found) → Finds most ahead ahead' line source' source'' (Ok what) → Next size source'' ahead' h.front (text_of what line)
+      pub next_text : (what : LineFound) → Finds most ahead ahead' line source' source'' (Ok what) → Next size source'' ahead' h.front (text_of what line)
       next_text found.Line f = next_line f
       next_text found.Rest f = next_rest found.Rest f
       next_text found.End f = next_rest found.End f
@@ -173,7 +173,7 @@ module _ (source : SourceState) where
           let d : Divided blank after (LineText key) Onward all = record { lines = h.lines; front = h.front; rest = rest; lines_are = h.lines_are; parts = joined n.more } in
           let so_far = part key h.lines h.front h.lines_are in
           let last : IsLast blank after (LineText key) Onward d = λ more.
-          newline_inside more.line (line_is key key_is (said key h.lines) so_far more.entry more.line more.line_is) (front_plain more.line more.behind (subst HasNoNewline more.parts n.plain)) in
+          newline_inside more.line (line_is key key_is (said key h.lines) so_far more.entry more.line more.line_is) (front_plain more.line more.following (subst HasNoNewline more.parts n.plain)) in
           no_head key key_is all d last (ap (λ (d : Head). d.opened) h.head_is ∙ off) is.catalogue is.catalogue_is body (parts ∙ ap (λ (l : List ℕ). l ++ body) is.text)
 
       pub unfound : (site : ℕ) → head.opened ≡ false → (e : InputFault) → Finds most ahead ahead' line source' source'' (Err e) → FindsPort site ahead' source source'' (Err (end_of_input e))
@@ -195,7 +195,7 @@ module _ (source : SourceState) where
       is_line e t l = line_is key key_is head so_far_here e t l
 
       -- an allowed line is whole
-      line_whole : (e : HeadLine) → LineText key head e text → r.behind ≡ ahead'.unread
+      line_whole : (e : HeadLine) → LineText key head e text → r.following ≡ ahead'.unread
       line_whole e l = elim r.whole [ inl x ↦ x.1 | inr x ↦ absurd (newline_inside text (is_line e text l) x.0) ]
 
       pub added : (u : Unit {0}) → TakesLine head text number head' (Ok u) → Heading source'' ahead' head' (number + 1)
@@ -211,7 +211,7 @@ module _ (source : SourceState) where
             front = h.front ++ text;
             lines_are = (h.front, text, h.lines_are, subst (λ (d : Head). LineText key d t.0 text) back t.1, subst (λ (d : Head). Onward d t.0) back t.3, refl);
             head_is = ap (λ (d : Head). after d t.0) h.head_is ∙ sym t.2;
-            parts = r.parts ∙ sym (append_assoc h.front text r.behind) ∙ ap (λ (l : List ℕ). (h.front ++ text) ++ l) (line_whole t.0 t.1);
+            parts = r.parts ∙ sym (append_assoc h.front text r.following) ∙ ap (λ (l : List ℕ). (h.front ++ text) ++ l) (line_whole t.0 t.1);
             number_is = let n = h.number_is in omega (arith, n);
             few = omega (arith, few, length-append h.front text, ap length line.2, length-append line.0 (10 ∷ []));
             same_faults = r.same_faults;
@@ -226,17 +226,17 @@ module _ (source : SourceState) where
       abbrev all : List ℕ
       all = take most r.bytes
 
-      first_there : first_line (text ++ r.behind) ≡ text
+      first_there : first_line (text ++ r.following) ≡ text
       first_there = elim r.whole [
-        | inl x ↦ first_is text r.behind x.0
+        | inl x ↦ first_is text r.following x.0
         | inr x ↦ ap (λ (l : List ℕ). first_line (text ++ l)) x.1 ∙ ap first_line (append-nil text) ∙ first_plain text x.0
       ]
 
       -- there is no allowed line, if the text is none
-      none_there : (at : ℕ) → IsNoLine head text at → (e : HeadLine) (t more : List ℕ) → LineText key head e t → text ++ r.behind ≡ t ++ more → ⊥
+      none_there : (at : ℕ) → IsNoLine head text at → (e : HeadLine) (t more : List ℕ) → LineText key head e t → text ++ r.following ≡ t ++ more → ⊥
       none_there at miss e t more l parts = elim r.whole [
         | inl x ↦
-            let same = same_line text r.behind t more x.0 (is_line e t l) parts in
+            let same = same_line text r.following t more x.0 (is_line e t l) parts in
             miss.none e t [] l (same.0 ∙ sym (append-nil t))
         | inr x ↦ miss.none e t more l (sym (ap (λ (l : List ℕ). text ++ l) x.1 ∙ append-nil text) ∙ parts)
       ]
@@ -249,12 +249,12 @@ module _ (source : SourceState) where
             bad = record {
               lines = h.lines;
               front = h.front;
-              rest = text ++ r.behind;
+              rest = text ++ r.following;
               lines_are = h.lines_are;
               parts = r.parts;
               number = n ∙ sym same;
-              none = subst (λ (d : Head). (e : HeadLine) (t more : List ℕ) → LineText key d e t → text ++ r.behind ≡ t ++ more → ⊥) back (none_there at miss);
-              longest = (miss.longest.0, miss.longest.1, subst (λ (d : Head). IsLongest (LineText key d) (first_line (text ++ r.behind)) miss.longest.0) back (subst (λ (l : List ℕ). IsLongest (LineText key head) l miss.longest.0) (sym first_there) miss.longest.2));
+              none = subst (λ (d : Head). (e : HeadLine) (t more : List ℕ) → LineText key d e t → text ++ r.following ≡ t ++ more → ⊥) back (none_there at miss);
+              longest = (miss.longest.0, miss.longest.1, subst (λ (d : Head). IsLongest (LineText key d) (first_line (text ++ r.following)) miss.longest.0) back (subst (λ (l : List ℕ). IsLongest (LineText key head) l miss.longest.0) (sym first_there) miss.longest.2));
             };
             whole = elim r.whole [ inl x ↦ inl (subst IsLine (sym first_there) x.0) | inr x ↦ inr x.2 ];
           }
@@ -266,7 +266,7 @@ module _ (source : SourceState) where
             lines = h.lines;
             front = h.front;
             faulty = text;
-            rest = r.behind;
+            rest = r.following;
             entry = e;
             lines_are = h.lines_are;
             faulty_is = subst (λ (d : Head). LineText key d e text) back l;

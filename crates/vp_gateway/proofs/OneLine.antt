@@ -14,8 +14,8 @@ use Rattle.vp_client.specs.Conversations.{as_asked}
 use Rattle.vp_client.specs.declared.asking.AskFault.TheVariants as faults
 use Rattle.vp_gateway.specs.declared.end.GateEnd.{GateEnd}
 use Rattle.vp_gateway.specs.declared.end.GateEnd.TheVariants as ends
-use Rattle.vp_gateway.specs.declared.asked.Asked.{Asked}
-use Rattle.vp_gateway.specs.declared.asked.Asked.TheVariants as asked
+use Rattle.vp_gateway.specs.declared.asked.LineRequest.{LineRequest}
+use Rattle.vp_gateway.specs.declared.asked.LineRequest.TheVariants as asked
 use Rattle.vp_gateway.specs.Ends.{end_of_output}
 use Rattle.vp_gateway.specs.Lines.{said_line, bad_line, long_line}
 use Rattle.vp_gateway.specs.Sessions.{IsSession, Talk, talk, HasAnswered, HasLost, HasCut, HasRunOut}
@@ -33,19 +33,19 @@ module _ (port site turns : ℕ) where
     says_none words count h is =
         subst (λ (t : List ℕ). IsSession port site turns (asked.Call words ∷ []) t old new) (sym is) (asked_one port site turns old new words None (refl, h.1))
 
-    pub says_bad : (line : Asked) (at : ℕ) → line ≡ asked.Bad at → new ≡ old → view text ≡ bad_line at → Says port site turns view line old new (Ok text)
+    pub says_bad : (line : LineRequest) (at : ℕ) → line ≡ asked.Bad at → new ≡ old → view text ≡ bad_line at → Says port site turns view line old new (Ok text)
     says_bad line at line_is same is =
-        subst (λ (a : Asked). IsSession port site turns (a ∷ []) (view text) old new) (sym line_is)
+        subst (λ (a : LineRequest). IsSession port site turns (a ∷ []) (view text) old new) (sym line_is)
         (subst (λ (t : List ℕ). IsSession port site turns (asked.Bad at ∷ []) t old new) (sym is) (bad_one port site turns old new at same))
 
-    pub says_long : (line : Asked) → line ≡ asked.Long → new ≡ old → view text ≡ long_line → Says port site turns view line old new (Ok text)
+    pub says_long : (line : LineRequest) → line ≡ asked.Long → new ≡ old → view text ≡ long_line → Says port site turns view line old new (Ok text)
     says_long line line_is same is =
-        subst (λ (a : Asked). IsSession port site turns (a ∷ []) (view text) old new) (sym line_is)
+        subst (λ (a : LineRequest). IsSession port site turns (a ∷ []) (view text) old new) (sym line_is)
         (subst (λ (t : List ℕ). IsSession port site turns (asked.Long ∷ []) t old new) (sym is) (long_one port site turns old new same))
 
   -- the answer to a line that asks this
-  pub says_as : {T : Type 0} (view : T → List ℕ) (line words : Asked) (old new : LinkState) (r : Result T GateEnd) → line ≡ words → Says port site turns view words old new r → Says port site turns view line old new r
-  says_as view line words old new r same h = subst (λ (a : Asked). Says port site turns view a old new r) (sym same) h
+  pub says_as : {T : Type 0} (view : T → List ℕ) (line words : LineRequest) (old new : LinkState) (r : Result T GateEnd) → line ≡ words → Says port site turns view words old new r → Says port site turns view line old new r
+  says_as view line words old new r same h = subst (λ (a : LineRequest). Says port site turns view a old new r) (sym same) h
 
   -- memory ran out, while the answer was printed
   pub forgets_answer : {T : Type 0} (view : T → List ℕ) (old new : LinkState) (words : Call) (a : Answer) → Asks port site words turns old new (Ok a) → Says port site turns view (asked.Call words) old new (Err ends.NoMemory)
@@ -56,13 +56,13 @@ module _ (port site turns : ℕ) where
 
   -- ---- what is put to the sink
 
-  module _ {T : Type 0} (view : T → List ℕ) (line : Asked) (sink sink' : SinkState) (old new : LinkState) where
+  module _ {T : Type 0} (view : T → List ℕ) (line : LineRequest) (sink sink' : SinkState) (old new : LinkState) where
     pub unsaid : (end : GateEnd) → sink' ≡ sink → Says port site turns view line old new (Err end) → AnswersLine port site turns line (talk sink sink' old new) (Err end)
     unsaid ends.LinkFault same h = record {
       front = [];
       words = h.0;
       back = [];
-      parts = ap (λ (a : Asked). a ∷ []) h.1;
+      parts = ap (λ (a : LineRequest). a ∷ []) h.1;
       text = [];
       now = old;
       session = no_lines port site turns old old refl;
@@ -86,7 +86,7 @@ module _ (port site turns : ℕ) where
       text = [];
       now = old;
       session = no_lines port site turns old old refl;
-      last = inr (h.0, [], ap (λ (a : Asked). a ∷ []) h.1, h.2);
+      last = inr (h.0, [], ap (λ (a : LineRequest). a ∷ []) h.1, h.2);
       writes = subst (λ (s : SinkState). AppendsPrefix sink.held s.held []) (sym same) (none_prefix port site turns sink.held []);
     }
     unsaid ends.NoMemory same (inr (inr h)) = record {

@@ -10,8 +10,8 @@ use Rattle.vp_model.specs.Types.{Call}
 use Rattle.vp_schedule.specs.Grammar.{IsCallText}
 use Rattle.vp_schedule.specs.Reading.{call_at}
 use Rattle.vp_schedule.proofs.Exact.{call_exact}
-use Rattle.vp_gateway.specs.declared.asked.Asked.{Asked}
-use Rattle.vp_gateway.specs.declared.asked.Asked.TheVariants as asked
+use Rattle.vp_gateway.specs.declared.asked.LineRequest.{LineRequest}
+use Rattle.vp_gateway.specs.declared.asked.LineRequest.TheVariants as asked
 use Rattle.vp_gateway.specs.Lines.{read_as, line_as}
 
 pub long_as : (newline : Bool) (line : List ℕ) → 4097 ≤ length line → line_as newline line ≡ asked.Long

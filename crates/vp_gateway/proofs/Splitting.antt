@@ -4,7 +4,7 @@ use Rattle.std.proofs.lemmas.Bool.{ne_eqb, cases_lt, lt-ltb}
 use Rattle.std.proofs.lemmas.List.{take_all, length-take}
 use Rattle.vp_text.specs.Documents.{HasNoNewline}
 use Rattle.vp_lines.specs.Lines.{Split, with_byte, split}
-use Rattle.vp_gateway.specs.declared.asked.Asked.{Asked}
+use Rattle.vp_gateway.specs.declared.asked.LineRequest.{LineRequest}
 use Rattle.vp_gateway.specs.Lines.{line_as, whole_lines, last_line, all_lines}
 
 split_plain : (bytes : List ℕ) → HasNoNewline bytes → split bytes ≡ record { lines = []; rest = bytes }
@@ -17,7 +17,7 @@ split_line (c ∷ cs) more h = rw (ne_eqb c 10 h.0) (ap (λ (s : Split). with_by
 
 -- ---- what the lines ask
 
-abbrev whole_of : Split → List Asked
+abbrev whole_of : Split → List LineRequest
 whole_of s = map (λ (line : List ℕ). line_as true line) s.lines
 
 pub none_whole : (bytes : List ℕ) → HasNoNewline bytes → whole_lines bytes ≡ []
@@ -27,14 +27,14 @@ pub last_alone : (bytes : List ℕ) → HasNoNewline bytes → all_lines bytes �
 last_alone bytes h = ap (λ (s : Split). whole_of s ++ last_line s.rest) (split_plain bytes h)
 
 -- These bytes are whole lines that ask this, and what comes after them is after these lines.
-pub record Asks (front : List ℕ) (done : List Asked) : Type 0 where
+pub record Asks (front : List ℕ) (done : List LineRequest) : Type 0 where
   pub whole : (more : List ℕ) → whole_lines (front ++ more) ≡ done ++ whole_lines more
   pub all : (more : List ℕ) → all_lines (front ++ more) ≡ done ++ all_lines more
 
 pub asks_none : Asks [] []
 asks_none = record { whole = λ more. refl; all = λ more. refl }
 
-pub asks_more : (front : List ℕ) (done : List Asked) (line : List ℕ) → HasNoNewline line → Asks front done → Asks (front ++ (line ++ 10 ∷ [])) (done ++ line_as true line ∷ [])
+pub asks_more : (front : List ℕ) (done : List LineRequest) (line : List ℕ) → HasNoNewline line → Asks front done → Asks (front ++ (line ++ 10 ∷ [])) (done ++ line_as true line ∷ [])
 asks_more front done line plain h = record {
   whole = λ more. ap whole_lines (joined more) ∙ h.whole (line ++ 10 ∷ more) ∙ ap (λ (s : Split). done ++ whole_of s) (split_line line more plain) ∙ sym (append_assoc done (line_as true line ∷ []) (whole_lines more));
   all = λ more.

@@ -12,8 +12,8 @@ use Rattle.vp_client.specs.Asked.{Asks}
 use Rattle.vp_client.specs.Conversations.{Exchange, as_asked, Conversed}
 use Rattle.vp_client.specs.declared.asking.AskFault.TheVariants as faults
 use Rattle.vp_client.proofs.Conversations.{conversations_join}
-use Rattle.vp_gateway.specs.declared.asked.Asked.{Asked}
-use Rattle.vp_gateway.specs.declared.asked.Asked.TheVariants as asked
+use Rattle.vp_gateway.specs.declared.asked.LineRequest.{LineRequest}
+use Rattle.vp_gateway.specs.declared.asked.LineRequest.TheVariants as asked
 use Rattle.vp_gateway.specs.Lines.{said_line, bad_line, long_line}
 use Rattle.vp_gateway.specs.Sessions.{Answers, IsSession, Talk, talk, HasAnswered, HasLost, HasCut, HasRunOut}
 
@@ -42,7 +42,7 @@ module _ (port site turns : ℕ) (old new : LinkState) where
 
 -- ---- one after the other
 
-answers_join : (xs ys : List Asked) (ex ey : List Exchange) (t u : List ℕ) → Answers xs ex t → Answers ys ey u → Answers (xs ++ ys) (ex ++ ey) (t ++ u)
+answers_join : (xs ys : List LineRequest) (ex ey : List Exchange) (t u : List ℕ) → Answers xs ex t → Answers ys ey u → Answers (xs ++ ys) (ex ++ ey) (t ++ u)
 answers_join _ ys _ ey _ u Answers.none k = k
 answers_join _ ys _ ey _ u (Answers.asks words said more exchanges text h) k =
     subst (Answers (asked.Call words ∷ (more ++ ys)) ((words, said) ∷ (exchanges ++ ey))) (sym (append_assoc (said_line said) text u))
@@ -55,15 +55,15 @@ answers_join _ ys _ ey _ u (Answers.long more exchanges text h) k =
     (Answers.long (more ++ ys) (exchanges ++ ey) (text ++ u) (answers_join more ys exchanges ey text u h k))
 
 module _ (port site turns : ℕ) where
-  sessions_join : (xs ys : List Asked) (t u : List ℕ) (old mid new : LinkState) → IsSession port site turns xs t old mid → IsSession port site turns ys u mid new → IsSession port site turns (xs ++ ys) (t ++ u) old new
+  sessions_join : (xs ys : List LineRequest) (t u : List ℕ) (old mid new : LinkState) → IsSession port site turns xs t old mid → IsSession port site turns ys u mid new → IsSession port site turns (xs ++ ys) (t ++ u) old new
   sessions_join xs ys t u old mid new h k = record {
     exchanges = h.exchanges ++ k.exchanges;
     answers = answers_join xs ys h.exchanges k.exchanges t u h.answers k.answers;
     conversed = conversations_join port site turns h.exchanges k.exchanges old mid new h.conversed k.conversed;
   }
 
-  prefix_behind : (a b c : Option (List ℕ)) (t u : List ℕ) → Appends a b t → AppendsPrefix b c u → AppendsPrefix a c (t ++ u)
-  prefix_behind a b c t u h k = (
+  prefix_after : (a b c : Option (List ℕ)) (t u : List ℕ) → Appends a b t → AppendsPrefix b c u → AppendsPrefix a c (t ++ u)
+  prefix_after a b c t u h k = (
     length t + k.0,
     let n = k.1 in omega (arith, n, length-append t u),
     subst (Appends a c) (sym (take-append-add t u k.0)) (Appends-trans a b c t (take k.0 u) h k.2),
@@ -80,7 +80,7 @@ module _ (port site turns : ℕ) where
   pub nothing_answered : (sink : SinkState) (link link' : LinkState) → link' ≡ link → HasAnswered port site turns (talk sink sink link link') []
   nothing_answered sink link link' same = record { text = []; session = no_lines port site turns link link' same; writes = Appends-nil sink.held }
 
-  module _ (sink sink1 sink2 : SinkState) (link link1 link2 : LinkState) (done : List Asked) (line : Asked) (h : HasAnswered port site turns (talk sink sink1 link link1) done) where
+  module _ (sink sink1 sink2 : SinkState) (link link1 link2 : LinkState) (done : List LineRequest) (line : LineRequest) (h : HasAnswered port site turns (talk sink sink1 link link1) done) where
     abbrev now : Talk
     now = talk sink1 sink2 link1 link2
 
@@ -95,10 +95,10 @@ module _ (port site turns : ℕ) where
     }
 
     -- more lines come after the one that is answered
-    regrouped : (front back more : List Asked) → line ∷ [] ≡ front ++ back → done ++ line ∷ more ≡ (done ++ front) ++ (back ++ more)
-    regrouped front back more e = ap (λ (l : List Asked). done ++ (l ++ more)) e ∙ ap (λ (l : List Asked). done ++ l) (append_assoc front back more) ∙ sym (append_assoc done front (back ++ more))
+    regrouped : (front back more : List LineRequest) → line ∷ [] ≡ front ++ back → done ++ line ∷ more ≡ (done ++ front) ++ (back ++ more)
+    regrouped front back more e = ap (λ (l : List LineRequest). done ++ (l ++ more)) e ∙ ap (λ (l : List LineRequest). done ++ l) (append_assoc front back more) ∙ sym (append_assoc done front (back ++ more))
 
-    pub lost_then : (more : List Asked) → HasLost port site turns now (line ∷ []) → HasLost port site turns all (done ++ line ∷ more)
+    pub lost_then : (more : List LineRequest) → HasLost port site turns now (line ∷ []) → HasLost port site turns all (done ++ line ∷ more)
     lost_then more k = record {
       front = done ++ k.front;
       words = k.words;
@@ -111,17 +111,17 @@ module _ (port site turns : ℕ) where
       writes = Appends-trans sink.held sink1.held sink2.held h.text k.text h.writes k.writes;
     }
 
-    pub cut_then : (more : List Asked) → HasCut port site turns now (line ∷ []) → HasCut port site turns all (done ++ line ∷ more)
+    pub cut_then : (more : List LineRequest) → HasCut port site turns now (line ∷ []) → HasCut port site turns all (done ++ line ∷ more)
     cut_then more k = record {
       front = done ++ k.front;
       back = k.back ++ more;
       parts = regrouped k.front k.back more k.parts;
       text = h.text ++ k.text;
       session = sessions_join done k.front h.text k.text link link1 link2 h.session k.session;
-      writes = prefix_behind sink.held sink1.held sink2.held h.text k.text h.writes k.writes;
+      writes = prefix_after sink.held sink1.held sink2.held h.text k.text h.writes k.writes;
     }
 
-    pub run_out_then : (more : List Asked) → HasRunOut port site turns now (line ∷ []) → HasRunOut port site turns all (done ++ line ∷ more)
+    pub run_out_then : (more : List LineRequest) → HasRunOut port site turns now (line ∷ []) → HasRunOut port site turns all (done ++ line ∷ more)
     run_out_then more k = record {
       front = done ++ k.front;
       back = k.back ++ more;
@@ -129,12 +129,12 @@ module _ (port site turns : ℕ) where
       text = h.text ++ k.text;
       now = k.now;
       session = sessions_join done k.front h.text k.text link link1 k.now h.session k.session;
-      last = elim k.last [ inl same ↦ inl same | inr x ↦ inr (x.0, x.1 ++ more, ap (λ (l : List Asked). l ++ more) x.2, x.3) ];
-      writes = prefix_behind sink.held sink1.held sink2.held h.text k.text h.writes k.writes;
+      last = elim k.last [ inl same ↦ inl same | inr x ↦ inr (x.0, x.1 ++ more, ap (λ (l : List LineRequest). l ++ more) x.2, x.3) ];
+      writes = prefix_after sink.held sink1.held sink2.held h.text k.text h.writes k.writes;
     }
 
   -- memory ran out before the first of these lines
-  pub run_out_here : (sink sink' : SinkState) (link link' : LinkState) (done more : List Asked) → HasAnswered port site turns (talk sink sink' link link') done → HasRunOut port site turns (talk sink sink' link link') (done ++ more)
+  pub run_out_here : (sink sink' : SinkState) (link link' : LinkState) (done more : List LineRequest) → HasAnswered port site turns (talk sink sink' link link') done → HasRunOut port site turns (talk sink sink' link link') (done ++ more)
   run_out_here sink sink' link link' done more h = record {
     front = done;
     back = more;

@@ -9,15 +9,15 @@ use Rattle.vp_client.specs.declared.asking.AskFault.TheVariants as faults
 use Rattle.vp_lines.specs.Ahead.{Ahead, fitting}
 use Rattle.vp_gateway.specs.declared.end.GateEnd.{GateEnd}
 use Rattle.vp_gateway.specs.declared.end.GateEnd.TheVariants as ends
-use Rattle.vp_gateway.specs.declared.asked.Asked.{Asked}
-use Rattle.vp_gateway.specs.declared.asked.Asked.TheVariants as asked
+use Rattle.vp_gateway.specs.declared.asked.LineRequest.{LineRequest}
+use Rattle.vp_gateway.specs.declared.asked.LineRequest.TheVariants as asked
 use Rattle.vp_gateway.specs.Lines.{whole_lines, all_lines}
 use Rattle.vp_gateway.specs.Sessions.{IsSession, Talk, HasAnswered, HasLost, HasCut, HasRunOut}
 use Rattle.vp_gateway.specs.Opening.{HasTaken}
 
 module _ (port site turns : ℕ) where
   -- The line was answered with this text, or the link or memory failed.
-  abbrev pub Says : {T : Type 0} → (T → List ℕ) → Asked → LinkState → LinkState → Result T GateEnd → Type 0
+  abbrev pub Says : {T : Type 0} → (T → List ℕ) → LineRequest → LinkState → LinkState → Result T GateEnd → Type 0
   Says view line old new (Ok text) = IsSession port site turns (line ∷ []) (view text) old new
   Says view line old new (Err ends.LinkFault) = (words : Call) × (line ≡ asked.Call words) × Asks port site words turns old new (Err faults.LinkFault)
   Says view line old new (Err ends.NoMemory) =
@@ -27,7 +27,7 @@ module _ (port site turns : ℕ) where
   Says view line old new (Err end) = ⊥
 
   -- That holds, and the text was put to the sink.
-  abbrev pub AnswersLine : Asked → Talk → Result ⊤ GateEnd → Type 0
+  abbrev pub AnswersLine : LineRequest → Talk → Result ⊤ GateEnd → Type 0
   AnswersLine line t (Ok u) = HasAnswered port site turns t (line ∷ []) × (t.sink'.faults ≡ t.sink.faults)
   AnswersLine line t (Err ends.WriteFault) = HasCut port site turns t (line ∷ []) × Rose t.sink.faults t.sink'.faults
   AnswersLine line t (Err ends.LinkFault) = HasLost port site turns t (line ∷ [])

@@ -11,8 +11,8 @@ use Rattle.vp_catalog.specs.declared.fault.CatalogFault.TheVariants as faults
 use Rattle.vp_outside.specs.Causes.{Rose}
 use Rattle.vp_outside.specs.Input.{SourceState, IsEnded, Took}
 use Rattle.vp_lines.specs.Ahead.{Ahead}
-use Rattle.vp_lines.specs.declared.unread.Found.{Found}
-use Rattle.vp_lines.specs.declared.unread.Found.TheVariants as found
+use Rattle.vp_lines.specs.declared.unread.LineFound.{LineFound}
+use Rattle.vp_lines.specs.declared.unread.LineFound.TheVariants as found
 use Rattle.vp_heads.specs.declared.line.HeadLine.{HeadLine}
 use Rattle.vp_heads.specs.declared.head.Head.{Head}
 use Rattle.vp_heads.specs.Heads.{LineText, blank, after, Onward, Repeats, Overfills}
@@ -129,7 +129,7 @@ limited true ends.NoSite = ends.Limit
 limited spent end = end
 
 -- a line that was found, with its newline if that has come
-abbrev pub text_of : Found → List ℕ → List ℕ
+abbrev pub text_of : LineFound → List ℕ → List ℕ
 text_of found.Line line = line ++ 10 ∷ []
 text_of found.Rest line = line
 text_of found.End line = line

@@ -7,9 +7,9 @@ ghost use Rattle.vp_outside.specs.Links.{StaysBound};
 ghost use Rattle.vp_gateway.specs.Lines.{line_as, bad_line};
 ghost use Rattle.vp_gateway.specs.Sessions.{talk};
 ghost use Rattle.vp_gateway.specs.Answering.{Says, AnswersLine};
-ghost use Rattle.vp_gateway.specs.declared.asked.Asked.TheVariants as asked;
+ghost use Rattle.vp_gateway.specs.declared.asked.LineRequest.TheVariants as asked;
 
-use crate::asked::{Asked, read_line};
+use crate::asked::{LineRequest, read_line};
 use crate::end::GateEnd;
 use std::alloc::{AllocError, Global};
 use vp_base::{Answer, Call, NoMemory, SiteId};
@@ -58,9 +58,9 @@ fn said<L: Link>(
     ensures stays { StaysBound (L.state link.old) (L.state link.new) }
 {
     match read_line(alloc, line, newline)? {
-        Asked::Call(call) => asked(alloc, link, port, site, turns, &call),
-        Asked::Bad { at } => Ok(print_bad(alloc, at)?),
-        Asked::Long => Ok(copied(alloc, b"long\n")?),
+        LineRequest::Call(call) => asked(alloc, link, port, site, turns, &call),
+        LineRequest::Bad { at } => Ok(print_bad(alloc, at)?),
+        LineRequest::Long => Ok(copied(alloc, b"long\n")?),
     }
 }
 

@@ -12,7 +12,7 @@ pub const MOST_LINE: usize = 4096;
 
 /// What a line asks.
 #[derive(Drop)]
-pub enum Asked {
+pub enum LineRequest {
     /// This call.
     Call(Call),
     /// Nothing: it is no call, since no call goes on after the bytes before byte `at`, counted from 1.
@@ -24,23 +24,23 @@ pub enum Asked {
 /// Reads what a line asks. No more than 4,097 bytes of a line are given, which is enough to see that it is too long. A line whose newline
 /// hasn't come is no call.
 #[tactic(auto, using(crate::proofs::Reading::long_as, crate::proofs::Reading::call_as, crate::proofs::Reading::unended_as, crate::proofs::Reading::bad_as))]
-pub fn read_line(alloc: Global, line: &[u8], newline: bool) -> Result<Asked, NoMemory>
+pub fn read_line(alloc: Global, line: &[u8], newline: bool) -> Result<LineRequest, NoMemory>
     requires { length line.now ≤ 4097 }
     ensures read { IfOk result (λ asked. asked ≡ line_as newline line.now) }
     ensures call { IfOk result AsksCall }
 {
     if line.len() > MOST_LINE {
-        return Ok(Asked::Long);
+        return Ok(LineRequest::Long);
     }
     match read_call(alloc, line) {
         Ok(call) => {
             if newline {
-                Ok(Asked::Call(call))
+                Ok(LineRequest::Call(call))
             } else {
-                Ok(Asked::Bad { at: line.len() + 1 })
+                Ok(LineRequest::Bad { at: line.len() + 1 })
             }
         }
-        Err(NameFault::BadName { at }) => Ok(Asked::Bad { at: at + 1 }),
+        Err(NameFault::BadName { at }) => Ok(LineRequest::Bad { at: at + 1 }),
         Err(NameFault::NoMemory) => Err(NoMemory),
     }
 }

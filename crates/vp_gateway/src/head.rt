@@ -11,7 +11,7 @@ use std::alloc::Global;
 use vp_base::{LineFault, NoMemory, SiteId};
 use vp_catalog::CatalogFault;
 use vp_heads::{Head, parse_head};
-use vp_lines::{Found, MOST_TAKEN, Unread};
+use vp_lines::{LineFound, MOST_TAKEN, ReadBuffer};
 use vp_outside::Source;
 use vp_text::Cursor;
 
@@ -20,7 +20,7 @@ use vp_text::Cursor;
 pub fn open<S: Source>(
     alloc: Global,
     source: &mut S,
-    unread: &mut Unread,
+    unread: &mut ReadBuffer,
     site: SiteId,
 ) -> Result<u16, GateEnd>
     requires { unread.old ≡ untaken }
@@ -49,7 +49,7 @@ fn limited(end: GateEnd, spent: bool) -> GateEnd
 fn find_port<S: Source>(
     alloc: Global,
     source: &mut S,
-    unread: &mut Unread,
+    unread: &mut ReadBuffer,
     site: SiteId,
 ) -> Result<u16, GateEnd>
     requires { unread.old ≡ untaken }
@@ -71,16 +71,16 @@ fn find_port<S: Source>(
 }
 
 /// Adds the newline to a line whose newline has come.
-fn end_line(line: &mut Vec<u8>, found: Found) -> Result<(), NoMemory>
+fn end_line(line: &mut Vec<u8>, found: LineFound) -> Result<(), NoMemory>
     ensures { OnOk result (line.new.items ≡ text_of found line.old.items) }
 {
     match found {
-        Found::Line => {
+        LineFound::Line => {
             line.push(b'\n')?;
             Ok(())
         }
-        Found::Rest => Ok(()),
-        Found::End => Ok(()),
+        LineFound::Rest => Ok(()),
+        LineFound::End => Ok(()),
     }
 }
 

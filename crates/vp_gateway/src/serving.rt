@@ -11,7 +11,7 @@ use crate::end::GateEnd;
 use crate::head::open;
 use std::alloc::Global;
 use vp_base::SiteId;
-use vp_lines::{Found, Unread};
+use vp_lines::{LineFound, ReadBuffer};
 use vp_outside::{Link, Sink, Source};
 
 /// Reads a catalogue and the line `session`, binds the gateway's own port, and answers each further line before more is taken: a call
@@ -29,7 +29,7 @@ pub fn serve<S: Source, K: Sink, L: Link>(
     ensures serves { Serves own site turns
         (gate (S.state source.old) (S.state source.new) (K.state sink.old) (K.state sink.new) (L.state link.old) (L.state link.new)) result }
 {
-    let mut unread = Unread::new();
+    let mut unread = ReadBuffer::new();
     match open(alloc, source, &mut unread, site) {
         Err(end) => end,
         Ok(port) => match link.bind(own) {
@@ -48,7 +48,7 @@ pub fn serve<S: Source, K: Sink, L: Link>(
 fn answer_lines<S: Source, K: Sink, L: Link>(
     alloc: Global,
     source: &mut S,
-    unread: &mut Unread,
+    unread: &mut ReadBuffer,
     sink: &mut K,
     link: &mut L,
     port: u16,
@@ -62,11 +62,11 @@ fn answer_lines<S: Source, K: Sink, L: Link>(
     let mut line = Vec::new(alloc);
     'lines: loop {
         match unread.next(source, &mut line, MOST_LINE + 1)? {
-            Found::End => return Ok(()),
-            Found::Rest => {
+            LineFound::End => return Ok(()),
+            LineFound::Rest => {
                 return answer(alloc, sink, link, port, site, turns, &line, false);
             }
-            Found::Line => answer(alloc, sink, link, port, site, turns, &line, true)?,
+            LineFound::Line => answer(alloc, sink, link, port, site, turns, &line, true)?,
         }
     }
 }

@@ -13,8 +13,8 @@ use Rattle.vp_outside.specs.declared.source.InputFault.{InputFault}
 use Rattle.vp_outside.specs.declared.source.InputFault.TheVariants as faults
 use Rattle.vp_outside.proofs.Pieces.{Took-more}
 use Rattle.vp_lines.specs.Ahead.{Ahead, fitting, rest_found, HasLine, HasNoLine, HasRest, Finds, Passes, Fills}
-use Rattle.vp_lines.specs.declared.unread.Found.{Found}
-use Rattle.vp_lines.specs.declared.unread.Found.TheVariants as found
+use Rattle.vp_lines.specs.declared.unread.LineFound.{LineFound}
+use Rattle.vp_lines.specs.declared.unread.LineFound.TheVariants as found
 
 -- ---- the front of a list
 
@@ -30,11 +30,11 @@ take_none zero = refl
 take_none (suc n) = refl
 
 -- a newline in a part of a piece
-pub behind_part : (k n : ℕ) (xs : List ℕ) → drop k (take n xs) ≡ take (n - k) (drop k xs)
-behind_part zero n xs = let all : n - 0 ≡ n = omega arith in rw all refl
-behind_part (suc k) zero xs = let none : 0 - suc k ≡ 0 = omega arith in rw none refl
-behind_part (suc k) (suc n) [] = sym (take_none (suc n - suc k))
-behind_part (suc k) (suc n) (x ∷ xs) = let less : suc n - suc k ≡ n - k = omega arith in rw less (behind_part k n xs)
+pub after_part : (k n : ℕ) (xs : List ℕ) → drop k (take n xs) ≡ take (n - k) (drop k xs)
+after_part zero n xs = let all : n - 0 ≡ n = omega arith in rw all refl
+after_part (suc k) zero xs = let none : 0 - suc k ≡ 0 = omega arith in rw none refl
+after_part (suc k) (suc n) [] = sym (take_none (suc n - suc k))
+after_part (suc k) (suc n) (x ∷ xs) = let less : suc n - suc k ≡ n - k = omega arith in rw less (after_part k n xs)
 
 pub passes_line : (piece : List ℕ) (at end count : ℕ) → position (λ b. b == 10) (take (end - at) (drop at piece)) ≡ Some count →
     HasNoNewline (take count (take (end - at) (drop at piece))) × (take (end - at) (drop at piece) ≡ take count (take (end - at) (drop at piece)) ++ 10 ∷ take (end - (at + (count + 1))) (drop (at + (count + 1)) piece))
@@ -43,10 +43,10 @@ passes_line piece at end count e =
     let f = newline_at unread count e in
     let next : suc count ≡ count + 1 = omega arith in
     let less : end - at - suc count ≡ end - (at + (count + 1)) = omega arith in
-    let behind : drop (suc count) unread ≡ take (end - (at + (count + 1))) (drop (at + (count + 1)) piece) =
-    behind_part (suc count) (end - at) (drop at piece) ∙ ap (λ n. take n (drop (suc count) (drop at piece))) less
+    let following : drop (suc count) unread ≡ take (end - (at + (count + 1))) (drop (at + (count + 1)) piece) =
+    after_part (suc count) (end - at) (drop at piece) ∙ ap (λ n. take n (drop (suc count) (drop at piece))) less
     ∙ ap (take (end - (at + (count + 1)))) (drop-drop (suc count) at piece ∙ ap (λ n. drop (at + n) piece) next) in
-    (f.1, sym (take-append-drop count unread) ∙ ap (λ (l : List ℕ). take count unread ++ l) (f.2 ∙ ap (λ (l : List ℕ). 10 ∷ l) behind))
+    (f.1, sym (take-append-drop count unread) ∙ ap (λ (l : List ℕ). take count unread ++ l) (f.2 ∙ ap (λ (l : List ℕ). 10 ∷ l) following))
 
 -- what has no room is left out once or twice
 take_front : (n : ℕ) (xs ys : List ℕ) → take n (take n xs ++ ys) ≡ take n (xs ++ ys)
@@ -195,14 +195,14 @@ module _ (most : ℕ) (old : Ahead) (source : SourceState) where
         never [] e = let no : found.Line ≡ found.End = e in cc
         never (x ∷ xs) e = let no : found.Line ≡ found.Rest = e in cc
 
-        by : (what : Found) → HasRest most old new line source source'' what → Finds most old new line source source'' (Ok what)
+        by : (what : LineFound) → HasRest most old new line source source'' what → Finds most old new line source source'' (Ok what)
         by found.Line r = absurd (never _ r.is)
         by found.Rest r = r
         by found.End r = r
 
-    pub ended_there : 0 < most → (b : Bool) → b ≡ false → Fills now new source' source'' (Ok b) → (what : Found) → what ≡ rest_found line → Finds most old new line source source'' (Ok what)
+    pub ended_there : 0 < most → (b : Bool) → b ≡ false → Fills now new source' source'' (Ok b) → (what : LineFound) → what ≡ rest_found line → Finds most old new line source source'' (Ok what)
     ended_there some true e f what is = absurd (false≢true (sym e))
-    ended_there some false e f what is = subst (λ (w : Found). Finds most old new line source source'' (Ok w)) (sym is) (ended some f)
+    ended_there some false e f what is = subst (λ (w : LineFound). Finds most old new line source source'' (Ok w)) (sym is) (ended some f)
 
     pub unfilled : (e : InputFault) → Fills now new source' source'' (Err e) → Finds most old new line source source'' (Err e)
     unfilled faults.Failed f = (no_line f.0, subst (λ n. Rose n source''.faults) h.same_faults f.1)

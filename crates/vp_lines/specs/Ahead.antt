@@ -5,8 +5,8 @@ use Rattle.vp_outside.specs.Causes.{Rose}
 use Rattle.vp_outside.specs.Input.{SourceState, IsEnded, Took}
 use Rattle.vp_outside.specs.declared.source.InputFault.{InputFault}
 use Rattle.vp_outside.specs.declared.source.InputFault.TheVariants as faults
-use Rattle.vp_lines.specs.declared.unread.Found.{Found}
-use Rattle.vp_lines.specs.declared.unread.Found.TheVariants as found
+use Rattle.vp_lines.specs.declared.unread.LineFound.{LineFound}
+use Rattle.vp_lines.specs.declared.unread.LineFound.TheVariants as found
 
 -- Bytes that were taken and not passed yet, and how many more may be taken.
 pub record Ahead : Type 0 where
@@ -22,7 +22,7 @@ abbrev pub fitting : ℕ → List ℕ → List ℕ
 fitting credit bytes = take (credit - 1) bytes
 
 -- what is found at the end of input, after the last newline
-abbrev pub rest_found : List ℕ → Found
+abbrev pub rest_found : List ℕ → LineFound
 rest_found [] = found.End
 rest_found (c ∷ cs) = found.Rest
 
@@ -47,7 +47,7 @@ module _ (most : ℕ) (old new : Ahead) (line : List ℕ) (source source' : Sour
     pub plain : HasNoNewline (old.unread ++ fitting old.credit more)
 
   -- The same, and the input has ended: what is left comes after the last newline.
-  pub record HasRest (what : Found) : Type 0 where
+  pub record HasRest (what : LineFound) : Type 0 where
     pub none : HasNoLine
     pub few : length none.more < old.credit
     pub ended : IsEnded source'
@@ -56,7 +56,7 @@ module _ (most : ℕ) (old new : Ahead) (line : List ℕ) (source source' : Sour
     pub left : new.credit ≡ old.credit - length none.more
     pub same_faults : source'.faults ≡ source.faults
 
-  abbrev pub Finds : Result Found InputFault → Type 0
+  abbrev pub Finds : Result LineFound InputFault → Type 0
   Finds (Ok found.Line) = HasLine
   Finds (Ok found.Rest) = HasRest found.Rest
   Finds (Ok found.End) = HasRest found.End

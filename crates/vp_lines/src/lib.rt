@@ -3,4 +3,4 @@
 
 mod unread;
 
-pub use unread::{Found, MOST_TAKEN, Unread};
+pub use unread::{LineFound, MOST_TAKEN, ReadBuffer};

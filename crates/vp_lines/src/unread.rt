@@ -15,7 +15,7 @@ const PIECE: usize = 8192;
 
 /// What was found in a source.
 #[derive(Clone, Copy, Debug, Drop, PartialEq, Eq)]
-pub enum Found {
+pub enum LineFound {
     /// A line, whose newline has come.
     Line,
     /// Bytes after the last newline, and the end of input.
@@ -26,14 +26,14 @@ pub enum Found {
 
 /// Bytes that were taken from a source and not passed yet. Contracts see them, and how many more may be taken.
 #[derive(Drop)]
-pub struct Unread {
+pub struct ReadBuffer {
     piece: [u8; PIECE],
     at: usize,
     end: usize,
     credit: usize,
 }
 
-impl Model for Unread {
+impl Model for ReadBuffer {
     ghost use Rattle.std.specs.Prelude.{◌≤◌, ◌-◌, take, drop};
     ghost use Rattle.vp_lines.specs.Ahead.{Ahead};
 
@@ -44,12 +44,12 @@ impl Model for Unread {
     ghost invariant = { λ u. (u.at ≤ u.end) × (u.end ≤ 8192) × (u.credit ≤ 16777217) };
 }
 
-impl Unread {
+impl ReadBuffer {
     /// Makes the state before anything is taken.
-    pub fn new() -> Unread
+    pub fn new() -> ReadBuffer
         ensures { result ≡ untaken }
     {
-        Unread {
+        ReadBuffer {
             piece: [0; PIECE],
             at: 0,
             end: 0,
@@ -72,7 +72,7 @@ impl Unread {
         source: &mut S,
         line: &mut Vec<u8>,
         most: usize,
-    ) -> Result<Found, InputFault>
+    ) -> Result<LineFound, InputFault>
         requires some { 0 < most }
         ensures { Finds most self.old self.new line.new.items (S.state source.old) (S.state source.new) result }
     {
@@ -80,7 +80,7 @@ impl Unread {
         loop {
             let whole = self.pass(line, most)?;
             if whole {
-                return Ok(Found::Line);
+                return Ok(LineFound::Line);
             }
             let more = self.fill(source)?;
             if !more {
@@ -127,13 +127,13 @@ impl Unread {
 }
 
 /// What is found at the end of input, by what came after the last newline.
-fn rest_of(line: &[u8]) -> Found
+fn rest_of(line: &[u8]) -> LineFound
     ensures { result ≡ rest_found line.now }
 {
     if line.is_empty() {
-        Found::End
+        LineFound::End
     } else {
-        Found::Rest
+        LineFound::Rest
     }
 }
 

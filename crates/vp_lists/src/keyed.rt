@@ -9,7 +9,7 @@ use std::mem;
 use vp_base::{Decision, Doubt, NoMemory, Part, RecId, Refreshing, Seq, SiteId, TxnId, ViewId};
 
 /// An item of an ordered list: two items have the same key, or one comes before the other.
-pub trait Keyed {
+pub trait HasKey {
     ghost use Rattle.std.specs.Prelude.{Bool};
 
     ghost same: { Self → Self → Bool };
@@ -27,7 +27,7 @@ pub trait Keyed {
 
 /// Finds where the item belongs, and whether an item with its key is there.
 #[tactic(auto, using(crate::proofs::Places::placed))]
-fn place_of<T: Keyed>(items: &[T], item: &T) -> (usize, bool)
+fn place_of<T: HasKey>(items: &[T], item: &T) -> (usize, bool)
     ensures within { result.0 ≤ length items.now }
     ensures there { IsTrue result.1 → result.0 < length items.now }
     ensures place { put T.same T.before item.now items.now ≡
@@ -45,7 +45,7 @@ fn place_of<T: Keyed>(items: &[T], item: &T) -> (usize, bool)
 }
 
 /// Puts the item in its place, where it replaces one with the same key. Where memory is lacking, the items stay as they are.
-pub fn put<T: Keyed + Drop>(items: &mut Vec<T>, item: T) -> Result<(), NoMemory>
+pub fn put<T: HasKey + Drop>(items: &mut Vec<T>, item: T) -> Result<(), NoMemory>
     ensures ok { OnOk result (items.new.items ≡ put T.same T.before item items.old.items) }
     ensures err { OnErr result (items.new.items ≡ items.old.items) }
 {
@@ -59,7 +59,7 @@ pub fn put<T: Keyed + Drop>(items: &mut Vec<T>, item: T) -> Result<(), NoMemory>
 }
 
 /// Does the same in a list of the shared types. Where memory is lacking, the list may be empty afterwards.
-pub fn put_in<T: Keyed + Drop>(list: &mut Seq<T>, item: T) -> Result<(), NoMemory>
+pub fn put_in<T: HasKey + Drop>(list: &mut Seq<T>, item: T) -> Result<(), NoMemory>
     ensures { OnOk result (list.new ≡ put T.same T.before item list.old) }
 {
     let none = Seq::new(list.allocator());
@@ -69,7 +69,7 @@ pub fn put_in<T: Keyed + Drop>(list: &mut Seq<T>, item: T) -> Result<(), NoMemor
     Ok(())
 }
 
-impl Keyed for SiteId {
+impl HasKey for SiteId {
     ghost use Rattle.std.specs.Prelude.{nat_eq, nat_lt};
 
     ghost same = { nat_eq };
@@ -85,7 +85,7 @@ impl Keyed for SiteId {
     }
 }
 
-impl Keyed for RecId {
+impl HasKey for RecId {
     ghost use Rattle.std.specs.Prelude.{nat_eq, nat_lt};
 
     ghost same = { nat_eq };
@@ -101,7 +101,7 @@ impl Keyed for RecId {
     }
 }
 
-impl Keyed for ViewId {
+impl HasKey for ViewId {
     ghost use Rattle.vp_model.specs.Words.{same_view, view_before};
 
     ghost same = { same_view };
@@ -117,7 +117,7 @@ impl Keyed for ViewId {
     }
 }
 
-impl Keyed for TxnId {
+impl HasKey for TxnId {
     ghost use Rattle.vp_model.specs.Words.{same_txn, txn_before};
 
     ghost same = { same_txn };
@@ -133,7 +133,7 @@ impl Keyed for TxnId {
     }
 }
 
-impl Keyed for Part {
+impl HasKey for Part {
     ghost use Rattle.vp_model.specs.Words.{same_txn, txn_before};
 
     ghost same = { λ a b. same_txn a.txn b.txn };
@@ -149,7 +149,7 @@ impl Keyed for Part {
     }
 }
 
-impl Keyed for Refreshing {
+impl HasKey for Refreshing {
     ghost use Rattle.std.specs.Prelude.{nat_eq, nat_lt};
 
     ghost same = { λ a b. nat_eq a.rec b.rec };
@@ -165,7 +165,7 @@ impl Keyed for Refreshing {
     }
 }
 
-impl<K: Keyed, V> Keyed for (K, V) {
+impl<K: HasKey, V> HasKey for (K, V) {
     ghost same = { λ a b. K.same a.0 b.0 };
 
     ghost before = { λ a b. K.before a.0 b.0 };
@@ -179,7 +179,7 @@ impl<K: Keyed, V> Keyed for (K, V) {
     }
 }
 
-impl Keyed for Doubt {
+impl HasKey for Doubt {
     ghost use Rattle.vp_model.specs.Words.{same_txn, txn_before};
 
     ghost same = { λ a b. same_txn a.txn b.txn };
@@ -195,7 +195,7 @@ impl Keyed for Doubt {
     }
 }
 
-impl Keyed for Decision {
+impl HasKey for Decision {
     ghost use Rattle.vp_model.specs.Words.{same_txn, txn_before};
 
     ghost same = { λ a b. same_txn a.txn b.txn };

@@ -13,7 +13,7 @@ mod order;
 pub use by_rec::{replace_at, value_at, write_copies};
 pub use by_txn::{OfTxn, find_txn, take_txn};
 pub use copies::copy_all;
-pub use keyed::{Keyed, put, put_in};
+pub use keyed::{HasKey, put, put_in};
 pub use order::{
     is_same_owner, is_same_txn, owner_comes_before, txn_comes_before, view_comes_before,
 };

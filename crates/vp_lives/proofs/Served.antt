@@ -11,7 +11,7 @@ use Rattle.vp_model.specs.Step.{durable_of}
 use Rattle.vp_outside.specs.Disk.{Halves, log_of, Only}
 use Rattle.vp_outside.specs.Links.{Gave, Hands}
 use Rattle.vp_outside.specs.declared.datagram.Datagram.{Datagram}
-use Rattle.vp_outside.specs.declared.datagram.Handed.{Handed}
+use Rattle.vp_outside.specs.declared.datagram.Dispatch.{Dispatch}
 use Rattle.vp_stable.specs.Halves.{HaveBatches, ReadAlike, HalvesAreOneLog}
 use Rattle.vp_stable.specs.Moments.{LeavesOnly}
 use Rattle.vp_runs.specs.Arrivals.{arrival}
@@ -93,9 +93,9 @@ pub untouched : (life : Life) → process_of life.id life.cluster.processes ≡ 
 untouched life at down arrived = record { happenings = []; are_of = tt; alone = λ e. tt; may = λ m. tt; p = life.process; at = at; log = refl; down = down; handed_is = sym (append-nil life.cluster.handed) }
 
 -- a beginning of datagrams, without their times
-prefix_of : (hs all : List Handed) → IsPrefix hs all → IsPrefix (datagrams_in hs) (datagrams_in all)
+prefix_of : (hs all : List Dispatch) → IsPrefix hs all → IsPrefix (datagrams_in hs) (datagrams_in all)
 prefix_of hs all h =
-    let f : Handed → Datagram = λ h. h.datagram in
+    let f : Dispatch → Datagram = λ h. h.datagram in
     ap (map f) h ∙ sym (take-map f (length hs) all) ∙ ap (λ n. take n (map f all)) (sym (length-map hs f))
 
 module _ (halves_are_one : HalvesAreOneLog) (handed_over : RunsAreHandedOver) (life : Life) (o : Outside) (on : IsOnDisk life o) where
@@ -152,7 +152,7 @@ module _ (halves_are_one : HalvesAreOneLog) (handed_over : RunsAreHandedOver) (l
 
   -- ---- each end
 
-  kept_lives : (arrived : List Datagram) (handed : List Handed) → HasLifeLeft here life.id had → Gave o.link.left o.link'.left arrived → Hands o.link.handed o.link'.handed handed → datagrams_in handed ≡ (run_on arrived).datagrams → IsKeptAs (run_on arrived) o.disk o.disk' → IsMomentary life o arrived → HasLived life o AllDone
+  kept_lives : (arrived : List Datagram) (handed : List Dispatch) → HasLifeLeft here life.id had → Gave o.link.left o.link'.left arrived → Hands o.link.handed o.link'.handed handed → datagrams_in handed ≡ (run_on arrived).datagrams → IsKeptAs (run_on arrived) o.disk o.disk' → IsMomentary life o arrived → HasLived life o AllDone
   kept_lives arrived handed lives gave hands is kept moments =
       let run = run_on arrived in
       let k : HaveBatches run.node.batches on.log' × Only on.log' (o.disk'.may_leave o.disk.asked) = some_log (λ log. HaveBatches run.node.batches log × Only log (o.disk'.may_leave o.disk.asked)) (o.disk'.logs o.disk.asked) on.log' on.told_after (kept on.honest) in
@@ -179,7 +179,7 @@ module _ (halves_are_one : HalvesAreOneLog) (handed_over : RunsAreHandedOver) (l
       (momentary c.batches c.arrived c.had c.lives c.moments)
 
   -- what a safe end leaves
-  safe_from : (batches : List (List LogRecord)) (arrived : List Datagram) (handed : List Handed) → batches ≡ had → (s : IsSafe here life.id batches o.link.given arrived handed o.disk o.disk')
+  safe_from : (batches : List (List LogRecord)) (arrived : List Datagram) (handed : List Dispatch) → batches ≡ had → (s : IsSafe here life.id batches o.link.given arrived handed o.disk o.disk')
       → IsPrefix (datagrams_in handed) (run_on (take s.sure arrived)).datagrams × ((image : Halves) → o.disk'.may_leave o.disk.asked image → LeavesFrom here life.id had arrived s.sure image)
   safe_from batches arrived handed e s = (
     subst (IsPrefix (datagrams_in handed)) (of_turns batches o.link.given arrived s.sure e) (prefix_of handed (handed_in here life.id batches o.link.given arrived s.sure) s.handed_of),
@@ -187,7 +187,7 @@ module _ (halves_are_one : HalvesAreOneLog) (handed_over : RunsAreHandedOver) (l
         (some_log (λ log. (image : Halves) → o.disk'.may_leave o.disk.asked image → LeavesFrom here life.id batches arrived s.sure image) (log_of o.disk) on.log on.told_before (s.left on.honest) image m),
   )
 
-  safe : (turns : ℕ) (c : Course here life.id turns o) (handed : List Handed) → Hands o.link.handed o.link'.handed handed → IsSafe here life.id c.batches o.link.given c.arrived handed o.disk o.disk' → HasLived life o PartDone
+  safe : (turns : ℕ) (c : Course here life.id turns o) (handed : List Dispatch) → Hands o.link.handed o.link'.handed handed → IsSafe here life.id c.batches o.link.given c.arrived handed o.disk o.disk' → HasLived life o PartDone
   safe turns c handed hands s =
       let e = same_batches c.batches c.had in
       let f = safe_from c.batches c.arrived handed e s in

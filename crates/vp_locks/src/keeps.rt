@@ -16,7 +16,7 @@ pub trait Keeps {
 
 /// Which locks of an owner are kept where its others are released.
 #[derive(Clone, Copy, Drop)]
-pub(crate) enum Staying {
+pub(crate) enum KeepRule {
     /// No lock is kept.
     None,
     /// Its exclusive locks are kept.
@@ -25,16 +25,16 @@ pub(crate) enum Staying {
     Elsewhere { rec: RecId },
 }
 
-impl Keeps for Staying {
+impl Keeps for KeepRule {
     ghost use Rattle.vp_locks.specs.Staying.{stays};
 
     ghost keeps = { stays };
 
     fn keeps(&self, lock: &Lock) -> bool {
         match self {
-            Staying::None => false,
-            Staying::Exclusive => lock.exclusive,
-            Staying::Elsewhere { rec } => lock.rec != *rec,
+            KeepRule::None => false,
+            KeepRule::Exclusive => lock.exclusive,
+            KeepRule::Elsewhere { rec } => lock.rec != *rec,
         }
     }
 }

@@ -18,7 +18,7 @@ mod places;
 mod slots;
 
 pub use keeps::Keeps;
-use keeps::Staying;
+use keeps::KeepRule;
 use places::{OwnerKey, Places, RecPlaces, owner_key};
 use slots::{exclusive_or_own, lock_at, raise, sweep, sweep_all};
 use std::alloc::Global;
@@ -279,7 +279,7 @@ impl Locks {
     }
 
     /// Releases the locks of the owner, except those that are to be kept.
-    fn sweep(&mut self, owner: &Owner, staying: Staying)
+    fn sweep(&mut self, owner: &Owner, staying: KeepRule)
         ensures { self.new ≡ filter (λ lock. not (same_owner lock.owner owner.now) || stays staying lock) self.old }
     {
         sweep(
@@ -340,7 +340,7 @@ impl Locks {
     pub fn unguard(&mut self, rec: RecId)
         ensures { self.new ≡ without_guard rec self.old }
     {
-        self.sweep(&Owner::Refresh, Staying::Elsewhere { rec });
+        self.sweep(&Owner::Refresh, KeepRule::Elsewhere { rec });
     }
 
     /// Releases all locks of the transaction.
@@ -348,7 +348,7 @@ impl Locks {
         ensures { self.new ≡ without_owner (owner.Txn txn) self.old }
     {
         let owner = Owner::Txn(txn);
-        self.sweep(&owner, Staying::None);
+        self.sweep(&owner, KeepRule::None);
         self.recs.remove(&owner_key(&owner));
     }
 
@@ -356,7 +356,7 @@ impl Locks {
     pub fn release_shared(&mut self, txn: TxnId)
         ensures { self.new ≡ without_shared (owner.Txn txn) self.old }
     {
-        self.sweep(&Owner::Txn(txn), Staying::Exclusive);
+        self.sweep(&Owner::Txn(txn), KeepRule::Exclusive);
     }
 
     /// Releases all locks except those that `kept` keeps.

@@ -39,7 +39,7 @@ const CHANGES: &[u8] = b"\
 fn counted(bytes: &[u8]) -> (&[u8], &[u8]) {
     match bytes {
         [] => (bytes, bytes),
-        [count, behind @ ..] => behind.split_at(usize::from(*count).min(behind.len())),
+        [count, following @ ..] => following.split_at(usize::from(*count).min(following.len())),
     }
 }
 
@@ -61,11 +61,11 @@ fn has(disk: &mut SureDisk, bytes: &[u8]) -> bool {
 fn changes_done(disk: &mut SureDisk, rows: &[u8]) -> Result<usize, OutFault> {
     let mut rest = rows;
     for row in 0..rows.len() {
-        let [kind, at, behind @ ..] = rest else {
+        let [kind, at, following @ ..] = rest else {
             return Ok(row);
         };
-        let (piece, behind) = counted(behind);
-        let (bytes, others) = counted(behind);
+        let (piece, following) = counted(following);
+        let (bytes, others) = counted(following);
         change(disk, *kind, *at, piece)?;
         let changed = has(disk, bytes);
         disk.sync()?;
@@ -233,7 +233,7 @@ fn a_log_that_is_laid_is_read(rt: HostRuntime) {
 }
 
 #[test]
-fn a_sure_disk_has_no_memory_for_what_ends_behind_the_longest_half(rt: HostRuntime) {
+fn a_sure_disk_has_no_memory_for_what_ends_after_the_longest_half(rt: HostRuntime) {
     let mut disk = SureDisk::new(rt.alloc());
     for at in [1 << 62, u64::MAX] {
         assert!(rt; disk.write_at(0, at, b"x") == Err(OutFault::NoMemory));
@@ -247,7 +247,7 @@ fn written(disk: &mut MemDisk, name: &Word, at: u64) -> Result<(), OutFault> {
 }
 
 #[test]
-fn a_disk_has_no_memory_for_what_ends_behind_the_longest_half(rt: HostRuntime) {
+fn a_disk_has_no_memory_for_what_ends_after_the_longest_half(rt: HostRuntime) {
     let name = word(&rt, rt.alloc(), b"one");
     let mut disk = MemDisk::new(rt.alloc(), Vec::new(rt.alloc()));
     for at in [1 << 62, u64::MAX] {

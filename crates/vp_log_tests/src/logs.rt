@@ -120,10 +120,10 @@ fn is_met(rt: &impl Abort, alloc: Global, table: Table, bytes: &[u8], number: u8
 fn rows_met(rt: &impl Abort, alloc: Global, table: Table, rows: &[u8]) -> usize {
     let mut rest = rows;
     for row in 0..rows.len() {
-        let [count, number, behind @ ..] = rest else {
+        let [count, number, following @ ..] = rest else {
             return row;
         };
-        let (bytes, others) = behind.split_at(usize::from(*count).min(behind.len()));
+        let (bytes, others) = following.split_at(usize::from(*count).min(following.len()));
         if !is_met(rt, alloc, table, bytes, *number) {
             return row;
         }
@@ -204,7 +204,7 @@ fn half_of(rt: &impl Abort, alloc: Global, batch: &Batch) -> Vec<u8>
 }
 
 #[test]
-fn a_batch_stands_behind_a_gate(rt: HostRuntime) {
+fn a_batch_stands_after_a_gate(rt: HostRuntime) {
     let half = half_of(&rt, rt.alloc(), &start(&rt, rt.alloc(), 1));
     assert_eq!(rt; half.as_slice(), ONE);
 }
@@ -222,7 +222,7 @@ fn length_with_two(rt: &impl Abort, alloc: Global, first: &Batch) -> usize
 }
 
 #[test]
-fn batches_are_appended_behind_each_other(rt: HostRuntime) {
+fn batches_are_appended_after_each_other(rt: HostRuntime) {
     assert_eq!(rt;
         length_with_two(&rt, rt.alloc(), &start(&rt, rt.alloc(), 1)),
         24

@@ -79,7 +79,7 @@ fn fails(disk: &mut MemDisk, name: &Word) -> Result<bool, OutFault> {
 }
 
 #[test]
-fn each_call_behind_a_stop_fails_until_the_disk_is_left(rt: HostRuntime) {
+fn each_call_after_a_stop_fails_until_the_disk_is_left(rt: HostRuntime) {
     let name = word(&rt, rt.alloc(), b"one");
     let mut disk = laid(&rt, rt.alloc(), &name);
     disk.stop_after(1);

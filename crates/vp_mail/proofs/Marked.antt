@@ -54,12 +54,12 @@ last_below n k (x ∷ []) r h last = alone (subst (λ b. AreBelow n (if b then [
     alone : AreBelow n (x.number ∷ []) → AreBelow n (x.number ∷ [])
     alone below = below
 last_below n k (x ∷ y ∷ xs) r h last =
-    let rest : AreBelow n (numbers (y ∷ xs)) = last_below n (x.number + 1) (y ∷ xs) r.1 (behind x.delivered h) (λ m before e. last m (x ∷ before) (ap (λ l. x ∷ l) e)) in
+    let rest : AreBelow n (numbers (y ∷ xs)) = last_below n (x.number + 1) (y ∷ xs) r.1 (following x.delivered h) (λ m before e. last m (x ∷ before) (ap (λ l. x ∷ l) e)) in
     (omega (arith, rest.0, r.1.0), rest)
   where
-    behind : (b : Bool) → AreBelow n (if b then undelivered (y ∷ xs) else x.number ∷ undelivered (y ∷ xs)) → AreBelow n (undelivered (y ∷ xs))
-    behind true below = below
-    behind false below = below.1
+    following : (b : Bool) → AreBelow n (if b then undelivered (y ∷ xs) else x.number ∷ undelivered (y ∷ xs)) → AreBelow n (undelivered (y ∷ xs))
+    following true below = below
+    following false below = below.1
 
 rises_more : (n k : ℕ) (xs : List ℕ) → k ≤ n → Rises k xs → AreBelow n xs → Rises k (xs ++ n ∷ [])
 rises_more n k [] le r h = (le, tt)
@@ -144,11 +144,11 @@ pub marked_shown : (n i : ℕ) (xs : List Numbered) (m : Numbered) → Rises n (
 marked_shown n i [] m r h at = absurd (omega (arith, h))
 marked_shown n zero (x ∷ xs) m r h at = here
   where
-    behind : without x.number (undelivered xs) ≡ undelivered xs
-    behind = none_at x.number xs (λ j d l e. let q = number_at (x.number + 1) j xs d r.1 l in omega (arith, q, e))
+    following : without x.number (undelivered xs) ≡ undelivered xs
+    following = none_at x.number xs (λ j d l e. let q = number_at (x.number + 1) j xs d r.1 l in omega (arith, q, e))
 
     here : undelivered (slice_set (x ∷ xs) 0 (marked m)) ≡ without m.number (undelivered (x ∷ xs))
-    here = rw at (sym (without_this x.delivered x.number (undelivered xs) ∙ behind))
+    here = rw at (sym (without_this x.delivered x.number (undelivered xs) ∙ following))
 marked_shown n (suc i) (x ∷ xs) m r h at =
     let q : x.number + 1 ≤ (get_or xs i m).number = number_at (x.number + 1) i xs m r.1 (omega (arith, h)) in
     let above : x.number + 1 ≤ m.number = subst (λ (y : Numbered). x.number + 1 ≤ y.number) (sym at) q in

@@ -25,11 +25,11 @@ enum Form {
 /// A message that was sent. A site asks each other holder of a copy that it has to refresh, again with each tick, so most messages
 /// of a large world are refresh requests: those are kept here in 24 bytes, and any other message in a box.
 #[derive(Drop)]
-pub struct Kept {
+pub struct PackedMessage {
     form: Form,
 }
 
-impl Model for Kept {
+impl Model for PackedMessage {
     ghost use Rattle.vp_model.specs.Types.{Sent as SentMessage};
     ghost use Rattle.vp_mail.specs.Keeping.{sent_as};
 
@@ -58,12 +58,12 @@ fn form_of(alloc: Global, sent: Sent) -> Result<Form, NoMemory>
     }
 }
 
-impl Kept {
+impl PackedMessage {
     /// Keeps the message. The only error is want of memory; the message is dropped then.
-    pub fn new(alloc: Global, sent: Sent) -> Result<Kept, NoMemory>
+    pub fn new(alloc: Global, sent: Sent) -> Result<PackedMessage, NoMemory>
         ensures { IfOk result (λ kept. kept ≡ sent) }
     {
-        Ok(Kept {
+        Ok(PackedMessage {
             form: form_of(alloc, sent)?,
         })
     }

@@ -5,7 +5,7 @@ ghost use Rattle.vp_model.specs.Words.{first};
 ghost use Rattle.vp_mail.specs.Queues.{pair_of, waiting, AreBelow, AreSites, AreSited};
 ghost use Rattle.vp_mail.specs.Posted.{message_in, posted, first_number};
 
-use crate::kept::Kept;
+use crate::kept::PackedMessage;
 use crate::queue::Queue;
 use std::alloc::Global;
 use std::marker::Model;
@@ -21,7 +21,7 @@ pub const PAIRS: usize = SITES * SITES;
 /// receiver there is a queue of its messages that were never delivered. The first numbers of all queues are next to each other in
 /// memory, for a walk over the pairs.
 pub struct Mail {
-    sent: Vec<Kept>,
+    sent: Vec<PackedMessage>,
     delivered: Vec<u32>,
     queues: Vec<Queue>,
     firsts: Vec<Option<u32>>,
@@ -83,7 +83,7 @@ fn firsts_of(alloc: Global, queues: &[Queue]) -> Result<Vec<Option<u32>>, NoMemo
 }
 
 /// Keeps the message, and appends its number to the queue. Where memory is lacking, both stay as they are.
-fn post(sent: &mut Vec<Kept>, queue: &mut Queue, message: Sent) -> Result<(), NoMemory>
+fn post(sent: &mut Vec<PackedMessage>, queue: &mut Queue, message: Sent) -> Result<(), NoMemory>
     requires room { length sent.old.items < 2000000 }
     requires last { AreBelow (length sent.old.items + 1) queue.old }
     ensures sent { OnOk result (sent.new.items ≡ sent.old.items ++ message ∷ []) }
@@ -91,7 +91,7 @@ fn post(sent: &mut Vec<Kept>, queue: &mut Queue, message: Sent) -> Result<(), No
     ensures err { OnErr result ((sent.new.items ≡ sent.old.items) × (queue.new ≡ queue.old)) }
 {
     let number = sent.len() as u32 + 1;
-    sent.push(Kept::new(*sent.allocator(), message)?)?;
+    sent.push(PackedMessage::new(*sent.allocator(), message)?)?;
     if let Err(e) = queue.push(number) {
         let _ = sent.pop();
         return Err(e);
@@ -194,7 +194,7 @@ impl Mail {
     }
 }
 
-fn message_in(sent: &[Kept], k: u32) -> Option<&Kept>
+fn message_in(sent: &[PackedMessage], k: u32) -> Option<&PackedMessage>
     ensures { option_copied result ≡ message_in k sent.now }
 {
     if k == 0 {

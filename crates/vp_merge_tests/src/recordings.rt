@@ -1,10 +1,10 @@
 //! Recordings that are read, and refused.
 
 use std::alloc::Global;
-use vp_recording::{Recorded, RecordingFault, parse};
+use vp_recording::{RecordingSet, RecordingFault, parse};
 
-/// A catalogue and the line `recordings`, with more lines behind them.
-fn parse_behind(alloc: Global, lines: &[u8]) -> Result<Recorded, RecordingFault> {
+/// A catalogue and the line `recordings`, with more lines after them.
+fn parse_after(alloc: Global, lines: &[u8]) -> Result<RecordingSet, RecordingFault> {
     let mut text = Vec::new(alloc);
     let head = b"site 1 7001\nrecord x 10 1:1\nrecordings\n";
     if text.extend_from_slice(head).is_err() || text.extend_from_slice(lines).is_err() {
@@ -15,7 +15,7 @@ fn parse_behind(alloc: Global, lines: &[u8]) -> Result<Recorded, RecordingFault>
 
 /// Whether the lines have a bad line of this number, at this place.
 fn is_bad_at(alloc: Global, lines: &[u8], line: usize, at: usize) -> bool {
-    match parse_behind(alloc, lines) {
+    match parse_after(alloc, lines) {
         Ok(_) => false,
         Err(fault) => fault == RecordingFault::BadLine { line, at },
     }
@@ -59,7 +59,7 @@ fn a_head_is_refused_at_its_place(rt: HostRuntime) {
 }
 
 /// The site and the life of the first block, whether it is ended, and how many turns it has; how many datagrams its first turn has.
-fn first_block(recorded: &Recorded) -> Option<(u8, u32, bool, usize, usize)> {
+fn first_block(recorded: &RecordingSet) -> Option<(u8, u32, bool, usize, usize)> {
     let block = recorded.recordings.as_slice().first()?;
     let turns = block.turns.as_slice();
     let outs = turns.first()?.outs.as_slice().len();
@@ -70,7 +70,7 @@ fn first_block(recorded: &Recorded) -> Option<(u8, u32, bool, usize, usize)> {
 fn blocks_are_read(rt: HostRuntime) {
     let lines =
         b"node 1\nstart 2\nbad 0\nin 560120000101\nout 56\nout 01\nstray 00\nin ff\nlink fault\nnode 1\nstart 3\n";
-    let recorded = parse_behind(rt.alloc(), lines).expect(&rt, "recordings");
+    let recorded = parse_after(rt.alloc(), lines).expect(&rt, "recordings");
     assert_eq!(rt; recorded.recordings.as_slice().len(), 2);
     assert!(rt; first_block(&recorded) == Some((1, 2, true, 2, 2)));
 }

@@ -114,7 +114,7 @@ fn goes_on(rt: &impl Abort, alloc: Global, ended: &Ended, log: &[u8]) -> bool {
 }
 
 /// How the log begins on which the next life starts, if the call of the disk with this number failed.
-fn log_behind(disk: u64) -> &'static [u8] {
+fn log_after(disk: u64) -> &'static [u8] {
     match disk {
         ..=9 => STARTED,
         ..=13 => STARTED_TWICE,
@@ -126,7 +126,7 @@ fn log_behind(disk: u64) -> &'static [u8] {
 fn disk_fault_is_told(rt: &impl Abort, alloc: Global, disk: u64) -> bool {
     let ended = run(rt, alloc, Failing { disk, ..NONE });
     let (lines, sent) = if disk <= 10 { (0, 0) } else { (5, 2) };
-    ends(&ended, Status::DiskFault, lines, sent) && goes_on(rt, alloc, &ended, log_behind(disk))
+    ends(&ended, Status::DiskFault, lines, sent) && goes_on(rt, alloc, &ended, log_after(disk))
 }
 
 // Call 1 attaches; recovery syncs, asks for both lengths, writes and syncs; the start of the life writes, syncs, writes and syncs, and so

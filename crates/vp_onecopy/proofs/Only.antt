@@ -12,7 +12,7 @@ use Rattle.vp_onecopy.specs.declared.map.History.{History}
 use Rattle.vp_onecopy.specs.declared.fault.HistoryFault.{HistoryFault}
 use Rattle.vp_onecopy.specs.declared.fault.HistoryFault.TheVariants as faults
 use Rattle.vp_onecopy.specs.History.{empty, after, Allowed, Onward, NamesAgain, IsHistory, IsTooLong}
-use Rattle.vp_onecopy.specs.Passing.{history_line, Passed, Behind, IsMissing, AnsweredAll, IsOnly}
+use Rattle.vp_onecopy.specs.Passing.{history_line, Passed, Following, IsMissing, AnsweredAll, IsOnly}
 use Rattle.vp_onecopy.proofs.Steps.{reads, readable}
 
 -- ---- the lines after the line `history`
@@ -127,18 +127,18 @@ twice line = Err (faults.Twice line)
 counted : (n l m line other : ℕ) → line ≡ n + 1 + l → other ≡ n + 1 + m → l ≡ m → line ≡ other
 counted n l m line other e f same = omega (arith, e, f, same)
 
-behind_same : (n : ℕ) (text : List ℕ) → length text < 2 ^ 63 → (r s : Result History HistoryFault) → Behind n text r → Behind n text s → r ≢ NoMemory → s ≢ NoMemory → r ≡ s
-behind_same n text small (Ok h) (Ok g) a b t u = ap answered (ok_ok text small h g a b)
-behind_same n text small (Ok h) (Err (faults.BadLine m k)) a b t u = absurd (ok_bad text small h b.0 k a b.2)
-behind_same n text small (Ok h) (Err (faults.Twice m)) a b t u = absurd (ok_twice text small h b.0 a b.2)
-behind_same n text small (Err (faults.BadLine l i)) (Ok g) a b t u = absurd (ok_bad text small g a.0 i b a.2)
-behind_same n text small (Err (faults.BadLine l i)) (Err (faults.BadLine m k)) a b t u = let same = bad_bad text small a.0 b.0 i k a.2 b.2 in rw (counted n a.0 b.0 l m a.1 b.1 same.0, same.1) refl
-behind_same n text small (Err (faults.BadLine l i)) (Err (faults.Twice m)) a b t u = absurd (bad_twice text small a.0 b.0 i a.2 b.2)
-behind_same n text small (Err (faults.Twice l)) (Ok g) a b t u = absurd (ok_twice text small g a.0 b a.2)
-behind_same n text small (Err (faults.Twice l)) (Err (faults.BadLine m k)) a b t u = absurd (bad_twice text small b.0 a.0 k b.2 a.2)
-behind_same n text small (Err (faults.Twice l)) (Err (faults.Twice m)) a b t u = ap twice (counted n a.0 b.0 l m a.1 b.1 (twice_twice text small a.0 b.0 a.2 b.2))
-behind_same n text small (Err faults.NoMemory) s a b t u = absurd (t refl)
-behind_same n text small r (Err faults.NoMemory) a b t u = absurd (u refl)
+after_same : (n : ℕ) (text : List ℕ) → length text < 2 ^ 63 → (r s : Result History HistoryFault) → Following n text r → Following n text s → r ≢ NoMemory → s ≢ NoMemory → r ≡ s
+after_same n text small (Ok h) (Ok g) a b t u = ap answered (ok_ok text small h g a b)
+after_same n text small (Ok h) (Err (faults.BadLine m k)) a b t u = absurd (ok_bad text small h b.0 k a b.2)
+after_same n text small (Ok h) (Err (faults.Twice m)) a b t u = absurd (ok_twice text small h b.0 a b.2)
+after_same n text small (Err (faults.BadLine l i)) (Ok g) a b t u = absurd (ok_bad text small g a.0 i b a.2)
+after_same n text small (Err (faults.BadLine l i)) (Err (faults.BadLine m k)) a b t u = let same = bad_bad text small a.0 b.0 i k a.2 b.2 in rw (counted n a.0 b.0 l m a.1 b.1 same.0, same.1) refl
+after_same n text small (Err (faults.BadLine l i)) (Err (faults.Twice m)) a b t u = absurd (bad_twice text small a.0 b.0 i a.2 b.2)
+after_same n text small (Err (faults.Twice l)) (Ok g) a b t u = absurd (ok_twice text small g a.0 b a.2)
+after_same n text small (Err (faults.Twice l)) (Err (faults.BadLine m k)) a b t u = absurd (bad_twice text small b.0 a.0 k b.2 a.2)
+after_same n text small (Err (faults.Twice l)) (Err (faults.Twice m)) a b t u = ap twice (counted n a.0 b.0 l m a.1 b.1 (twice_twice text small a.0 b.0 a.2 b.2))
+after_same n text small (Err faults.NoMemory) s a b t u = absurd (t refl)
+after_same n text small r (Err faults.NoMemory) a b t u = absurd (u refl)
 
 -- ---- the lines before it
 
@@ -195,12 +195,12 @@ found n text front rest w parts = record {
 abbrev ended : (n : ℕ) (text front rest : List ℕ) (w : PassedLines n front) → text ≡ front ++ rest → Divided start passed AnyLine Other text
 ended n text front rest w parts = record { lines = w.lines; front = front; rest = rest; lines_are = w.lines_are; parts = parts }
 
-no_line : (body behind rest : List ℕ) → rest ≡ (body ++ 10 ∷ []) ++ behind → HasNoNewline rest → ⊥
-no_line body behind rest e h = all_at (λ c. c ≡ 10 → ⊥) body 10 behind (subst HasNoNewline (e ∙ append_assoc body (10 ∷ []) behind) h) refl
+no_line : (body following rest : List ℕ) → rest ≡ (body ++ 10 ∷ []) ++ following → HasNoNewline rest → ⊥
+no_line body following rest e h = all_at (λ c. c ≡ 10 → ⊥) body 10 following (subst HasNoNewline (e ∙ append_assoc body (10 ∷ []) following) h) refl
 
 ended_is_last : (n : ℕ) (text front rest : List ℕ) (w : PassedLines n front) (parts : text ≡ front ++ rest) → HasNoNewline rest → IsLast start passed AnyLine Other (ended n text front rest w parts)
 ended_is_last n text front rest w parts clean more =
-    no_line more.line_is.0.0 more.behind rest (more.parts ∙ ap (λ (x : List ℕ). x ++ more.behind) more.line_is.0.2) clean
+    no_line more.line_is.0.0 more.following rest (more.parts ∙ ap (λ (x : List ℕ). x ++ more.following) more.line_is.0.2) clean
 
 clean_where_missing : (n : ℕ) (rest : List ℕ) (r : Result History HistoryFault) → r ≢ NoMemory → IsMissing n rest r → HasNoNewline rest
 clean_where_missing n rest (Ok h) t m = absurd m
@@ -230,14 +230,14 @@ found_or_ended n m text front rest other tail p e q f clean =
 rest_small : (text front rest : List ℕ) → length text < 2 ^ 63 → text ≡ front ++ (history_line ++ rest) → length rest < 2 ^ 63
 rest_small text front rest small e = omega (arith, small, ap length e, length-append front (history_line ++ rest), length-append history_line rest)
 
-found_same : (n m : ℕ) (text front rest other tail : List ℕ) (r s : Result History HistoryFault) → length text < 2 ^ 63 → Passed n front → text ≡ front ++ (history_line ++ rest) → Behind n rest r → Passed m other → text ≡ other ++ (history_line ++ tail) → Behind m tail s → r ≢ NoMemory → s ≢ NoMemory → r ≡ s
+found_same : (n m : ℕ) (text front rest other tail : List ℕ) (r s : Result History HistoryFault) → length text < 2 ^ 63 → Passed n front → text ≡ front ++ (history_line ++ rest) → Following n rest r → Passed m other → text ≡ other ++ (history_line ++ tail) → Following m tail s → r ≢ NoMemory → s ≢ NoMemory → r ≡ s
 found_same n m text front rest other tail r s small p e a q f b t u =
     let w = passed_lines n front p in
     let v = passed_lines m other q in
     let same = faulty_same start passed AnyLine Other IsFirst IsFirst first_stops first_stops text (any_plain (length text)) (length w.lines + 1) (length v.lines + 1) (found n text front rest w e) (found m text other tail v f) in
     let count : m ≡ n = sym v.count ∙ ap length (sym same.lines) ∙ w.count in
-    let here : Behind n rest s = subst (λ (k : ℕ). Behind k rest s) count (subst (λ (x : List ℕ). Behind m x s) (sym same.rest) b) in
-    behind_same n rest (rest_small text front rest small e) r s a here t u
+    let here : Following n rest s = subst (λ (k : ℕ). Following k rest s) count (subst (λ (x : List ℕ). Following m x s) (sym same.rest) b) in
+    after_same n rest (rest_small text front rest small e) r s a here t u
 
 ended_same : (n m : ℕ) (text front rest other tail : List ℕ) (r s : Result History HistoryFault) → Passed n front → text ≡ front ++ rest → IsMissing n rest r → Passed m other → text ≡ other ++ tail → IsMissing m tail s → r ≢ NoMemory → s ≢ NoMemory → r ≡ s
 ended_same n m text front rest other tail r s p e a q f b t u =

@@ -16,7 +16,7 @@ use Rattle.vp_onecopy.specs.declared.map.History.{History}
 use Rattle.vp_onecopy.specs.declared.fault.HistoryFault.{HistoryFault}
 use Rattle.vp_onecopy.specs.Lines.{Before, OpText, OpsText, CommitText, may_start}
 use Rattle.vp_onecopy.specs.History.{before, IsHistory}
-use Rattle.vp_onecopy.specs.Passing.{history_line, Passed, Behind, IsPrintedIn}
+use Rattle.vp_onecopy.specs.Passing.{history_line, Passed, Following, IsPrintedIn}
 use Rattle.vp_onecopy.proofs.Steps.{Lines, all_said}
 
 starts-push : (names values : List (List ℕ)) (n v : List ℕ) → length names ≡ length values → starts_text (names ++ n ∷ []) (values ++ v ∷ []) ≡ starts_text names values ++ start_text n v
@@ -90,6 +90,6 @@ history_is h text s =
     let front : s.front ≡ starts ++ commits = lines_are s.lines s.front s.lines_are ∙ ap said_text s.says in
     ap (λ (x : List ℕ). codes "history\n" ++ x) (s.parts ∙ ap (λ (x : List ℕ). x ++ s.last) front ∙ ap (λ (x : List ℕ). (starts ++ commits) ++ x) s.last_is ∙ append_assoc starts commits last)
 
-pub behind_printed : (n : ℕ) (text front rest : List ℕ) (result : Result History HistoryFault) → Passed n front → text ≡ front ++ (history_line ++ rest) → Behind n rest result → IfOk result (IsPrintedIn text)
-behind_printed n text front rest (Ok h) passed parts s = (n, front, passed, parts ∙ ap (λ (x : List ℕ). front ++ x) (history_is h rest s))
-behind_printed n text front rest (Err e) passed parts s = tt
+pub after_printed : (n : ℕ) (text front rest : List ℕ) (result : Result History HistoryFault) → Passed n front → text ≡ front ++ (history_line ++ rest) → Following n rest result → IfOk result (IsPrintedIn text)
+after_printed n text front rest (Ok h) passed parts s = (n, front, passed, parts ∙ ap (λ (x : List ℕ). front ++ x) (history_is h rest s))
+after_printed n text front rest (Err e) passed parts s = tt

@@ -20,7 +20,7 @@ use Rattle.vp_onecopy.specs.declared.fault.HistoryFault.{HistoryFault}
 use Rattle.vp_onecopy.specs.Playing.{op_record, OpsWithin, CommitsWithin}
 use Rattle.vp_onecopy.specs.Lines.{Before, OpText, OpsText, CommitText, some_names, may_start}
 use Rattle.vp_onecopy.specs.History.{last_from, before, empty, after, Allowed, IsNamed, Onward, IsHistory}
-use Rattle.vp_onecopy.specs.Passing.{history_line, Behind, AnsweredAll, IsOnly, IsTaken, IsReadBack}
+use Rattle.vp_onecopy.specs.Passing.{history_line, Following, AnsweredAll, IsOnly, IsTaken, IsReadBack}
 use Rattle.vp_onecopy.specs.Whole.{op_value, IsEntry, IsWhole}
 use Rattle.vp_onecopy.proofs.Only.{NoMemory, answered}
 use Rattle.vp_onecopy.proofs.Ordered.{not_itself, chain}
@@ -150,9 +150,9 @@ said_whole (kind.End ∷ es) t h = absurd h.4
 history_whole : (h : History) (text : List ℕ) → IsHistory h text → IsWhole h
 history_whole h text s = subst IsWhole s.says (said_whole s.lines s.front s.lines_are)
 
-pub behind_whole : (n : ℕ) (rest : List ℕ) (result : Result History HistoryFault) → Behind n rest result → IfOk result IsWhole
-behind_whole n rest (Ok h) s = history_whole h rest s
-behind_whole n rest (Err e) s = tt
+pub after_whole : (n : ℕ) (rest : List ℕ) (result : Result History HistoryFault) → Following n rest result → IfOk result IsWhole
+after_whole n rest (Ok h) s = history_whole h rest s
+after_whole n rest (Err e) s = tt
 
 -- ---- what is whole has a text
 

@@ -22,11 +22,11 @@ Passes old new (Ok n) = (front : List ℕ) × Passed n front × (old ≡ front +
 Passes old new (Err n) = (front : List ℕ) × Passed n front × (old ≡ front ++ new) × HasNoNewline new
 
 -- What is returned where the rest comes after that many lines and the line `history`: its lines are counted on from there.
-abbrev pub Behind : ℕ → List ℕ → Result History HistoryFault → Type 0
-Behind n rest (Ok h) = IsHistory h rest
-Behind n rest (Err (faults.BadLine line at)) = (l : ℕ) × (line ≡ n + 1 + l) × (IsBadLine empty after Allowed Onward rest l at ⊎ IsTooLong rest l at)
-Behind n rest (Err (faults.Twice line)) = (l : ℕ) × (line ≡ n + 1 + l) × IsFaultyLine empty after Allowed Onward NamesAgain rest l
-Behind n rest (Err faults.NoMemory) = ⊤
+abbrev pub Following : ℕ → List ℕ → Result History HistoryFault → Type 0
+Following n rest (Ok h) = IsHistory h rest
+Following n rest (Err (faults.BadLine line at)) = (l : ℕ) × (line ≡ n + 1 + l) × (IsBadLine empty after Allowed Onward rest l at ⊎ IsTooLong rest l at)
+Following n rest (Err (faults.Twice line)) = (l : ℕ) × (line ≡ n + 1 + l) × IsFaultyLine empty after Allowed Onward NamesAgain rest l
+Following n rest (Err faults.NoMemory) = ⊤
 
 -- Where no line is `history`, the fault is after the last byte.
 abbrev pub IsMissing : ℕ → List ℕ → Result History HistoryFault → Type 0
@@ -38,7 +38,7 @@ IsMissing n rest (Err faults.NoMemory) = ⊥
 -- What is returned for the whole text: it has that many lines before the first line `history`, or has no such line.
 abbrev pub AnsweredAll : List ℕ → Result History HistoryFault → Type 0
 AnsweredAll text result = (n : ℕ) × (front : List ℕ) × (rest : List ℕ) × Passed n front
-    × (((text ≡ front ++ (history_line ++ rest)) × Behind n rest result) ⊎ ((text ≡ front ++ rest) × IsMissing n rest result))
+    × (((text ≡ front ++ (history_line ++ rest)) × Following n rest result) ⊎ ((text ≡ front ++ rest) × IsMissing n rest result))
 
 -- Only one result is possible for a text, apart from want of memory.
 abbrev pub IsOnly : List ℕ → Result History HistoryFault → Type 0

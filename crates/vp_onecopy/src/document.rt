@@ -5,7 +5,7 @@ ghost use Rattle.vp_model.specs.Words.{opening};
 ghost use Rattle.vp_onecopy.specs.Lines.{AllNames};
 ghost use Rattle.vp_onecopy.specs.declared.map.History.{History};
 ghost use Rattle.vp_onecopy.specs.Reading.{line_at};
-ghost use Rattle.vp_onecopy.specs.Passing.{Behind, AnsweredAll, IsOnly, IsPrintedIn, IsTaken};
+ghost use Rattle.vp_onecopy.specs.Passing.{Following, AnsweredAll, IsOnly, IsPrintedIn, IsTaken};
 ghost use Rattle.vp_onecopy.specs.Whole.{IsWhole};
 ghost use Rattle.vp_onecopy.specs.History.{before, last_from, Answered, NextLine, Adds, Finishes};
 
@@ -113,9 +113,9 @@ fn read_lines(alloc: Global, text: &[u8]) -> Result<History, HistoryFault>
 }
 
 /// Reads a history from its lines, where `passed` lines and the line `history` came before.
-fn read_behind(alloc: Global, rest: &[u8], passed: usize) -> Result<History, HistoryFault>
+fn read_after(alloc: Global, rest: &[u8], passed: usize) -> Result<History, HistoryFault>
     requires { passed + length rest.now < 2 ^ 63 }
-    ensures { Behind passed rest.now result }
+    ensures { Following passed rest.now result }
 {
     match read_lines(alloc, rest) {
         Ok(history) => Ok(history),
@@ -140,7 +140,7 @@ pub fn read_history(alloc: Global, text: &[u8]) -> Result<History, HistoryFault>
 {
     let mut cursor = Cursor::new(text);
     match pass_over(&mut cursor) {
-        Ok(passed) => read_behind(alloc, cursor.rest(), passed),
+        Ok(passed) => read_after(alloc, cursor.rest(), passed),
         Err(passed) => Err(HistoryFault::BadLine {
             line: passed + 1,
             at: cursor.left() + 1,

@@ -5,7 +5,7 @@ use Rattle.std.proofs.lemmas.List.{length-append, append-nil}
 use Rattle.vp_outside.specs.Causes.{count_after}
 use Rattle.vp_outside.specs.Links.{Gave, Hands, nothing}
 use Rattle.vp_outside.specs.declared.datagram.Datagram.{Datagram}
-use Rattle.vp_outside.specs.declared.datagram.Handed.{Handed}
+use Rattle.vp_outside.specs.declared.datagram.Dispatch.{Dispatch}
 
 pub count_none : (n : ℕ) → n ≡ count_after n 0
 count_none n = grind (arith)
@@ -58,12 +58,12 @@ pub gave_none : (a b : Option (List Datagram)) → b ≡ a → Gave a b []
 gave_none None b e = tt
 gave_none (Some left) b e = rw e (refl, refl)
 
-pub hands_none : (a b : Option (List Handed)) → b ≡ a → Hands a b []
+pub hands_none : (a b : Option (List Dispatch)) → b ≡ a → Hands a b []
 hands_none None b e = tt
 hands_none (Some handed) b e = rw e (sym (append-nil handed))
 
 -- some datagrams were handed over, and then others
-pub hands_then : (a b c : Option (List Handed)) (xs ys : List Handed) → Hands a b xs → Hands b c ys → Hands a c (xs ++ ys)
+pub hands_then : (a b c : Option (List Dispatch)) (xs ys : List Dispatch) → Hands a b xs → Hands b c ys → Hands a c (xs ++ ys)
 hands_then None b c xs ys h k = tt
 hands_then (Some x) None c xs ys h k = absurd h
 hands_then (Some x) (Some y) None xs ys h k = absurd k

@@ -15,7 +15,7 @@ mod sources;
 
 pub use adapters::{Reading, Writing};
 pub use buffer::give;
-pub use datagram::{Datagram, Datagrams, Handed, MOST_GIVEN};
+pub use datagram::{Datagram, Datagrams, Dispatch, MOST_GIVEN};
 pub use disk::Disk;
 pub use fault_plan::FaultPlan;
 pub use link::Link;

@@ -27,7 +27,7 @@ use vp_base::{
 use vp_lists::copy_all;
 use vp_locks::{Keeps, Locks};
 use vp_records::Durable;
-use vp_tables::{Noted, Table};
+use vp_tables::{TxnSet, Table};
 
 /// How a part votes.
 #[derive(Drop)]
@@ -49,7 +49,7 @@ pub struct Settled {
 pub struct Participant {
     parts: Table<Part>,
     doubts: Vec<Doubt>,
-    ended: Noted,
+    ended: TxnSet,
 }
 
 impl Drop for Participant {
@@ -86,7 +86,7 @@ impl Participant {
         Ok(Participant {
             parts: Table::new(alloc),
             doubts: copy_all(alloc, doubts)?,
-            ended: Noted::new(alloc),
+            ended: TxnSet::new(alloc),
         })
     }
 

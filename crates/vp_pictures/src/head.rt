@@ -12,7 +12,7 @@ use crate::shape::{Ink, Shape, print_attribute, print_shape, print_shapes};
 use crate::sheet::{Mark, Sheet};
 use crate::words::{numbered, view_words, weight_words};
 use vp_base::{CopyOf, NoMemory, SiteId, View, ViewId};
-use vp_catalog::{Catalog, Placed};
+use vp_catalog::{Catalog, CatalogRecord};
 
 /// The opening view.
 const OPENING: ViewId = ViewId { number: 0, site: 0 };
@@ -102,7 +102,7 @@ impl Sheet {
         self.write(x + 66, Ink::Faint, port)
     }
 
-    fn head_record(&mut self, catalog: &Catalog, placed: &Placed) -> Result<(), NoMemory>
+    fn head_record(&mut self, catalog: &Catalog, placed: &CatalogRecord) -> Result<(), NoMemory>
         ensures { OnOk result (self.new ≡ record_head catalog.now placed.now self.old) }
     {
         for pair in catalog.ports() {
@@ -115,7 +115,7 @@ impl Sheet {
     fn head_weight(
         &mut self,
         catalog: &Catalog,
-        placed: &Placed,
+        placed: &CatalogRecord,
         pair: &(SiteId, u16),
     ) -> Result<(), NoMemory>
         ensures { OnOk result (self.new ≡ weight_head catalog.now placed.now pair.now self.old) }

@@ -10,7 +10,7 @@ ghost use Rattle.vp_pictures.specs.Words.{arrival_words, commit_words, idle_word
 
 use std::alloc::Global;
 use vp_base::{Answer, Commit, Event, Message, NoMemory, RecId, Shown, SiteId, View, Word};
-use vp_catalog::{Catalog, Placed};
+use vp_catalog::{Catalog, CatalogRecord};
 use vp_text::print_number;
 use vp_trace::{print_answer, print_event, print_message};
 
@@ -157,7 +157,7 @@ pub fn view_words(alloc: Global, catalog: &Catalog, view: &View) -> Result<Word,
 }
 
 /// Prints a site's copy of a record: the record's name, the weight of the copy, and the weight of all copies.
-pub fn weight_words(alloc: Global, placed: &Placed, weight: u32) -> Result<Word, NoMemory>
+pub fn weight_words(alloc: Global, placed: &CatalogRecord, weight: u32) -> Result<Word, NoMemory>
     ensures { IfOk result (λ w. w ≡ weight_words placed.now weight) }
 {
     let mut text = Vec::new(alloc);

@@ -12,7 +12,7 @@ use Rattle.vp_world.specs.Asked.{Asked}
 use Rattle.vp_world.specs.Steps.{asked_of, DoesEvent, IsReady}
 use Rattle.vp_playing.specs.Played.{run_in, lines_in, Sees, SeesAll, StepsAll, IsReadyFor}
 use Rattle.vp_playing.proofs.Seen.{sees_append}
-use Rattle.vp_playing.proofs.Turns.{behind, event_behind, run_grows, next_first, all_dropped, Flowing, flow_starts, flow_starts_run, flow_stops, flow_is_over, flow_turns, flow_turns_run, whole_moments}
+use Rattle.vp_playing.proofs.Turns.{following, event_after, run_grows, next_first, all_dropped, Flowing, flow_starts, flow_starts_run, flow_stops, flow_is_over, flow_turns, flow_turns_run, whole_moments}
 
 -- ---- parts of a run
 
@@ -144,10 +144,10 @@ module _ {S : Type 0} (did : Asked → S → S → Type 0) (s : Schedule) (i num
   abbrev pub added : Run
   added = one_event s.catalogue (i + 1) x (run_in known.world)
 
-  after_is : one_event s.catalogue (i + 1) x p.run ≡ behind p.run.moments added
-  after_is = event_behind s.catalogue (i + 1) x p.run ∙ ap (λ w. behind p.run.moments (one_event s.catalogue (i + 1) x (run_in w))) (sym p.world)
+  after_is : one_event s.catalogue (i + 1) x p.run ≡ following p.run.moments added
+  after_is = event_after s.catalogue (i + 1) x p.run ∙ ap (λ w. following p.run.moments (one_event s.catalogue (i + 1) x (run_in w))) (sym p.world)
 
-  ahead_after : run_from s.catalogue (i + 1 + 1) (drop (suc i) s.events) (behind p.run.moments added) ≡ run_of s
+  ahead_after : run_from s.catalogue (i + 1 + 1) (drop (suc i) s.events) (following p.run.moments added) ≡ run_of s
   unfolding run_from
   ahead_after =
       ap (run_from s.catalogue (i + 1 + 1) (drop (suc i) s.events)) (sym after_is)
@@ -162,16 +162,16 @@ module _ {S : Type 0} (did : Asked → S → S → Type 0) (s : Schedule) (i num
 
   pub event_is_ready : (may : Catalogue → Asked → S → Type 0) → IsReadyFor may did s.catalogue (moments_of s) old → IsReadyFor may did known.catalogue played.moments new
   event_is_ready may ready =
-      let more = run_grows s.catalogue (i + 1 + 1) (drop (suc i) s.events) (behind p.run.moments added) in
+      let more = run_grows s.catalogue (i + 1 + 1) (drop (suc i) s.events) (following p.run.moments added) in
       subst (λ c. IsReadyFor may did c played.moments new) (sym same)
       (subst (λ (run : Run). IsReadyFor may did s.catalogue run.moments new) (sym played_is)
       (part_is_ready may did s.catalogue p.run.moments added.moments more.0 (moments_of s) old new (ap (λ (run : Run). run.moments) (sym ahead_after) ∙ more.1) p.done ready))
 
   pub event_did : {T : Type 0} (sees begins : Catalogue → ℕ × Line → T → T → Type 0) (own : List (ℕ × Line)) (after : Known) (unseen seen : T) (now : S) → Sees sees begins known.catalogue own played (Ok after) unseen seen → StepsAll did known.catalogue played.moments new now → Stepping did s (i + 1) after.world old now
   event_did sees begins own after unseen seen now h done = record {
-    run = behind p.run.moments added;
+    run = following p.run.moments added;
     world = ap (λ (a : Known). a.world) h.1 ∙ ap (λ (run : Run). run.world) played_is;
-    ahead = subst (λ j. run_from s.catalogue (i + 1 + 1) (drop j s.events) (behind p.run.moments added) ≡ run_of s) (next_is i) ahead_after;
+    ahead = subst (λ j. run_from s.catalogue (i + 1 + 1) (drop j s.events) (following p.run.moments added) ≡ run_of s) (next_is i) ahead_after;
     done = sees_append (λ (m : Moment). DoesEvent did s.catalogue m.line.event m.before) p.run.moments added.moments old new now p.done (subst (λ (run : Run). StepsAll did s.catalogue run.moments new now) played_is (subst (λ c. StepsAll did c played.moments new now) same done));
   }
     where

@@ -26,36 +26,36 @@ abbrev over : Moment → Bool
 over = is_over world_limits
 
 -- some moments, and then those of the run
-abbrev pub behind : List Moment → Run → Run
-behind ms run = record { moments = ms ++ run.moments; world = run.world }
+abbrev pub following : List Moment → Run → Run
+following ms run = record { moments = ms ++ run.moments; world = run.world }
 
-behind_none : (run : Run) → run ≡ behind run.moments (run_in run.world)
-behind_none run = ap (λ (ms : List Moment). record { moments = ms; world = run.world }) (sym (append-nil run.moments))
+after_none : (run : Run) → run ≡ following run.moments (run_in run.world)
+after_none run = ap (λ (ms : List Moment). record { moments = ms; world = run.world }) (sym (append-nil run.moments))
 
-behind_more : (xs ys : List Moment) (run : Run) → behind (xs ++ ys) run ≡ behind xs (behind ys run)
-behind_more xs ys run = ap (λ (ms : List Moment). record { moments = ms; world = run.world }) (append_assoc xs ys run.moments)
+following_more : (xs ys : List Moment) (run : Run) → following (xs ++ ys) run ≡ following xs (following ys run)
+following_more xs ys run = ap (λ (ms : List Moment). record { moments = ms; world = run.world }) (append_assoc xs ys run.moments)
 
-step_behind : (catalogue : Catalogue) (n : ℕ) (e : Event) (run : Run) → one_step catalogue n e run ≡ behind run.moments (one_step catalogue n e (run_in run.world))
+step_after : (catalogue : Catalogue) (n : ℕ) (e : Event) (run : Run) → one_step catalogue n e run ≡ following run.moments (one_step catalogue n e (run_in run.world))
 unfolding one_step
-step_behind catalogue n e run = refl
+step_after catalogue n e run = refl
 
-flow_behind : (catalogue : Catalogue) (n count : ℕ) (run : Run) → flow catalogue n count run ≡ behind run.moments (flow catalogue n count (run_in run.world))
+flow_after : (catalogue : Catalogue) (n count : ℕ) (run : Run) → flow catalogue n count run ≡ following run.moments (flow catalogue n count (run_in run.world))
 unfolding flow
-flow_behind catalogue n zero run = behind_none run
-flow_behind catalogue n (suc count) run = go (flowing run.world) (flow_behind catalogue n count)
+flow_after catalogue n zero run = after_none run
+flow_after catalogue n (suc count) run = go (flowing run.world) (flow_after catalogue n count)
   where
     next : ℕ → Run → Run
     next k run = flow catalogue n count (one_step catalogue n (event.Deliver k) run)
 
-    go : (o : Option ℕ) → ((r : Run) → flow catalogue n count r ≡ behind r.moments (flow catalogue n count (run_in r.world))) → for_some o next run ≡ behind run.moments (for_some o next (run_in run.world))
-    go None rest = behind_none run
+    go : (o : Option ℕ) → ((r : Run) → flow catalogue n count r ≡ following r.moments (flow catalogue n count (run_in r.world))) → for_some o next run ≡ following run.moments (for_some o next (run_in run.world))
+    go None rest = after_none run
     go (Some k) rest =
         let alone = one_step catalogue n (event.Deliver k) (run_in run.world) in
         let after = flow catalogue n count (run_in alone.world) in
-        ap (flow catalogue n count) (step_behind catalogue n (event.Deliver k) run)
-        ∙ rest (behind run.moments alone)
-        ∙ behind_more run.moments alone.moments after
-        ∙ ap (behind run.moments) (sym (rest alone))
+        ap (flow catalogue n count) (step_after catalogue n (event.Deliver k) run)
+        ∙ rest (following run.moments alone)
+        ∙ following_more run.moments alone.moments after
+        ∙ ap (following run.moments) (sym (rest alone))
 
 step_numbered : (catalogue : Catalogue) (n : ℕ) (e : Event) (run : Run) → AllByRecursion (λ (m : Moment). m.number ≡ n) run.moments → AllByRecursion (λ (m : Moment). m.number ≡ n) (one_step catalogue n e run).moments
 unfolding one_step
@@ -73,10 +73,10 @@ flow_numbered catalogue n (suc count) run h = go (flowing run.world) (λ k. flow
     go None rest = h
     go (Some k) rest = rest k
 
-pub event_behind : (catalogue : Catalogue) (n : ℕ) (e : Event) (run : Run) → one_event catalogue n e run ≡ behind run.moments (one_event catalogue n e (run_in run.world))
+pub event_after : (catalogue : Catalogue) (n : ℕ) (e : Event) (run : Run) → one_event catalogue n e run ≡ following run.moments (one_event catalogue n e (run_in run.world))
 unfolding one_event
-event_behind catalogue n (event.Flow count) run = flow_behind catalogue n count run
-event_behind catalogue n e run = step_behind catalogue n e run
+event_after catalogue n (event.Flow count) run = flow_after catalogue n count run
+event_after catalogue n e run = step_after catalogue n e run
 
 -- each step of an event has the event's number
 numbered : (catalogue : Catalogue) (n : ℕ) (e : Event) (w : WorldState) → AllByRecursion (λ (m : Moment). m.number ≡ n) (one_event catalogue n e (run_in w)).moments
@@ -92,7 +92,7 @@ run_grows catalogue n (e ∷ events) run =
     let more = run_grows catalogue (n + 1) events (one_event catalogue n e run) in
     let alone = one_event catalogue n e (run_in run.world) in (
       alone.moments ++ more.0,
-      more.1 ∙ ap (λ (r : Run). r.moments ++ more.0) (event_behind catalogue n e run) ∙ append_assoc run.moments alone.moments more.0,
+      more.1 ∙ ap (λ (r : Run). r.moments ++ more.0) (event_after catalogue n e run) ∙ append_assoc run.moments alone.moments more.0,
     )
 
 found_all : (P : Moment → Type 0) (ms : List Moment) (m : Moment) → AllByRecursion P ms → find over ms ≡ Some m → P m
@@ -121,14 +121,14 @@ found_any (m ∷ ms) counted e = go (over m) e (found_any ms counted)
     go false q rest = rest q
 
 -- the first moment that exceeds a limit is the first among those after some that exceed none
-found_behind : (xs ys rest : List Moment) → list_any over xs ≡ false → find over ((xs ++ ys) ++ rest) ≡ option_or (find over ys) (find over rest)
-found_behind xs ys rest none =
+found_following : (xs ys rest : List Moment) → list_any over xs ≡ false → find over ((xs ++ ys) ++ rest) ≡ option_or (find over ys) (find over rest)
+found_following xs ys rest none =
     find-append over (xs ++ ys) rest ∙ ap (λ o. option_or o (find over rest)) (find-append over xs ys)
     ∙ ap (λ o. option_or (option_or o (find over ys)) (find over rest)) (none_found xs none)
 
-limit_behind : (xs ys rest : List Moment) (counted : Counted) → list_any over xs ≡ false → limit_in world_limits ys ≡ Some counted → limit_in world_limits ((xs ++ ys) ++ rest) ≡ Some counted
-limit_behind xs ys rest counted none some =
-    ap (option_and_then (λ (m : Moment). exceeded world_limits m.after)) (found_behind xs ys rest none) ∙ go (find over ys) some
+limit_after : (xs ys rest : List Moment) (counted : Counted) → list_any over xs ≡ false → limit_in world_limits ys ≡ Some counted → limit_in world_limits ((xs ++ ys) ++ rest) ≡ Some counted
+limit_after xs ys rest counted none some =
+    ap (option_and_then (λ (m : Moment). exceeded world_limits m.after)) (found_following xs ys rest none) ∙ go (find over ys) some
   where
     go : (o : Option Moment) → option_and_then (λ (m : Moment). exceeded world_limits m.after) o ≡ Some counted → option_and_then (λ (m : Moment). exceeded world_limits m.after) (option_or o (find over rest)) ≡ Some counted
     go None q = cc
@@ -172,21 +172,21 @@ before_front (m ∷ ms) rest e = go (over m) refl e (before_front ms rest)
     go true is q more = rw is refl
     go false is q more = before_more m (ms ++ rest) is ∙ ap (λ (front : List Moment). m ∷ front) (more q) ∙ sym (before_more m ms is)
 
-before_behind_all : (xs ys : List Moment) → list_any over xs ≡ false → before_first over (xs ++ ys) ≡ xs ++ before_first over ys
-before_behind_all [] ys none = refl
-before_behind_all (m ∷ xs) ys none =
+before_after_all : (xs ys : List Moment) → list_any over xs ≡ false → before_first over (xs ++ ys) ≡ xs ++ before_first over ys
+before_after_all [] ys none = refl
+before_after_all (m ∷ xs) ys none =
     let q = either_false (over m) (list_any over xs) none in
-    before_more m (xs ++ ys) q.0 ∙ ap (λ (front : List Moment). m ∷ front) (before_behind_all xs ys q.1)
+    before_more m (xs ++ ys) q.0 ∙ ap (λ (front : List Moment). m ∷ front) (before_after_all xs ys q.1)
 
-before_behind : (xs ys rest : List Moment) → list_any over xs ≡ false → list_any over ys ≡ true → before_first over ((xs ++ ys) ++ rest) ≡ xs ++ before_first over ys
-before_behind xs ys rest none some =
-    ap (before_first over) (append_assoc xs ys rest) ∙ before_behind_all xs (ys ++ rest) none ∙ ap (λ (front : List Moment). xs ++ front) (before_front ys rest some)
+before_after : (xs ys rest : List Moment) → list_any over xs ≡ false → list_any over ys ≡ true → before_first over ((xs ++ ys) ++ rest) ≡ xs ++ before_first over ys
+before_after xs ys rest none some =
+    ap (before_first over) (append_assoc xs ys rest) ∙ before_after_all xs (ys ++ rest) none ∙ ap (λ (front : List Moment). xs ++ front) (before_front ys rest some)
 
-cut_behind : {S : Type 0} (sees : ℕ × Line → S → S → Type 0) (xs ys rest : List Moment) (counted : Counted) (old mid new : S) → list_any over xs ≡ false → SeesAll sees (lines_in xs) old mid → limit_in world_limits ys ≡ Some counted → SeesAll sees (lines_in (before_first over ys)) mid new → IsCutShort sees ((xs ++ ys) ++ rest) counted old new
-cut_behind sees xs ys rest counted old mid new none so_far some more = record {
-  limit = limit_behind xs ys rest counted none some;
+cut_after : {S : Type 0} (sees : ℕ × Line → S → S → Type 0) (xs ys rest : List Moment) (counted : Counted) (old mid new : S) → list_any over xs ≡ false → SeesAll sees (lines_in xs) old mid → limit_in world_limits ys ≡ Some counted → SeesAll sees (lines_in (before_first over ys)) mid new → IsCutShort sees ((xs ++ ys) ++ rest) counted old new
+cut_after sees xs ys rest counted old mid new none so_far some more = record {
+  limit = limit_after xs ys rest counted none some;
   seen =
-      subst (λ (ms : List Moment). SeesAll sees (lines_in ms) old new) (sym (before_behind xs ys rest none (found_any ys counted some)))
+      subst (λ (ms : List Moment). SeesAll sees (lines_in ms) old new) (sym (before_after xs ys rest none (found_any ys counted some)))
       (sees_steps sees xs (before_first over ys) old mid new so_far more);
 }
 
@@ -196,15 +196,15 @@ before_grows ys rest = go (list_any over ys) refl
   where
     go : (b : Bool) → list_any over ys ≡ b → (more : List Moment) × (before_first over (ys ++ rest) ≡ before_first over ys ++ more)
     go true e = ([], before_front ys rest e ∙ sym (append-nil (before_first over ys)))
-    go false e = (before_first over rest, before_behind_all ys rest e ∙ ap (λ (front : List Moment). front ++ before_first over rest) (sym (none_before ys e)))
+    go false e = (before_first over rest, before_after_all ys rest e ∙ ap (λ (front : List Moment). front ++ before_first over rest) (sym (none_before ys e)))
 
 -- all lines of some steps, and some of those of the next
-some_behind : {S : Type 0} (sees begins : ℕ × Line → S → S → Type 0) (xs ys rest : List Moment) (old mid new : S) → list_any over xs ≡ false → SeesAll sees (lines_in xs) old mid → SeesSome sees begins (lines_in (before_first over ys)) mid new
+some_after : {S : Type 0} (sees begins : ℕ × Line → S → S → Type 0) (xs ys rest : List Moment) (old mid new : S) → list_any over xs ≡ false → SeesAll sees (lines_in xs) old mid → SeesSome sees begins (lines_in (before_first over ys)) mid new
     → SeesSome sees begins (lines_in (before_first over ((xs ++ ys) ++ rest))) old new
-some_behind {S} sees begins xs ys rest old mid new none so_far some =
+some_after {S} sees begins xs ys rest old mid new none so_far some =
     let more = before_grows ys rest in
     let front = before_first over ys in
-    let is : before_first over ((xs ++ ys) ++ rest) ≡ xs ++ (front ++ more.0) = ap (before_first over) (append_assoc xs ys rest) ∙ before_behind_all xs (ys ++ rest) none ∙ ap (λ (tail : List Moment). xs ++ tail) more.1 in
+    let is : before_first over ((xs ++ ys) ++ rest) ≡ xs ++ (front ++ more.0) = ap (before_first over) (append_assoc xs ys rest) ∙ before_after_all xs (ys ++ rest) none ∙ ap (λ (tail : List Moment). xs ++ tail) more.1 in
     subst (λ (ms : List Moment). SeesSome sees begins (lines_in ms) old new) (sym is)
     (subst (λ (lines : List (ℕ × Line)). SeesSome sees begins lines old new) (sym (map-append (λ (m : Moment). (m.number, m.line)) xs (front ++ more.0) ∙ ap (λ (tail : List (ℕ × Line)). lines_in xs ++ tail) (map-append (λ (m : Moment). (m.number, m.line)) front more.0)))
     (some_then sees begins (lines_in xs) (lines_in front ++ lines_in more.0) old mid new so_far (some_first sees begins (lines_in front) (lines_in more.0) mid new some)))
@@ -250,20 +250,20 @@ module _ {S : Type 0} (sees : Catalogue → ℕ × Line → S → S → Type 0) 
     abbrev pub delivered : Run
     delivered = one_step catalogue n (event.Deliver k) (run_in now)
 
-    ahead_more : flow catalogue n (count - suc i) (behind so_far.run.moments delivered) ≡ flow catalogue n count (run_in w)
+    ahead_more : flow catalogue n (count - suc i) (following so_far.run.moments delivered) ≡ flow catalogue n count (run_in w)
     unfolding flow one_step
     ahead_more = sym (sym so_far.ahead ∙ ap (λ k. flow catalogue n k so_far.run) (one_less count i lt) ∙ rw (sym so_far.world, some) refl)
 
     pub flow_turns : (after : S) → list_any over delivered.moments ≡ false → SeesAll (sees catalogue) (lines_in delivered.moments) new after → Flowing sees catalogue n count w (suc i) delivered.world old after
     flow_turns after none more = record {
-      run = behind so_far.run.moments delivered;
+      run = following so_far.run.moments delivered;
       world = refl;
       ahead = ahead_more;
       within = both_false so_far.run.moments delivered.moments so_far.within none;
       seen = sees_steps (sees catalogue) so_far.run.moments delivered.moments old new after so_far.seen more;
     }
 
-    pub flow_turns_run : (after : S) (none : list_any over delivered.moments ≡ false) (more : SeesAll (sees catalogue) (lines_in delivered.moments) new after) → (flow_turns after none more).run ≡ behind so_far.run.moments delivered
+    pub flow_turns_run : (after : S) (none : list_any over delivered.moments ≡ false) (more : SeesAll (sees catalogue) (lines_in delivered.moments) new after) → (flow_turns after none more).run ≡ following so_far.run.moments delivered
     unfolding flow_turns
     flow_turns_run after none more = refl
 
@@ -271,20 +271,20 @@ module _ {S : Type 0} (sees : Catalogue → ℕ × Line → S → S → Type 0) 
     pub whole_moments : (rest : List Moment) × ((flow catalogue n count (run_in w)).moments ≡ (so_far.run.moments ++ delivered.moments) ++ rest)
     whole_moments =
         let more = flow catalogue n (count - suc i) (run_in delivered.world) in
-        (more.moments, ap (λ (r : Run). r.moments) (sym ahead_more ∙ flow_behind catalogue n (count - suc i) (behind so_far.run.moments delivered)))
+        (more.moments, ap (λ (r : Run). r.moments) (sym ahead_more ∙ flow_after catalogue n (count - suc i) (following so_far.run.moments delivered)))
 
     pub flow_is_cut : (counted : Counted) (after : S) → limit_in world_limits delivered.moments ≡ Some counted → SeesAll (sees catalogue) (lines_in (before_first over delivered.moments)) new after → IsCutShort (sees catalogue) (flow catalogue n count (run_in w)).moments counted old after
     flow_is_cut counted after some more =
         let whole = whole_moments in
         subst (λ (ms : List Moment). IsCutShort (sees catalogue) ms counted old after) (sym whole.1)
-        (cut_behind (sees catalogue) so_far.run.moments delivered.moments whole.0 counted old new after so_far.within so_far.seen some more)
+        (cut_after (sees catalogue) so_far.run.moments delivered.moments whole.0 counted old new after so_far.within so_far.seen some more)
 
     pub flow_is_left : (begins : Catalogue → ℕ × Line → S → S → Type 0) (after : S) → SeesSome (sees catalogue) (begins catalogue) (lines_in (before_first over delivered.moments)) new after
         → SeesSome (sees catalogue) (begins catalogue) (lines_in (before_first over (flow catalogue n count (run_in w)).moments)) old after
     flow_is_left begins after some =
         let whole = whole_moments in
         subst (λ (ms : List Moment). SeesSome (sees catalogue) (begins catalogue) (lines_in (before_first over ms)) old after) (sym whole.1)
-        (some_behind (sees catalogue) (begins catalogue) so_far.run.moments delivered.moments whole.0 old new after so_far.within so_far.seen some)
+        (some_after (sees catalogue) (begins catalogue) so_far.run.moments delivered.moments whole.0 old new after so_far.within so_far.seen some)
 
 -- ---- a schedule, event by event
 
@@ -349,19 +349,19 @@ module _ {S : Type 0} (sees : Catalogue → ℕ × Line → S → S → Type 0) 
   abbrev after : Run
   after = one_event s.catalogue (i + 1) x p.run
 
-  after_is : after ≡ behind p.run.moments added
-  after_is = event_behind s.catalogue (i + 1) x p.run ∙ ap (λ w. behind p.run.moments (one_event s.catalogue (i + 1) x (run_in w))) (sym p.world)
+  after_is : after ≡ following p.run.moments added
+  after_is = event_after s.catalogue (i + 1) x p.run ∙ ap (λ w. following p.run.moments (one_event s.catalogue (i + 1) x (run_in w))) (sym p.world)
 
-  ahead_after : run_from s.catalogue (i + 1 + 1) (drop (suc i) s.events) (behind p.run.moments added) ≡ run_of s
+  ahead_after : run_from s.catalogue (i + 1 + 1) (drop (suc i) s.events) (following p.run.moments added) ≡ run_of s
   unfolding run_from
   ahead_after =
       ap (run_from s.catalogue (i + 1 + 1) (drop (suc i) s.events)) (sym after_is)
       ∙ subst (λ (es : List Event). run_from s.catalogue (i + 1) es p.run ≡ run_of s) (next_first s.events i x lt at) p.ahead
 
   abbrev rest_within : List (ℕ × Line)
-  rest_within = lines_within_from world_limits s.catalogue (i + 1 + 1) (drop (suc i) s.events) (behind p.run.moments added)
+  rest_within = lines_within_from world_limits s.catalogue (i + 1 + 1) (drop (suc i) s.events) (following p.run.moments added)
 
-  steps_are : drop (length p.run.moments) (behind p.run.moments added).moments ≡ added.moments
+  steps_are : drop (length p.run.moments) (following p.run.moments added).moments ≡ added.moments
   steps_are = drop-append_seam p.run.moments added.moments
 
   -- the lines of the steps that the event adds, each with its number
@@ -382,13 +382,13 @@ module _ {S : Type 0} (sees : Catalogue → ℕ × Line → S → S → Type 0) 
   -- all steps of the event are done
   pub play_turns : (now_seen : S) → list_any over added.moments ≡ false → SeesAll (sees s.catalogue) (shown_of added.moments) new now_seen → Played sees s (suc i) added.world old now_seen
   play_turns now_seen none more = record {
-    run = behind p.run.moments added;
+    run = following p.run.moments added;
     world = refl;
-    ahead = ap (λ n. run_from s.catalogue n (drop (suc i) s.events) (behind p.run.moments added)) next_number ∙ ahead_after;
+    ahead = ap (λ n. run_from s.catalogue n (drop (suc i) s.events) (following p.run.moments added)) next_number ∙ ahead_after;
     within = both_false p.run.moments added.moments p.within none;
     lines = p.lines ++ shown_of added.moments;
     shown =
-        ap (λ n. (p.lines ++ shown_of added.moments) ++ lines_within_from world_limits s.catalogue n (drop (suc i) s.events) (behind p.run.moments added)) next_number
+        ap (λ n. (p.lines ++ shown_of added.moments) ++ lines_within_from world_limits s.catalogue n (drop (suc i) s.events) (following p.run.moments added)) next_number
         ∙ append_assoc p.lines (shown_of added.moments) rest_within
         ∙ ap (λ (lines : List (ℕ × Line)). p.lines ++ lines) (append_assoc (own_line (i + 1) x) (lines_in added.moments) rest_within)
         ∙ ap (λ (steps : List Moment). p.lines ++ (own_line (i + 1) x ++ (lines_in steps ++ rest_within))) (sym (none_before added.moments none))
@@ -403,7 +403,7 @@ module _ {S : Type 0} (sees : Catalogue → ℕ × Line → S → S → Type 0) 
   -- the moments of the whole run are those so far, those of this event, and more
   whole_run : (rest : List Moment) × (moments_of s ≡ (p.run.moments ++ added.moments) ++ rest)
   whole_run =
-      let more = run_grows s.catalogue (i + 1 + 1) (drop (suc i) s.events) (behind p.run.moments added) in
+      let more = run_grows s.catalogue (i + 1 + 1) (drop (suc i) s.events) (following p.run.moments added) in
       (more.0, ap (λ (r : Run). r.moments) (sym ahead_after) ∙ more.1)
 
   -- the first step of the run that exceeds a limit is one of this event's
@@ -414,7 +414,7 @@ module _ {S : Type 0} (sees : Catalogue → ℕ × Line → S → S → Type 0) 
       go None is q = cc
       go (Some m) is q = (
         m,
-        ap (find over) whole_run.1 ∙ found_behind p.run.moments added.moments whole_run.0 p.within ∙ ap (λ o. option_or o (find over whole_run.0)) is,
+        ap (find over) whole_run.1 ∙ found_following p.run.moments added.moments whole_run.0 p.within ∙ ap (λ o. option_or o (find over whole_run.0)) is,
         found_all (λ (m : Moment). m.number ≡ i + 1) added.moments m (numbered s.catalogue (i + 1) x now) is,
       )
 
@@ -428,7 +428,7 @@ module _ {S : Type 0} (sees : Catalogue → ℕ × Line → S → S → Type 0) 
       ∙ ap (λ (any : Bool). p.lines ++ (own_line (i + 1) x ++ (lines_in front ++ cond any [] rest_within))) (sym some)
       ∙ shown_after in
       record {
-        some = ap (limit_in world_limits) whole_run.1 ∙ limit_behind p.run.moments added.moments whole_run.0 counted p.within limit;
+        some = ap (limit_in world_limits) whole_run.1 ∙ limit_after p.run.moments added.moments whole_run.0 counted p.within limit;
         seen =
             subst (λ (lines : List (ℕ × Line)). SeesAll (sees s.catalogue) lines old now_seen) shown_last
             (sees_append (sees s.catalogue) p.lines (shown_of front) old new now_seen p.seen more);

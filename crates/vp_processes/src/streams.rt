@@ -37,13 +37,13 @@ fn run_closed(
     program: Program,
     words: &str,
     closed: &str,
-    behind: &str,
+    following: &str,
 ) -> io::Result<(Option<u8>, Vec<u8>)> {
     let rt = program.rt;
     let text = format!(in rt.alloc(); "{words} {closed}")?;
     for _ in 0..TRIES {
         let (own, others) = (free_port(rt)?, free_port(rt)?);
-        let input = format!(in rt.alloc(); "site 1 {others}\nrecord x 10 1:1\n{behind}")?;
+        let input = format!(in rt.alloc(); "site 1 {others}\nrecord x 10 1:1\n{following}")?;
         let process = program.start_by_shell(SAID, &text, own, &input)?;
         let end = program.end(SAID, process)?;
         if end.0 != Some(LINK_FAULT) {
@@ -75,14 +75,14 @@ pub fn first_unheld(
     by_words: &'static str,
 ) -> io::Result<Option<(&'static str, &'static str)>> {
     let program = Program { rt, by_words };
-    for (words, behind, status, text, log) in &RUNS {
+    for (words, following, status, text, log) in &RUNS {
         remove_log(rt);
         for (closed, status, text, log) in &[
             ("<&-", 4, "", NO_LOG),
             ("2>&-", *status, *text, *log),
             (">&-", 5, "", *log),
         ] {
-            let (ended, printed) = run_closed(program, words, closed, behind)?;
+            let (ended, printed) = run_closed(program, words, closed, following)?;
             let leaves = has(rt, FIRST, log) && has(rt, SECOND, NO_LOG);
             if !(ended == Some(*status) && own(&printed) == text.as_bytes() && leaves) {
                 return Ok(Some((words, closed)));

@@ -1,4 +1,4 @@
--- A doubt stays until its coordinator tells the outcome: no other site ever does.
+-- A doubt stays until its coordinator says the outcome: no other site ever does.
 use Rattle.std.proofs.Common.{◌≡◌, ◌⊎◌, ◌∙◌, ap, sym, subst, ℕ, ◌+◌, true, false, List, [], ◌∷◌, refl, ⊎_elim}
 use Rattle.std.specs.Prelude.{Option, Some, None, ◌&&◌}
 use Rattle.std.specs.List.{Contains}

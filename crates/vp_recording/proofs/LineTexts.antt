@@ -18,13 +18,13 @@ use Rattle.vp_heads.specs.Heads as heads
 use Rattle.vp_heads.specs.HeadReading.{head_at}
 use Rattle.vp_heads.specs.declared.line.HeadLine.{HeadLine}
 use Rattle.vp_heads.specs.declared.line.HeadLine.TheVariants as heads_kind
-use Rattle.vp_recording.specs.declared.draft.Draft.{Draft}
+use Rattle.vp_recording.specs.declared.draft.RecordingDraft.{RecordingDraft}
 use Rattle.vp_recording.specs.declared.line.RecordingLine.{RecordingLine}
 use Rattle.vp_recording.specs.declared.line.RecordingLine.TheVariants as kind
 use Rattle.vp_recording.specs.Hex.{IsDatagram, IsHex, most_bytes}
 use Rattle.vp_recording.specs.Lines.{key, hex_line, number_line}
 use Rattle.vp_recording.specs.Drafts.{sites_said, life_before, IsFree, IsWithin, LineText}
-use Rattle.vp_recording.specs.LineReading.{frame_at, count_at, in_at, out_at, stray_at, bad_at, start_at, node_at, word_at, ending_at, within_at, behind_turn_at, free_at, head_line_at, line_at}
+use Rattle.vp_recording.specs.LineReading.{frame_at, count_at, in_at, out_at, stray_at, bad_at, start_at, node_at, word_at, ending_at, within_at, after_turn_at, free_at, head_line_at, line_at}
 use Rattle.vp_recording.specs.Hex as hex
 use Rattle.vp_recording.proofs.HexExact.{bytes_exact, digits_in}
 use Rattle.vp_recording.proofs.FirstBytes.{BeginsSo, BeginsElse, by_first_exact, either_else}
@@ -143,7 +143,7 @@ node_exact sites h =
     (site_exact sites 0 h.all h.some.0 h.some.1 (omega (arith, (site_range sites h.some.0 h.all h.some.1).0)))
     (λ site. made_exact (λ u. kind.Node site) (literal_exact (10 ∷ []))))
 
--- ---- which of them stands there
+-- ---- which of them is there
 
 in_so : BeginsSo 105 InLine
 in_so a t h = let s = h.spelled in (codes "n " ++ s.back, s.parts ∙ ap (λ (x : List ℕ). x ++ s.back) s.before)
@@ -236,14 +236,14 @@ module _ (sites : List ℕ) where
         (by_first_exact 98 bad_so (stray_else 98 (λ e. omega (arith, e)) (λ e. omega (arith, e)) (λ e. omega (arith, e)) (λ e. omega (arith, e)) (λ e. omega (arith, e))) bad_exact
         (by_first_exact 115 stray_so (end_else 115 (λ e. omega (arith, e)) (λ e. omega (arith, e)) (λ e. omega (arith, e)) (λ e. omega (arith, e))) stray_exact ending_exact))
 
-    behind_turn_exact : Exact OutOr (behind_turn_at sites)
-    unfolding behind_turn_at
-    behind_turn_exact =
+    after_turn_exact : Exact OutOr (after_turn_at sites)
+    unfolding after_turn_at
+    after_turn_exact =
         by_first_exact 111 out_so (in_else 111 (λ e. omega (arith, e)) (λ e. omega (arith, e)) (λ e. omega (arith, e)) (λ e. omega (arith, e)) (λ e. omega (arith, e)) (λ e. omega (arith, e)) (λ e. omega (arith, e))) out_exact within_exact
 
 -- ---- they are the lines of a draft
 
-module _ (d : Draft) where
+module _ (d : RecordingDraft) where
   abbrev L : RecordingLine → List ℕ → Type 0
   L = LineText d
 
@@ -357,15 +357,15 @@ module _ (d : Draft) where
       free : IsFree d
       free = record { opened = on; unnamed = none_is d.named off }
 
-      turns : (b : Bool) → is_some d.turn ≡ b → IsWithin d → Exact L (λ bytes. cond b (behind_turn_at s bytes) (within_at s bytes))
-      turns true e w = exact_as (turn_to w e) (turn_from on off h.all) (behind_turn_exact s h)
+      turns : (b : Bool) → is_some d.turn ≡ b → IsWithin d → Exact L (λ bytes. cond b (after_turn_at s bytes) (within_at s bytes))
+      turns true e w = exact_as (turn_to w e) (turn_from on off h.all) (after_turn_exact s h)
       turns false e w = exact_as (within_to w) (within_from on off h.all e) (within_exact s h)
 
-      by : (b : Bool) → is_some d.block ≡ b → Exact L (λ bytes. cond b (cond (is_some d.turn) (behind_turn_at s bytes) (within_at s bytes)) (node_at s bytes))
+      by : (b : Bool) → is_some d.block ≡ b → Exact L (λ bytes. cond b (cond (is_some d.turn) (after_turn_at s bytes) (within_at s bytes)) (node_at s bytes))
       by true e = turns (is_some d.turn) refl (record { free = free; goes_on = e })
       by false e = exact_as (node_to free) (node_from on off h.all e) (node_exact s h)
 
-  -- ---- behind `node`
+  -- ---- after `node`
 
   start_to : d.head.opened ≡ true → is_some d.named ≡ true → (e : RecordingLine) (t : List ℕ) → StartLine (life_before d) e t → L e t
   start_to on some e t h =

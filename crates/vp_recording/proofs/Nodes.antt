@@ -17,8 +17,8 @@ use Rattle.vp_heads.specs.declared.line.HeadLine.TheVariants as heads_kind
 use Rattle.vp_heads.specs.Heads as heads
 use Rattle.vp_recording.specs.declared.recording.Recording.{Recording}
 use Rattle.vp_recording.specs.declared.recording.Turn.{Turn}
-use Rattle.vp_recording.specs.declared.draft.Draft.{Draft}
-use Rattle.vp_recording.specs.declared.draft.Recorded.{Recorded}
+use Rattle.vp_recording.specs.declared.draft.RecordingDraft.{RecordingDraft}
+use Rattle.vp_recording.specs.declared.draft.RecordingSet.{RecordingSet}
 use Rattle.vp_recording.specs.declared.line.RecordingLine.{RecordingLine}
 use Rattle.vp_recording.specs.declared.line.RecordingLine.TheVariants as kind
 use Rattle.vp_recording.specs.Lines.{key}
@@ -39,7 +39,7 @@ abbrev pub lives_in : Option Recording → Lives
 lives_in None = []
 lives_in (Some r) = life_of r ∷ []
 
-abbrev pub lives_said : Draft → Lives
+abbrev pub lives_said : RecordingDraft → Lives
 lives_said d = map life_of d.recordings ++ lives_in d.block
 
 abbrev pub Rise : ℕ → ℕ → Lives → Type 0
@@ -73,13 +73,13 @@ pushed_lives : (ended : Bool) (recordings : List Recording) (block : Option Reco
 pushed_lives ended recordings None = sym (append-nil (map life_of recordings))
 pushed_lives ended recordings (Some r) = map-append life_of recordings ((record r { ended = ended }) ∷ [])
 
-turn_lives : (d : Draft) → lives_said (turn_closed d) ≡ lives_said d
+turn_lives : (d : RecordingDraft) → lives_said (turn_closed d) ≡ lives_said d
 turn_lives d = ap (λ (lives : Lives). map life_of d.recordings ++ lives) (closed_lives d.turn d.block)
 
-recorded_lives : (ended : Bool) (d : Draft) → map life_of (with_block ended (option_map (with_turn d.turn) d.block) d.recordings) ≡ lives_said d
+recorded_lives : (ended : Bool) (d : RecordingDraft) → map life_of (with_block ended (option_map (with_turn d.turn) d.block) d.recordings) ≡ lives_said d
 recorded_lives ended d = pushed_lives ended d.recordings (option_map (with_turn d.turn) d.block) ∙ ap (λ (lives : Lives). map life_of d.recordings ++ lives) (closed_lives d.turn d.block)
 
-block_lives : (ended : Bool) (d : Draft) → lives_said (block_closed ended d) ≡ lives_said d
+block_lives : (ended : Bool) (d : RecordingDraft) → lives_said (block_closed ended d) ≡ lives_said d
 block_lives ended d = append-nil (map life_of (with_block ended (option_map (with_turn d.turn) d.block) d.recordings)) ∙ recorded_lives ended d
 
 -- ---- what holds of a draft
@@ -92,7 +92,7 @@ pub record Kept (sites : List ℕ) (lives : Lives) (numbers : List ℕ) : Type 0
   pub count : length numbers ≡ 16
   pub rise : (site : ℕ) → has sites site ≡ true → Rise site 0 lives × (last_of site 0 lives ≤ last_life site numbers)
 
-pub record Holds (d : Draft) : Type 0 where
+pub record Holds (d : RecordingDraft) : Type 0 where
   pub kept : Kept (sites_said d) (lives_said d) d.lives
   pub named : (site : ℕ) → d.named ≡ Some site → (has (sites_said d) site ≡ true) × (d.block ≡ None)
   pub unopened : d.head.opened ≡ false → (lives_said d ≡ []) × (d.named ≡ None)
@@ -144,8 +144,8 @@ none_some o e f = false≢true (ap is_some (sym e) ∙ f)
 opened_not : (b : Bool) → b ≡ true → b ≡ false → ⊥
 opened_not b on off = false≢true (sym off ∙ on)
 
--- a line of a block, and `node`, are behind the line `recordings`
-keeps : (d e : Draft) → e.head ≡ d.head → e.lives ≡ d.lives → lives_said e ≡ lives_said d → d.head.opened ≡ true → ((site : ℕ) → e.named ≡ Some site → (has (sites_said e) site ≡ true) × (e.block ≡ None)) → Holds d → Holds e
+-- a line of a block, and `node`, are after the line `recordings`
+keeps : (d e : RecordingDraft) → e.head ≡ d.head → e.lives ≡ d.lives → lives_said e ≡ lives_said d → d.head.opened ≡ true → ((site : ℕ) → e.named ≡ Some site → (has (sites_said e) site ≡ true) × (e.block ≡ None)) → Holds d → Holds e
 keeps d e head lives said on named h =
     record {
       kept = subst (λ (sites : List ℕ). Kept sites (lives_said e) e.lives) (ap (λ (x : Head). sites_of x.catalog) (sym head))
@@ -154,14 +154,14 @@ keeps d e head lives said on named h =
       unopened = λ off. absurd (opened_not d.head.opened on (ap (λ (x : Head). x.opened) (sym head) ∙ off));
     }
 
-free_named : (d : Draft) (site : ℕ) → d.named ≡ None → d.named ≡ Some site → ⊥
+free_named : (d : RecordingDraft) (site : ℕ) → d.named ≡ None → d.named ≡ Some site → ⊥
 free_named d site e f = let z = sym e ∙ f in cc
 
-head_opens : (d : Draft) (line : HeadLine) (t : List ℕ) → heads.LineText key d.head line t → d.head.opened ≡ false
+head_opens : (d : RecordingDraft) (line : HeadLine) (t : List ℕ) → heads.LineText key d.head line t → d.head.opened ≡ false
 head_opens d (heads_kind.Entry entry) t h = h.0
 head_opens d heads_kind.Key t h = h.0
 
-starts : (named : Option ℕ) (life : ℕ) (d : Draft) → d.named ≡ named → d.head.opened ≡ true → AllSites (sites_said d) → is_some named ≡ true → life_named named d.lives < life → life ≤ 2 ^ 32 - 1 → Holds d → Holds (started named life d)
+starts : (named : Option ℕ) (life : ℕ) (d : RecordingDraft) → d.named ≡ named → d.head.opened ≡ true → AllSites (sites_said d) → is_some named ≡ true → life_named named d.lives < life → life ≤ 2 ^ 32 - 1 → Holds d → Holds (started named life d)
 starts None life d is on all some up fits h = absurd (false≢true some)
 starts (Some site) life d is on all some up fits h =
     let n = h.named site is in
@@ -224,13 +224,13 @@ life_at sites [] h r c = absurd (let z = c.1 in omega (arith, z))
 life_at sites (q ∷ recordings) h r (zero, lt, e) = subst (λ (r : Recording). IsLife sites (life_of r)) e h.0
 life_at sites (q ∷ recordings) h r (suc i, lt, e) = life_at sites recordings h.1 r (i, (omega (arith, lt)), e)
 
-pub recorded_nodes : (it : Recorded) (text : List ℕ) → IsRecordedText it text → IsCatalogue it.catalog × AreOfNodes it.catalog it.recordings
+pub recorded_nodes : (it : RecordingSet) (text : List ℕ) → IsRecordedText it text → IsCatalogue it.catalog × AreOfNodes it.catalog it.recordings
 recorded_nodes it text h =
     let d = said h.lines in
     let k = (holds h.lines text h.lines_are).kept in
     let lives : map life_of (recorded_of d).recordings ≡ lives_said d = recorded_lives false d in
     let all : AllByRecursion (IsLife (sites_said d)) (map life_of (recorded_of d).recordings) = subst (AllByRecursion (IsLife (sites_said d))) (sym lives) k.all in
-    subst (λ (it : Recorded). IsCatalogue it.catalog × AreOfNodes it.catalog it.recordings) h.says (
+    subst (λ (it : RecordingSet). IsCatalogue it.catalog × AreOfNodes it.catalog it.recordings) h.says (
       catalogue_said h.lines text h.lines_are h.opened,
       record {
         listed = λ r c. contains_of (sites_said d) r.site (life_at (sites_said d) (recorded_of d).recordings all r c).0;

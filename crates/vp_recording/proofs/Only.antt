@@ -7,8 +7,8 @@ use Rattle.vp_catalog.specs.declared.entry.Entry.TheVariants as entry
 use Rattle.vp_heads.specs.declared.line.HeadLine.TheVariants as heads_kind
 use Rattle.vp_recording.specs.declared.line.RecordingLine.{RecordingLine}
 use Rattle.vp_recording.specs.declared.line.RecordingLine.TheVariants as kind
-use Rattle.vp_recording.specs.declared.draft.Draft.{Draft}
-use Rattle.vp_recording.specs.declared.draft.Recorded.{Recorded}
+use Rattle.vp_recording.specs.declared.draft.RecordingDraft.{RecordingDraft}
+use Rattle.vp_recording.specs.declared.draft.RecordingSet.{RecordingSet}
 use Rattle.vp_recording.specs.declared.fault.RecordingFault.{RecordingFault}
 use Rattle.vp_recording.specs.declared.fault.RecordingFault.TheVariants as faults
 use Rattle.vp_recording.specs.Drafts.{LineText, blank, after, Onward, Spends, Repeats, Overfills}
@@ -16,7 +16,7 @@ use Rattle.vp_recording.specs.Document.{IsRecordedText, IsBadPlace, Answered, Is
 use Rattle.vp_recording.proofs.Steps.{said}
 use Rattle.vp_recording.proofs.Answering.{lines_plain, spends_stop, whole_not}
 
-abbrev Stopped : (Draft → RecordingLine → Type 0) → List ℕ → ℕ → Type 0
+abbrev Stopped : (RecordingDraft → RecordingLine → Type 0) → List ℕ → ℕ → Type 0
 Stopped = IsFaultyLine blank after LineText Onward
 
 repeats_stop : Stops blank after LineText Onward Repeats
@@ -48,8 +48,8 @@ overfills_stop d kind.LinkFault f o = f
 overfills_stop d kind.DiskFault f o = f
 
 -- a line has one fault
-abbrev AreApart : (Draft → RecordingLine → Type 0) → (Draft → RecordingLine → Type 0) → Type 0
-AreApart F G = (d : Draft) (e : RecordingLine) → F d e → G d e → ⊥
+abbrev AreApart : (RecordingDraft → RecordingLine → Type 0) → (RecordingDraft → RecordingLine → Type 0) → Type 0
+AreApart F G = (d : RecordingDraft) (e : RecordingLine) → F d e → G d e → ⊥
 
 twice_many : AreApart Repeats Overfills
 twice_many d (kind.Head (heads_kind.Entry (entry.Site site port))) f g = g
@@ -90,12 +90,12 @@ spent_many d kind.LinkFault f g = f
 spent_many d kind.DiskFault f g = f
 
 module _ (text : List ℕ) where
-  one_fault : (F : Draft → RecordingLine → Type 0) → Stops blank after LineText Onward F → (l m : ℕ) → Stopped F text l → Stopped F text m → l ≡ m
+  one_fault : (F : RecordingDraft → RecordingLine → Type 0) → Stops blank after LineText Onward F → (l m : ℕ) → Stopped F text l → Stopped F text m → l ≡ m
   one_fault F stops l m f g =
       let same = faulty_same blank after LineText Onward F F stops stops text (lines_plain text) l m f g in
       sym f.number ∙ ap (λ (x : List RecordingLine). length x + 1) same.lines ∙ g.number
 
-  two_faults : (F G : Draft → RecordingLine → Type 0) → AreApart F G → Stops blank after LineText Onward F → Stops blank after LineText Onward G → (l m : ℕ) → Stopped F text l → Stopped G text m → ⊥
+  two_faults : (F G : RecordingDraft → RecordingLine → Type 0) → AreApart F G → Stops blank after LineText Onward F → Stops blank after LineText Onward G → (l m : ℕ) → Stopped F text l → Stopped G text m → ⊥
   two_faults F G apart f_stops g_stops l m f g =
       let same = faulty_same blank after LineText Onward F G f_stops g_stops text (lines_plain text) l m f g in
       apart (said g.lines) g.entry (subst (F (said g.lines)) same.entry (subst (λ (x : List RecordingLine). F (said x) f.entry) same.lines f.fault)) g.fault
@@ -112,20 +112,20 @@ module _ (text : List ℕ) where
     ]
   ]
 
-  place_not : (F : Draft → RecordingLine → Type 0) → AreApart Spends F → Stops blank after LineText Onward F → (l i m : ℕ) → IsBadPlace text l i → Stopped F text m → ⊥
+  place_not : (F : RecordingDraft → RecordingLine → Type 0) → AreApart Spends F → Stops blank after LineText Onward F → (l i m : ℕ) → IsBadPlace text l i → Stopped F text m → ⊥
   place_not F apart stops l i m a f = elim a [
     | inl x ↦ bad_not_faulty blank after LineText Onward F stops text (lines_plain text) l m i x f
     | inr x ↦ two_faults Spends F apart spends_stop stops x.0 m x.3 f
   ]
 
-  ok_ok : (a b : Recorded) → IsRecordedText a text → IsRecordedText b text → a ≡ b
+  ok_ok : (a b : RecordingSet) → IsRecordedText a text → IsRecordedText b text → a ≡ b
   ok_ok a b h k = sym h.says ∙ ap (λ (x : List RecordingLine). recorded_of (said x)) (whole_same blank after LineText Onward text (lines_plain text) h.lines k.lines h.lines_are k.lines_are) ∙ k.says
 
-  abbrev NoMemory : Result Recorded RecordingFault
+  abbrev NoMemory : Result RecordingSet RecordingFault
   NoMemory = Err faults.NoMemory
 
-  answers_same : (r s : Result Recorded RecordingFault) → Answered text r → Answered text s → r ≢ NoMemory → s ≢ NoMemory → s ≡ r
-  answers_same (Ok s) (Ok r) a b t u = ap (λ (x : Recorded). Ok x) (sym (ok_ok s r a b))
+  answers_same : (r s : Result RecordingSet RecordingFault) → Answered text r → Answered text s → r ≢ NoMemory → s ≢ NoMemory → s ≡ r
+  answers_same (Ok s) (Ok r) a b t u = ap (λ (x : RecordingSet). Ok x) (sym (ok_ok s r a b))
   answers_same (Ok s) (Err (faults.BadLine m k)) a b t u = absurd (b.1 s a)
   answers_same (Ok s) (Err (faults.Twice m)) a b t u = absurd (whole_not Repeats repeats_stop text s m a b)
   answers_same (Ok s) (Err (faults.TooMany m limit)) a b t u = absurd (whole_not Overfills overfills_stop text s m a b.1)
@@ -146,5 +146,5 @@ module _ (text : List ℕ) where
   answers_same (Err faults.NoMemory) s a b t u = absurd (t refl)
   answers_same r (Err faults.NoMemory) a b t u = absurd (u refl)
 
-  pub only : (r : Result Recorded RecordingFault) → Answered text r → IsOnly text r
+  pub only : (r : Result RecordingSet RecordingFault) → Answered text r → IsOnly text r
   only r a = λ other b t u. answers_same r other a b t u

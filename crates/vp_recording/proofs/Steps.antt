@@ -15,7 +15,7 @@ use Rattle.vp_heads.specs.declared.line.HeadLine.{HeadLine}
 use Rattle.vp_heads.specs.declared.line.HeadLine.TheVariants as heads_kind
 use Rattle.vp_heads.proofs.HeadTexts.{IsKey}
 use Rattle.vp_heads.proofs.Steps as head
-use Rattle.vp_recording.specs.declared.draft.Draft.{Draft}
+use Rattle.vp_recording.specs.declared.draft.RecordingDraft.{RecordingDraft}
 use Rattle.vp_recording.specs.declared.line.RecordingLine.{RecordingLine}
 use Rattle.vp_recording.specs.declared.line.RecordingLine.TheVariants as kind
 use Rattle.vp_recording.specs.Lines.{key}
@@ -26,14 +26,14 @@ use Rattle.vp_recording.proofs.Newlines.{hex_is_line, number_is_line, site_is_li
 use Rattle.vp_text.proofs.Newlines.{key_line}
 
 -- what some lines say
-abbrev pub said : List RecordingLine → Draft
+abbrev pub said : List RecordingLine → RecordingDraft
 said = reached blank after LineText Onward
 
 abbrev pub Lines : List RecordingLine → List ℕ → Type 0
 Lines = LinesText blank after LineText Onward
 
--- where the reading stands
-abbrev pub Stands : List ℕ → List ℕ → Draft → ℕ → Type 0
+-- where the reading is
+abbrev pub Stands : List ℕ → List ℕ → RecordingDraft → ℕ → Type 0
 Stands = SoFar blank after LineText Onward line_at
 
 pub key_is : IsKey key
@@ -54,7 +54,7 @@ heads_of (kind.End ∷ es) = heads_of es
 heads_of (kind.LinkFault ∷ es) = heads_of es
 heads_of (kind.DiskFault ∷ es) = heads_of es
 
-start_head : (named : Option ℕ) (life : ℕ) (d : Draft) → (started named life d).head ≡ d.head
+start_head : (named : Option ℕ) (life : ℕ) (d : RecordingDraft) → (started named life d).head ≡ d.head
 start_head None life d = refl
 start_head (Some site) life d = refl
 
@@ -105,7 +105,7 @@ sites_are es t h on =
 
 -- ---- a site that is named has a life left
 
-started_left : (named : Option ℕ) (life : ℕ) (d : Draft) → life_named named d.lives < 2 ^ 32 - 1 → d.named ≡ named → life_before (started named life d) < 2 ^ 32 - 1
+started_left : (named : Option ℕ) (life : ℕ) (d : RecordingDraft) → life_named named d.lives < 2 ^ 32 - 1 → d.named ≡ named → life_before (started named life d) < 2 ^ 32 - 1
 started_left None life d h is = subst (λ (named : Option ℕ). life_named named d.lives < 2 ^ 32 - 1) (sym is) h
 started_left (Some site) life d h is = omega arith
 
@@ -147,13 +147,13 @@ readable most = record {
 
 -- ---- the steps
 
-pub stands_left : (text rest : List ℕ) (d : Draft) (line : ℕ) → Stands text rest d line → life_before d < 2 ^ 32 - 1
-stands_left text rest d line s = subst (λ (d : Draft). life_before d < 2 ^ 32 - 1) s.state_is (life_left s.lines s.front s.lines_are)
+pub stands_left : (text rest : List ℕ) (d : RecordingDraft) (line : ℕ) → Stands text rest d line → life_before d < 2 ^ 32 - 1
+stands_left text rest d line s = subst (λ (d : RecordingDraft). life_before d < 2 ^ 32 - 1) s.state_is (life_left s.lines s.front s.lines_are)
 
-pub stands_room : (text rest : List ℕ) (d : Draft) (line : ℕ) → Stands text rest d line → (left : ℕ) → line_at d rest ≡ Err left → left ≤ length rest
+pub stands_room : (text rest : List ℕ) (d : RecordingDraft) (line : ℕ) → Stands text rest d line → (left : ℕ) → line_at d rest ≡ Err left → left ≤ length rest
 stands_room text rest d line s left read = (so_far_bad blank after LineText Onward line_at text rest d line left (readable (length text)) s read).0
 
-allows : (d : Draft) (e : RecordingLine) (t : List ℕ) → LineText d e t → Allows d e
+allows : (d : RecordingDraft) (e : RecordingLine) (t : List ℕ) → LineText d e t → Allows d e
 allows d (kind.Head line) t h = head_allows line h
   where
     head_allows : (line : HeadLine) → heads.LineText key d.head line t → heads.Allows d.head line
@@ -169,13 +169,13 @@ allows d kind.End t h = tt
 allows d kind.LinkFault t h = tt
 allows d kind.DiskFault t h = tt
 
-pub stands_allowed : (text rest new : List ℕ) (d : Draft) (line : ℕ) (e : RecordingLine) → Stands text rest d line → line_at d rest ≡ Ok (e, new) → Allows d e
+pub stands_allowed : (text rest new : List ℕ) (d : RecordingDraft) (line : ℕ) (e : RecordingLine) → Stands text rest d line → line_at d rest ≡ Ok (e, new) → Allows d e
 stands_allowed text rest new d line e s read =
     let p = (so_far_exact blank after LineText Onward line_at text rest d line (readable (length text)) s).ok rest e new read in
     allows d e p.text p.spelled
 
-pub stands_shorter : (text rest new : List ℕ) (d : Draft) (line : ℕ) (e : RecordingLine) → Stands text rest d line → line_at d rest ≡ Ok (e, new) → length new < length rest
+pub stands_shorter : (text rest new : List ℕ) (d : RecordingDraft) (line : ℕ) (e : RecordingLine) → Stands text rest d line → line_at d rest ≡ Ok (e, new) → length new < length rest
 stands_shorter text rest new d line e s read = so_far_shorter blank after LineText Onward line_at text rest new d line e (readable (length text)) s read
 
-pub stands_number : (text rest : List ℕ) (d : Draft) (line : ℕ) → Stands text rest d line → line ≤ length text + 1
+pub stands_number : (text rest : List ℕ) (d : RecordingDraft) (line : ℕ) → Stands text rest d line → line ≤ length text + 1
 stands_number text rest d line s = let b = s.bound in omega (arith, b)

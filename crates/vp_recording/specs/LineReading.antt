@@ -3,7 +3,7 @@ use Rattle.std.specs.Prelude.{ℕ, ◌+◌, ◌-◌, ◌^◌, ◌==◌, Bool, fa
 use Rattle.vp_text.specs.Reading.{◌>>=◌, literal_at, number_at}
 use Rattle.vp_catalog.specs.Sites.{site_at}
 use Rattle.vp_heads.specs.HeadReading.{head_at}
-use Rattle.vp_recording.specs.declared.draft.Draft.{Draft}
+use Rattle.vp_recording.specs.declared.draft.RecordingDraft.{RecordingDraft}
 use Rattle.vp_recording.specs.declared.line.RecordingLine.{RecordingLine}
 use Rattle.vp_recording.specs.declared.line.RecordingLine.TheVariants as kind
 use Rattle.vp_recording.specs.Hex.{bytes_at, most_bytes}
@@ -73,7 +73,7 @@ word_at word line bytes = do
   it ← literal_at word bytes
   Ok (line, it.1)
 
--- ---- which of them stands there: they begin with different bytes
+-- ---- which of them is there: they begin with different bytes
 
 unfoldable pub ending_at : List ℕ → List ℕ → Read
 ending_at sites bytes =
@@ -87,17 +87,17 @@ within_at sites bytes =
     (cond (begins_with 98 bytes) (bad_at bytes)
     (cond (begins_with 115 bytes) (stray_at bytes) (ending_at sites bytes)))
 
-unfoldable pub behind_turn_at : List ℕ → List ℕ → Read
-behind_turn_at sites bytes = cond (begins_with 111 bytes) (out_at bytes) (within_at sites bytes)
+unfoldable pub after_turn_at : List ℕ → List ℕ → Read
+after_turn_at sites bytes = cond (begins_with 111 bytes) (out_at bytes) (within_at sites bytes)
 
 -- a line of a block, where one goes on, or the line `node`
-unfoldable pub free_at : Draft → List ℕ → Read
-free_at d bytes = cond (is_some d.block) (cond (is_some d.turn) (behind_turn_at (sites_said d) bytes) (within_at (sites_said d) bytes)) (node_at (sites_said d) bytes)
+unfoldable pub free_at : RecordingDraft → List ℕ → Read
+free_at d bytes = cond (is_some d.block) (cond (is_some d.turn) (after_turn_at (sites_said d) bytes) (within_at (sites_said d) bytes)) (node_at (sites_said d) bytes)
 
-unfoldable pub head_line_at : Draft → List ℕ → Read
+unfoldable pub head_line_at : RecordingDraft → List ℕ → Read
 head_line_at d bytes = do
   line ← head_at key d.head.catalog bytes
   Ok (kind.Head line.0, line.1)
 
-unfoldable pub line_at : Draft → List ℕ → Read
+unfoldable pub line_at : RecordingDraft → List ℕ → Read
 line_at d bytes = cond d.head.opened (cond (is_some d.named) (start_at (life_before d) bytes) (free_at d bytes)) (head_line_at d bytes)

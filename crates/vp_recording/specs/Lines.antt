@@ -4,7 +4,7 @@ use Rattle.std.specs.Fmt.{decimal}
 use Rattle.hex.specs.Hex.{encode_lower}
 use Rattle.vp_recording.specs.Hex.{IsDatagram, most_bytes}
 
--- the line behind the catalogue
+-- the line after the catalogue
 abbrev pub key : List ℕ
 key = codes "recordings\n"
 

@@ -7,7 +7,7 @@ ghost use Rattle.vp_recording.specs.LineReading.{line_at};
 ghost use Rattle.vp_recording.specs.Document.{Answered, IsOnly, NextLine, is_owed};
 ghost use Rattle.vp_recording.specs.Recordings.{AreOfNodes};
 
-use crate::draft::{Draft, Recorded};
+use crate::draft::{RecordingDraft, RecordingSet};
 use crate::fault::RecordingFault;
 use crate::line::RecordingLine;
 use crate::line_reading::parse_line;
@@ -15,11 +15,11 @@ use std::alloc::Global;
 use vp_base::LineFault;
 use vp_text::Cursor;
 
-/// The next line, which is allowed behind what the lines say so far.
+/// The next line, which is allowed after what the lines say so far.
 fn next_line(
     alloc: Global,
     cursor: &mut Cursor,
-    draft: &Draft,
+    draft: &RecordingDraft,
     line: usize,
 ) -> Result<RecordingLine, RecordingFault>
     requires left { life_before draft.now < 2 ^ 32 - 1 }
@@ -39,20 +39,20 @@ fn next_line(
 }
 
 /// Whether another line has to come: there are more bytes, or the line `recordings` or a `start` has not come yet.
-fn owes_line(cursor: &Cursor, draft: &Draft) -> bool
+fn owes_line(cursor: &Cursor, draft: &RecordingDraft) -> bool
     ensures { result ≡ is_owed cursor.now draft.now }
 {
     cursor.left() > 0 || !draft.head.opened || draft.named.is_some()
 }
 
 /// The recordings that the whole text spells: the lines of a catalogue, the line `recordings`, and blocks to the end. The fault is
-/// that of the first line at fault. A text that ends before the line `recordings`, or behind a line `node`, has a bad line there.
-pub fn parse(alloc: Global, text: &[u8]) -> Result<Recorded, RecordingFault>
+/// that of the first line at fault. A text that ends before the line `recordings`, or after a line `node`, has a bad line there.
+pub fn parse(alloc: Global, text: &[u8]) -> Result<RecordingSet, RecordingFault>
     ensures answer { Answered text.now result }
     ensures only { IsOnly text.now result }
     ensures nodes { IfOk result (λ it. IsCatalogue it.catalog × AreOfNodes it.catalog it.recordings) }
 {
-    let mut draft = Draft::new(alloc);
+    let mut draft = RecordingDraft::new(alloc);
     let mut cursor = Cursor::new(text);
     let mut line = 1;
     while owes_line(&cursor, &draft) {

@@ -17,14 +17,14 @@ use vp_outside::{Datagram, Datagrams};
 
 /// A catalogue with recordings of its sites' nodes.
 #[derive(Drop)]
-pub struct Recorded {
+pub struct RecordingSet {
     pub catalog: Catalog,
     pub recordings: Recordings,
 }
 
 /// The same while it is being read.
 #[derive(Drop)]
-pub struct Draft {
+pub struct RecordingDraft {
     pub head: Head,
     /// The blocks that no line is added to any more.
     pub recordings: Recordings,
@@ -38,12 +38,12 @@ pub struct Draft {
     pub lives: [u32; 16],
 }
 
-impl Draft {
+impl RecordingDraft {
     /// What no lines say, which takes no memory.
-    pub fn new(alloc: Global) -> Draft
+    pub fn new(alloc: Global) -> RecordingDraft
         ensures { result ≡ blank }
     {
-        Draft {
+        RecordingDraft {
             head: Head::new(alloc),
             recordings: Recordings::new(alloc),
             named: None,
@@ -146,11 +146,11 @@ impl Draft {
     }
 
     /// What the lines say, where no more come.
-    pub fn into_recorded(mut self) -> Result<Recorded, NoMemory>
+    pub fn into_recorded(mut self) -> Result<RecordingSet, NoMemory>
         ensures { IfOk result (λ it. it ≡ recorded_of self) }
     {
         self.close_block(false)?;
-        Ok(Recorded {
+        Ok(RecordingSet {
             catalog: self.head.catalog,
             recordings: self.recordings,
         })

@@ -10,7 +10,7 @@ use vp_catalog::CatalogFault;
 /// Why recordings could not be read. Lines and places are counted from 1.
 #[derive(Clone, Copy, Debug, Drop, PartialEq, Eq)]
 pub enum RecordingFault {
-    /// No allowed line stands there: it goes wrong at this byte.
+    /// No allowed line is there: it goes wrong at this byte.
     BadLine { line: usize, at: usize },
     /// The line gives a port or a record's name that an earlier line gives.
     Twice { line: usize },

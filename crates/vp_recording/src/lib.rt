@@ -10,6 +10,6 @@ mod line_reading;
 mod recording;
 
 pub use document::parse;
-pub use draft::Recorded;
+pub use draft::RecordingSet;
 pub use fault::RecordingFault;
 pub use recording::{Recording, Recordings, Turn, Turns};

@@ -6,7 +6,7 @@ ghost use Rattle.vp_base.specs.Faults.{line_left};
 ghost use Rattle.vp_recording.specs.Drafts.{life_before};
 ghost use Rattle.vp_recording.specs.LineReading as reading;
 
-use crate::draft::Draft;
+use crate::draft::RecordingDraft;
 use crate::hex_reading::parse_bytes;
 use crate::line::RecordingLine;
 use bytes::Bytes;
@@ -16,7 +16,7 @@ use vp_catalog::parse_site;
 use vp_heads::parse_head;
 use vp_text::{Cursor, Unexpected};
 
-/// The line behind the catalogue.
+/// The line after the catalogue.
 pub const KEY: &[u8] = b"recordings\n";
 
 /// Whether the next byte is this one.
@@ -152,14 +152,14 @@ fn parse_within(
     parse_ending(cursor, sites)
 }
 
-/// A line of a block behind a turn's, or the line `node`.
-#[tactic(auto, unfolding(crate::specs::LineReading::behind_turn_at))]
-fn parse_behind_turn(
+/// A line of a block after a turn's, or the line `node`.
+#[tactic(auto, unfolding(crate::specs::LineReading::after_turn_at))]
+fn parse_after_turn(
     alloc: Global,
     cursor: &mut Cursor,
     sites: &[SiteId],
 ) -> Result<RecordingLine, LineFault>
-    ensures { Tries (λ line. line) line_left result cursor.new (reading.behind_turn_at sites.now cursor.old) }
+    ensures { Tries (λ line. line) line_left result cursor.new (reading.after_turn_at sites.now cursor.old) }
 {
     if begins_with(cursor, b'o') {
         return parse_out(alloc, cursor);
@@ -169,7 +169,7 @@ fn parse_behind_turn(
 
 /// A line where no `start` has to come.
 #[tactic(auto, unfolding(crate::specs::LineReading::free_at))]
-fn parse_free(alloc: Global, cursor: &mut Cursor, draft: &Draft) -> Result<RecordingLine, LineFault>
+fn parse_free(alloc: Global, cursor: &mut Cursor, draft: &RecordingDraft) -> Result<RecordingLine, LineFault>
     ensures { Tries (λ line. line) line_left result cursor.new (reading.free_at draft.now cursor.old) }
 {
     let sites = draft.head.catalog.sites().as_slice();
@@ -177,7 +177,7 @@ fn parse_free(alloc: Global, cursor: &mut Cursor, draft: &Draft) -> Result<Recor
         return parse_node(cursor, sites);
     }
     if draft.turn.is_some() {
-        return parse_behind_turn(alloc, cursor, sites);
+        return parse_after_turn(alloc, cursor, sites);
     }
     parse_within(alloc, cursor, sites)
 }
@@ -186,7 +186,7 @@ fn parse_free(alloc: Global, cursor: &mut Cursor, draft: &Draft) -> Result<Recor
 fn parse_head_line(
     alloc: Global,
     cursor: &mut Cursor,
-    draft: &Draft,
+    draft: &RecordingDraft,
 ) -> Result<RecordingLine, LineFault>
     ensures { Tries (λ line. line) line_left result cursor.new (reading.head_line_at draft.now cursor.old) }
 {
@@ -194,12 +194,12 @@ fn parse_head_line(
     Ok(RecordingLine::Head(line))
 }
 
-/// Takes the next line, behind what the lines before it say.
+/// Takes the next line, after what the lines before it say.
 #[tactic(auto, unfolding(crate::specs::LineReading::line_at))]
 pub fn parse_line(
     alloc: Global,
     cursor: &mut Cursor,
-    draft: &Draft,
+    draft: &RecordingDraft,
 ) -> Result<RecordingLine, LineFault>
     requires { life_before draft.now < 2 ^ 32 - 1 }
     ensures { Tries (λ line. line) line_left result cursor.new (reading.line_at draft.now cursor.old) }

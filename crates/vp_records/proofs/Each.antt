@@ -144,9 +144,9 @@ module _ {X : Type 0} (f : X → List ℕ) (F : X → Type 0) (item : List ℕ �
 
   -- ---- an item, and then a fault
 
-  behind : Items → (x : X) → F x → (tail : List ℕ) (ys : List X) → Each ys (f x ++ tail) → (zs : List X) × Each zs tail
-  behind w x a tail [] h = absurd (omega (arith, w.some x, ap length h.is, length-append (f x) tail))
-  behind w x a tail (y ∷ ys) h = let k = first_same w x y tail (flat_map f ys) a h.allowed.0 h.is in (ys, record { is = k.1; allowed = h.allowed.1 })
+  following : Items → (x : X) → F x → (tail : List ℕ) (ys : List X) → Each ys (f x ++ tail) → (zs : List X) × Each zs tail
+  following w x a tail [] h = absurd (omega (arith, w.some x, ap length h.is, length-append (f x) tail))
+  following w x a tail (y ∷ ys) h = let k = first_same w x y tail (flat_map f ys) a h.allowed.0 h.is in (ys, record { is = k.1; allowed = h.allowed.1 })
 
   after_item : Items → (x : X) → F x → (bytes mid : List ℕ) (left : ℕ) → bytes ≡ f x ++ mid → Stops mid left → Stops bytes left
   after_item w x a bytes mid left e p = record {
@@ -155,8 +155,8 @@ module _ {X : Type 0} (f : X → List ℕ) (F : X → Type 0) (item : List ℕ �
     parts = e ∙ ap (λ (t : List ℕ). f x ++ t) p.parts ∙ sym (append_assoc (f x) p.front p.rest);
     left_is = p.left_is;
     begins = record { value = x ∷ p.begins.value; more = p.begins.more; spelled = record { is = append_assoc (f x) p.front p.begins.more ∙ ap (λ (t : List ℕ). f x ++ t) p.begins.spelled.is; allowed = (a, p.begins.spelled.allowed) } };
-    apart = λ ys r h. let k = behind w x a (p.front ++ r) ys (subst (Each ys) (append_assoc (f x) p.front r) h) in p.apart k.0 r k.1;
-    none = λ ys h. let k = behind w x a mid ys (subst (Each ys) e h) in p.none k.0 k.1;
+    apart = λ ys r h. let k = following w x a (p.front ++ r) ys (subst (Each ys) (append_assoc (f x) p.front r) h) in p.apart k.0 r k.1;
+    none = λ ys h. let k = following w x a mid ys (subst (Each ys) e h) in p.none k.0 k.1;
   }
 
   -- ---- the reader

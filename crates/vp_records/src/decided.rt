@@ -19,17 +19,17 @@ enum Form {
 
 /// Decisions, as a list. Where each comes after those before it and waits for some site, as log records make them, they are in a
 /// table, in which one is found without a walk over the others. A checkpoint may hold any list; that is kept as it is.
-pub struct Decided {
+pub struct DecisionTable {
     form: Form,
 }
 
-impl Drop for Decided {
+impl Drop for DecisionTable {
     fn drop(self) {
-        let Decided { form: _ } = self;
+        let DecisionTable { form: _ } = self;
     }
 }
 
-impl Model for Decided {
+impl Model for DecisionTable {
     ghost use Rattle.std.specs.Prelude.{List};
     ghost use Rattle.vp_base.specs.declared.entry.Decision.{Decision};
     ghost use Rattle.vp_records.specs.Decided.{decisions_in, IsForm};
@@ -41,44 +41,44 @@ impl Model for Decided {
     ghost invariant = { λ d. IsForm d.form };
 }
 
-impl CopyOf for Decided {
-    fn copy_of(&self) -> Result<Decided, NoMemory> {
+impl CopyOf for DecisionTable {
+    fn copy_of(&self) -> Result<DecisionTable, NoMemory> {
         let form = match &self.form {
             Form::ByTxn(table) => Form::ByTxn(table.copy_of()?),
             Form::Listed(list) => Form::Listed(list.copy_of()?),
         };
-        Ok(Decided { form })
+        Ok(DecisionTable { form })
     }
 }
 
-impl Decided {
+impl DecisionTable {
     /// No decisions. Takes no memory.
-    pub fn new(alloc: Global) -> Decided
+    pub fn new(alloc: Global) -> DecisionTable
         ensures { result ≡ [] }
     {
-        Decided {
+        DecisionTable {
             form: Form::ByTxn(Table::new(alloc)),
         }
     }
 
     /// The decisions of this list, kept as it is. Takes no memory.
-    pub fn listed(items: Decisions) -> Decided
+    pub fn listed(items: Decisions) -> DecisionTable
         ensures { result ≡ items }
     {
-        Decided {
+        DecisionTable {
             form: Form::Listed(items),
         }
     }
 
     /// Copies of these decisions, in a table where that can be.
-    pub fn copied(items: &Decisions) -> Result<Decided, NoMemory>
+    pub fn copied(items: &Decisions) -> Result<DecisionTable, NoMemory>
         ensures { IfOk result (λ d. d ≡ items.now) }
     {
         let form = match awaited::table_of(items.allocator(), items.as_slice())? {
             Some(table) => Form::ByTxn(table),
             None => Form::Listed(items.copy_of()?),
         };
-        Ok(Decided { form })
+        Ok(DecisionTable { form })
     }
 
     /// Copies the decisions to a list.

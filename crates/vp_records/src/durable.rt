@@ -8,7 +8,7 @@ ghost use Rattle.vp_records.specs.Applying.{AppliesSome};
 ghost use Rattle.vp_records.specs.Records.{CanBeSaved, IsLogRecord};
 
 use crate::copies::{commit_doubt, restore};
-use crate::decided::Decided;
+use crate::decided::DecisionTable;
 use crate::doubts::{drop_doubt, keep_doubt};
 use std::marker::Model;
 use vp_base::{
@@ -24,7 +24,7 @@ pub struct Durable {
     life: u32,
     copies: Vec<(RecId, Stored)>,
     doubts: InDoubt,
-    decisions: Decided,
+    decisions: DecisionTable,
 }
 
 impl Drop for Durable {
@@ -70,7 +70,7 @@ impl Durable {
             life: 0,
             copies: copies.into_vec(),
             doubts: InDoubt::new(alloc),
-            decisions: Decided::new(alloc),
+            decisions: DecisionTable::new(alloc),
         }
     }
 
@@ -89,7 +89,7 @@ impl Durable {
             life,
             copies: copies.into_vec(),
             doubts,
-            decisions: Decided::listed(decisions),
+            decisions: DecisionTable::listed(decisions),
         }
     }
 
@@ -138,7 +138,7 @@ impl Durable {
     }
 
     /// The transactions that the site committed and that some site has not acknowledged.
-    pub fn decisions(&self) -> &Decided
+    pub fn decisions(&self) -> &DecisionTable
         ensures { result.now ≡ self.now.decisions }
     {
         &self.decisions
@@ -283,7 +283,7 @@ impl Durable {
         let mut restored = self.own_copies()?;
         restore(&mut restored, copies.as_slice())?;
         let doubts = doubts.copy_of()?;
-        self.decisions = Decided::copied(decisions)?;
+        self.decisions = DecisionTable::copied(decisions)?;
         self.copies = restored;
         self.doubts = doubts;
         self.promise = *promise;

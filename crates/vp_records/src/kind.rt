@@ -2,7 +2,7 @@
 
 ghost use Rattle.vp_records.specs.Kinds.{record_kind};
 
-use vp_bytes::Coded;
+use vp_bytes::HasCode;
 
 /// A kind of log record. What each says is at the variant of `LogRecord` with its name.
 #[derive(Clone, Copy, Drop)]
@@ -17,7 +17,7 @@ pub enum RecordKind {
     Checkpoint,
 }
 
-impl Coded for RecordKind {
+impl HasCode for RecordKind {
     ghost kind = { record_kind };
 
     fn of(code: u8) -> Option<RecordKind> {

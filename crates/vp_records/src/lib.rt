@@ -18,7 +18,7 @@ mod laws;
 mod listed;
 mod read_records;
 
-pub use decided::Decided;
+pub use decided::DecisionTable;
 pub use decoding::decode_batch;
 pub use durable::Durable;
 pub use encoding::encode_batch;

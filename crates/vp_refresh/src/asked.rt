@@ -13,15 +13,15 @@ use std::marker::Model;
 use std::mem;
 use vp_base::{CopyOf, NoMemory, RecId, Refreshing, Seq, SiteId, Sites, Stored, View};
 use vp_catalog::Catalog;
-use vp_lists::{Keyed, put_in};
+use vp_lists::{HasKey, put_in};
 
 /// A copy under refresh, with the copies that other sites have sent, ascending by site.
 #[derive(Drop)]
-pub struct Asked {
+pub struct RefreshEntry {
     refreshing: Refreshing,
 }
 
-impl Model for Asked {
+impl Model for RefreshEntry {
     ghost use Rattle.vp_model.specs.Types.{Refreshing};
     ghost use Rattle.vp_refresh.specs.Newest.{Ascends};
 
@@ -32,36 +32,36 @@ impl Model for Asked {
     ghost invariant = { λ a. Ascends a.refreshing.answers };
 }
 
-impl CopyOf for Asked {
-    fn copy_of(&self) -> Result<Asked, NoMemory> {
-        Ok(Asked {
+impl CopyOf for RefreshEntry {
+    fn copy_of(&self) -> Result<RefreshEntry, NoMemory> {
+        Ok(RefreshEntry {
             refreshing: self.refreshing.copy_of()?,
         })
     }
 }
 
-impl Keyed for Asked {
+impl HasKey for RefreshEntry {
     ghost use Rattle.std.specs.Prelude.{nat_eq, nat_lt};
 
     ghost same = { λ a b. nat_eq a.rec b.rec };
 
     ghost before = { λ a b. nat_lt a.rec b.rec };
 
-    fn is_same(&self, other: &Asked) -> bool {
+    fn is_same(&self, other: &RefreshEntry) -> bool {
         self.refreshing.is_same(&other.refreshing)
     }
 
-    fn comes_before(&self, other: &Asked) -> bool {
+    fn comes_before(&self, other: &RefreshEntry) -> bool {
         self.refreshing.comes_before(&other.refreshing)
     }
 }
 
-impl Asked {
+impl RefreshEntry {
     /// Begins with no copies of other sites.
-    pub(crate) fn new(alloc: Global, rec: RecId) -> Asked
+    pub(crate) fn new(alloc: Global, rec: RecId) -> RefreshEntry
         ensures { result ≡ record { rec = rec; answers = [] } }
     {
-        Asked {
+        RefreshEntry {
             refreshing: Refreshing {
                 rec,
                 answers: Seq::new(alloc),

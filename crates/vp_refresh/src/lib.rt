@@ -9,5 +9,5 @@ mod asked;
 mod newest;
 mod refresh;
 
-pub use asked::Asked;
+pub use asked::RefreshEntry;
 pub use refresh::Refresh;

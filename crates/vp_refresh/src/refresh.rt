@@ -7,7 +7,7 @@ ghost use Rattle.vp_model.specs.Messages.{with_answer};
 ghost use Rattle.vp_refresh.specs.Asking.{missing_of};
 ghost use Rattle.vp_refresh.specs.Newest.{IsNewestIn};
 
-use crate::asked::Asked;
+use crate::asked::RefreshEntry;
 use std::alloc::Global;
 use std::marker::Model;
 use vp_base::{CopyOf, NoMemory, RecId, SiteId, Sites, Stored, View};
@@ -16,7 +16,7 @@ use vp_lists::{copy_all, put};
 
 /// The copies of a site that are under refresh, ascending by record.
 pub struct Refresh {
-    listed: Vec<Asked>,
+    listed: Vec<RefreshEntry>,
 }
 
 impl Drop for Refresh {
@@ -57,17 +57,17 @@ impl Refresh {
         ensures err { OnErr result (self.new ≡ self.old) }
     {
         let alloc = *self.listed.allocator();
-        put(&mut self.listed, Asked::new(alloc, rec))
+        put(&mut self.listed, RefreshEntry::new(alloc, rec))
     }
 
     /// The copies under refresh, ascending by record.
-    pub fn as_slice(&self) -> &[Asked]
+    pub fn as_slice(&self) -> &[RefreshEntry]
         ensures { result.now ≡ self.now }
     {
         &self.listed
     }
 
-    fn find(&self, rec: RecId) -> Option<&Asked>
+    fn find(&self, rec: RecId) -> Option<&RefreshEntry>
         ensures { option_copied result ≡ refreshing_of rec self.now }
     {
         self.listed.iter().find(|asked| asked.is_of(rec))
@@ -123,7 +123,7 @@ impl Refresh {
 }
 
 /// Keeps the copy of the site with each item of the record.
-fn keep(listed: &mut [Asked], from: SiteId, rec: RecId, stored: &Stored) -> Result<(), NoMemory>
+fn keep(listed: &mut [RefreshEntry], from: SiteId, rec: RecId, stored: &Stored) -> Result<(), NoMemory>
     ensures { OnOk result (listed.new ≡ map (with_answer rec from stored.now) listed.old) }
 {
     for asked in listed.iter_mut() {

@@ -22,9 +22,9 @@ use Rattle.vp_playing.specs.Played.{run_in, Sees}
 use Rattle.vp_laws.proofs.Words.CutTraces.{limits_cut_traces}
 use Rattle.vp_replay.specs.Summary.{replies_of}
 use Rattle.vp_replay.specs.Generated.{Makes}
-use Rattle.vp_replay.specs.declared.generating.Made.{Made}
+use Rattle.vp_replay.specs.declared.generating.GeneratedRun.{GeneratedRun}
 use Rattle.vp_playing.proofs.Seen.{sees_appended}
-use Rattle.vp_playing.proofs.Turns.{Played, play_starts, play_goes_on, play_is_ended, play_is_over, cut_here, event_behind}
+use Rattle.vp_playing.proofs.Turns.{Played, play_starts, play_goes_on, play_is_ended, play_is_over, cut_here, event_after}
 
 -- ---- calls
 
@@ -191,7 +191,7 @@ abbrev pub Begins : Catalogue → ℕ × Line → List Reply → List Reply → 
 Begins catalogue line old new = (count : ℕ) × (new ≡ old ++ take count (replies_in line.1.shown))
 
 -- i events were made and played
-pub record IsMaking (seed count i : ℕ) (known : Known) (state : ℕ) (m : Made) : Type 0 where
+pub record IsMaking (seed count i : ℕ) (known : Known) (state : ℕ) (m : GeneratedRun) : Type 0 where
   pub world : known.world ≡ (after_rounds seed i).run.world
   pub source : state ≡ (after_rounds seed i).source
   pub events : m.events ≡ (after_rounds seed i).events
@@ -208,7 +208,7 @@ making_starts seed count known e = record {
   played = play_starts Collects (made seed count) known.world [] (ap (λ (k : Known). k.world) e);
 }
 
-module _ (seed count i : ℕ) (known : Known) (source : ℕ) (m : Made) (h : IsMaking seed count i known source m) where
+module _ (seed count i : ℕ) (known : Known) (source : ℕ) (m : GeneratedRun) (h : IsMaking seed count i known source m) where
   pub making_is_over : i ≡ count → Makes seed count (Ok known) m
   making_is_over e =
       let s = made seed count in
@@ -249,7 +249,7 @@ module _ (seed count i : ℕ) (known : Known) (source : ℕ) (m : Made) (h : IsM
               ∙ ap (λ n. (one_event generated_catalogue n x (run_in known.world)).world) number_is
               ∙ ap (λ (y : Event). (one_event generated_catalogue (length so_made.events + 1) y (run_in known.world)).world) x_is
               ∙ ap (λ (w : WorldState). (one_event generated_catalogue (length so_made.events + 1) (choice_of so_made).0 (run_in w)).world) h.world
-              ∙ sym (ap (λ (r : Run). r.world) (event_behind generated_catalogue (length so_made.events + 1) (choice_of so_made).0 so_made.run))
+              ∙ sym (ap (λ (r : Run). r.world) (event_after generated_catalogue (length so_made.events + 1) (choice_of so_made).0 so_made.run))
               ∙ sym (ap (λ (g : Generating). g.run.world) (one_more seed i) ∙ ap (λ (r : Run). r.world) (round_run so_made));
           source = ap (λ (c : Choice). c.1) so_chosen ∙ sym (ap (λ (g : Generating). g.source) (one_more seed i) ∙ round_source (after_rounds seed i));
           events =
@@ -276,7 +276,7 @@ module _ (seed count i : ℕ) (known : Known) (source : ℕ) (m : Made) (h : IsM
 -- ---- what is printed
 
 -- a beginning of the text of the events
-pub begun_made : (seed count : ℕ) (known : Known) (m : Made) (old new : List ℕ) → Makes seed count (Ok known) m → is_begun old (schedule_text (record { catalogue = generated_catalogue; events = m.events })) new ≡ true → is_begun old (schedule_text (made_within world_limits seed count)) new ≡ true
+pub begun_made : (seed count : ℕ) (known : Known) (m : GeneratedRun) (old new : List ℕ) → Makes seed count (Ok known) m → is_begun old (schedule_text (record { catalogue = generated_catalogue; events = m.events })) new ≡ true → is_begun old (schedule_text (made_within world_limits seed count)) new ≡ true
 begun_made seed count known m old new makes h =
     subst (λ (s : Schedule). is_begun old (schedule_text s) new ≡ true)
     (ap (λ (es : List Event). record { catalogue = generated_catalogue; events = es }) makes.2 ∙ sym (limits_cut_traces.generated world_limits seed count makes.0))

@@ -13,13 +13,13 @@ use Rattle.vp_laws.proofs.Lists.Catalogues.{catalogue_apart}
 use Rattle.vp_world.specs.Known.{Known}
 use Rattle.vp_replay.specs.Summary.{replies_of, summary_lines}
 use Rattle.vp_replay.specs.Generated.{Makes, IsSoaked}
-use Rattle.vp_replay.specs.declared.generating.Made.{Made}
+use Rattle.vp_replay.specs.declared.generating.GeneratedRun.{GeneratedRun}
 use Rattle.vp_status.specs.declared.status.Status.TheVariants as status
 use Rattle.vp_replay.proofs.GeneratedCatalogue.{generated_is}
 use Rattle.vp_replay.proofs.Making.{made_run}
 use Rattle.vp_replay.proofs.Shaped.{commits_within}
 
-module _ (seed count : ℕ) (known : Known) (m : Made) (makes : Makes seed count (Ok known) m) where
+module _ (seed count : ℕ) (known : Known) (m : GeneratedRun) (makes : Makes seed count (Ok known) m) where
   catalogue_is : generated_catalogue ≡ known.catalogue
   catalogue_is = sym (ap (λ (k : Known). k.catalogue) makes.1)
 

@@ -10,7 +10,7 @@ use Rattle.vp_model.specs.Texts.Trace.{printed_lines}
 use Rattle.vp_text.specs.Printing.{is_begun}
 use Rattle.vp_status.specs.Refused.{limit_text}
 use Rattle.vp_replay.specs.Summary.{replies_of, summary_text}
-use Rattle.vp_replay.specs.declared.generating.Made.{Made}
+use Rattle.vp_replay.specs.declared.generating.GeneratedRun.{GeneratedRun}
 use Rattle.vp_status.specs.declared.status.Status.{Status}
 use Rattle.vp_status.specs.declared.status.Status.TheVariants as status
 use Rattle.vp_world.specs.Known.{Known}
@@ -19,7 +19,7 @@ use Rattle.vp_world.specs.declared.end.WorldEnd.{WorldEnd}
 use Rattle.vp_world.specs.declared.end.WorldEnd.TheVariants as end
 
 -- The schedule is made and played to its end, or a limit ends it, and the events before the one that was refused are there.
-abbrev pub Makes : ℕ → ℕ → Result Known WorldEnd → Made → Type 0
+abbrev pub Makes : ℕ → ℕ → Result Known WorldEnd → GeneratedRun → Type 0
 Makes seed count (Ok known) m =
     (limit_made world_limits seed count ≡ None)
     × (known ≡ record { catalogue = generated_catalogue; world = (generating seed count).run.world })

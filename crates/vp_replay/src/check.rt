@@ -9,11 +9,11 @@ ghost use Rattle.vp_replay.specs.Checked.{IsCheckAnswer, value_text, values_text
 use std::alloc::Global;
 use vp_base::{Name, NoMemory, RecId, TxnId, Value};
 use vp_onecopy::{History, HistoryFault, Verdict, check, print_name, read_history};
-use vp_status::{Defined, Status, print_bad_line, print_twice};
+use vp_status::{RunOutput, Status, print_bad_line, print_twice};
 use vp_text::print_number;
 
 /// Checks the history that ends the input: the status and the text that `check` prints for it.
-pub fn checked(alloc: Global, input: &[u8]) -> Result<Defined, NoMemory>
+pub fn checked(alloc: Global, input: &[u8]) -> Result<RunOutput, NoMemory>
     ensures { IfOk result (λ defined. IsCheckAnswer input.now defined.status defined.text.items) }
 {
     match read_history(alloc, input) {
@@ -23,21 +23,21 @@ pub fn checked(alloc: Global, input: &[u8]) -> Result<Defined, NoMemory>
 }
 
 /// Makes the status and the line for an input that has no history.
-fn refuse(alloc: Global, fault: HistoryFault) -> Result<Defined, NoMemory>
+fn refuse(alloc: Global, fault: HistoryFault) -> Result<RunOutput, NoMemory>
     ensures { IfOk result (λ defined. Finds fault defined.status defined.text.items) }
 {
     let mut text = Vec::new(alloc);
     match fault {
         HistoryFault::BadLine { line, at } => {
             print_bad_line(line, at, &mut text)?;
-            Ok(Defined {
+            Ok(RunOutput {
                 status: Status::BadLine,
                 text,
             })
         }
         HistoryFault::Twice { line } => {
             print_twice(line, &mut text)?;
-            Ok(Defined {
+            Ok(RunOutput {
                 status: Status::BadLine,
                 text,
             })
@@ -48,7 +48,7 @@ fn refuse(alloc: Global, fault: HistoryFault) -> Result<Defined, NoMemory>
 
 /// Checks a history, and makes the text of the verdict: serial with the values that are left, or its first read of another value
 /// (Bernstein, Hadzilacos and Goodman 1987, chapter 8).
-fn judge(alloc: Global, history: &History) -> Result<Defined, NoMemory>
+fn judge(alloc: Global, history: &History) -> Result<RunOutput, NoMemory>
     requires { IsWhole history.now }
     ensures { IfOk result (λ defined. IsVerdict history.now defined.status defined.text.items) }
 {
@@ -58,7 +58,7 @@ fn judge(alloc: Global, history: &History) -> Result<Defined, NoMemory>
     match check(&history.start, commits)? {
         Verdict::Serial { map } => {
             print_serial(commits.len(), names, map.as_slice(), &mut text)?;
-            Ok(Defined {
+            Ok(RunOutput {
                 status: Status::Done,
                 text,
             })
@@ -71,7 +71,7 @@ fn judge(alloc: Global, history: &History) -> Result<Defined, NoMemory>
             read,
         } => {
             print_difference(&txn, op, names, rec, &kept, &read, &mut text)?;
-            Ok(Defined {
+            Ok(RunOutput {
                 status: Status::Differs,
                 text,
             })

@@ -13,22 +13,22 @@ use std::alloc::Global;
 use vp_base::{Events, NoMemory, Replies};
 use vp_playing::play_event;
 use vp_schedule::{Schedule, print};
-use vp_status::{Defined, Status, print_limit};
-use vp_world::{ByThemselves, World, WorldEnd};
+use vp_status::{RunOutput, Status, print_limit};
+use vp_world::{PlainStepper, World, WorldEnd};
 
 /// A schedule that was made: its events, and the replies to its steps.
 #[derive(Drop)]
-pub struct Made {
+pub struct GeneratedRun {
     pub events: Events,
     pub replies: Replies,
 }
 
-impl Made {
+impl GeneratedRun {
     /// Begins with no events and no replies.
-    pub fn nothing(alloc: Global) -> Made
+    pub fn nothing(alloc: Global) -> GeneratedRun
         ensures { result ≡ record { events = []; replies = [] } }
     {
-        Made {
+        GeneratedRun {
             events: Events::new(alloc),
             replies: Replies::new(alloc),
         }
@@ -47,7 +47,7 @@ impl Made {
         for _ in 0..count {
             number += 1;
             let event = draws.event(alloc, &world)?;
-            world = play_event(number, &event, world, &mut ByThemselves, &mut self.replies)?;
+            world = play_event(number, &event, world, &mut PlainStepper, &mut self.replies)?;
             self.events.push(event)?;
         }
         Ok(world)
@@ -63,7 +63,7 @@ pub fn generate(seed: u32, count: u32, out: &mut Vec<u8>) -> Result<Option<World
     ensures { Generates seed count result out.old.items out.new.items }
 {
     let alloc = *out.allocator();
-    let mut made = Made::nothing(alloc);
+    let mut made = GeneratedRun::nothing(alloc);
     match made.make(alloc, seed, count) {
         Ok(_) => {
             print_events(made.events, out)?;
@@ -87,7 +87,7 @@ fn print_events(events: Events, out: &mut Vec<u8>) -> Result<(), NoMemory>
 }
 
 /// Generates a schedule: the status and the text that `generate` prints.
-pub fn generated(alloc: Global, seed: u32, count: u32) -> Result<Defined, NoMemory>
+pub fn generated(alloc: Global, seed: u32, count: u32) -> Result<RunOutput, NoMemory>
     requires seed { seed ≤ 2147483647 }
     requires few { count ≤ 2400 }
     ensures { IfOk result (λ defined. IsGenerated seed count defined.status defined.text.items) }
@@ -101,5 +101,5 @@ pub fn generated(alloc: Global, seed: u32, count: u32) -> Result<Defined, NoMemo
         }
         Some(WorldEnd::NoMemory) => unreachable!(),
     };
-    Ok(Defined { status, text })
+    Ok(RunOutput { status, text })
 }

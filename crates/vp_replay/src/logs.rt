@@ -10,11 +10,11 @@ use std::alloc::Global;
 use vp_base::{NoMemory, SiteId, Word};
 use vp_cluster::run;
 use vp_schedule::{Schedule, read};
-use vp_status::{Defined, Status, print_limit};
+use vp_status::{RunOutput, Status, print_limit};
 use vp_world::WorldEnd;
 
 /// Runs the schedule in the input through nodes: the status and the text that `logs` prints for it.
-pub fn logged(alloc: Global, input: &[u8]) -> Result<Defined, NoMemory>
+pub fn logged(alloc: Global, input: &[u8]) -> Result<RunOutput, NoMemory>
     ensures { IfOk result (λ defined. IsLogsAnswer input.now defined.status defined.text.items) }
 {
     match read(alloc, input) {
@@ -24,7 +24,7 @@ pub fn logged(alloc: Global, input: &[u8]) -> Result<Defined, NoMemory>
 }
 
 /// Runs the schedule through nodes, and makes the line of each log that it leaves, or of the limit of the world that ends the run.
-fn tell(alloc: Global, schedule: &Schedule) -> Result<Defined, NoMemory>
+fn tell(alloc: Global, schedule: &Schedule) -> Result<RunOutput, NoMemory>
     requires { IsSchedule schedule.now }
     ensures { IfOk result (λ defined. Leaves schedule.now defined.status defined.text.items) }
 {
@@ -33,14 +33,14 @@ fn tell(alloc: Global, schedule: &Schedule) -> Result<Defined, NoMemory>
     match run(schedule, &mut trace) {
         Ok(ran) => {
             print_logs(ran.logs.as_slice(), &mut text)?;
-            Ok(Defined {
+            Ok(RunOutput {
                 status: Status::Done,
                 text,
             })
         }
         Err(WorldEnd::Limit { limit, .. }) => {
             print_limit(limit, &mut text)?;
-            Ok(Defined {
+            Ok(RunOutput {
                 status: Status::Limit,
                 text,
             })

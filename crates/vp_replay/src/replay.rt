@@ -13,11 +13,11 @@ use vp_catalog::Catalog;
 use vp_cluster::run;
 use vp_onecopy::{History, Map, order, print_history};
 use vp_schedule::{Schedule, ScheduleFault, read};
-use vp_status::{Defined, Status, print_bad_line, print_limit, print_twice};
+use vp_status::{RunOutput, Status, print_bad_line, print_limit, print_twice};
 use vp_world::WorldEnd;
 
 /// Replays the schedule in the input: the status and the text that `replay` prints for it.
-pub fn replayed(alloc: Global, input: &[u8]) -> Result<Defined, NoMemory>
+pub fn replayed(alloc: Global, input: &[u8]) -> Result<RunOutput, NoMemory>
     ensures { IfOk result (λ defined. IsReplayAnswer input.now defined.status defined.text.items) }
 {
     match read(alloc, input) {
@@ -27,7 +27,7 @@ pub fn replayed(alloc: Global, input: &[u8]) -> Result<Defined, NoMemory>
 }
 
 /// Plays a schedule, and makes the text of its trace and its history, or of what a limit of the world leaves of its trace.
-fn serve(alloc: Global, schedule: &Schedule) -> Result<Defined, NoMemory>
+fn serve(alloc: Global, schedule: &Schedule) -> Result<RunOutput, NoMemory>
     requires { IsSchedule schedule.now }
     ensures { IfOk result (λ defined. Gives schedule.now defined.status defined.text.items) }
 {
@@ -35,14 +35,14 @@ fn serve(alloc: Global, schedule: &Schedule) -> Result<Defined, NoMemory>
     match run(schedule, &mut text) {
         Ok(ran) => {
             print_end(alloc, &schedule.catalog, &ran.commits, &mut text)?;
-            Ok(Defined {
+            Ok(RunOutput {
                 status: Status::Done,
                 text,
             })
         }
         Err(WorldEnd::Limit { limit, .. }) => {
             print_limit(limit, &mut text)?;
-            Ok(Defined {
+            Ok(RunOutput {
                 status: Status::Limit,
                 text,
             })
@@ -52,28 +52,28 @@ fn serve(alloc: Global, schedule: &Schedule) -> Result<Defined, NoMemory>
 }
 
 /// Makes the status and the line for an input that is no schedule.
-pub fn refuse(alloc: Global, fault: ScheduleFault) -> Result<Defined, NoMemory>
+pub fn refuse(alloc: Global, fault: ScheduleFault) -> Result<RunOutput, NoMemory>
     ensures { IfOk result (λ defined. Tells fault defined.status defined.text.items) }
 {
     let mut text = Vec::new(alloc);
     match fault {
         ScheduleFault::BadLine { line, at } => {
             print_bad_line(line, at, &mut text)?;
-            Ok(Defined {
+            Ok(RunOutput {
                 status: Status::BadLine,
                 text,
             })
         }
         ScheduleFault::Twice { line } => {
             print_twice(line, &mut text)?;
-            Ok(Defined {
+            Ok(RunOutput {
                 status: Status::BadLine,
                 text,
             })
         }
         ScheduleFault::TooMany { limit, .. } => {
             print_limit(limit, &mut text)?;
-            Ok(Defined {
+            Ok(RunOutput {
                 status: Status::Limit,
                 text,
             })

@@ -7,34 +7,34 @@ ghost use Rattle.vp_model.specs.OneCopy.{order, serial};
 ghost use Rattle.vp_onecopy.specs.Playing.{CommitsWithin};
 ghost use Rattle.vp_replay.specs.Summary.{begins, commits, refuses, count_of, count_line, summary_lines};
 
-use crate::generating::Made;
+use crate::generating::GeneratedRun;
 use std::alloc::Global;
 use vp_base::{Answer, NoMemory, Reply};
 use vp_onecopy::{Map, Verdict, check, order};
-use vp_status::{Defined, Status, print_limit};
+use vp_status::{RunOutput, Status, print_limit};
 use vp_text::print_number;
 use vp_world::{World, WorldEnd};
 
 /// Plays the schedule that is generated from these numbers: the status and the text that `soak` prints for it.
-pub fn soaked(alloc: Global, seed: u32, count: u32) -> Result<Defined, NoMemory>
+pub fn soaked(alloc: Global, seed: u32, count: u32) -> Result<RunOutput, NoMemory>
     requires seed { seed ≤ 2147483647 }
     requires few { count ≤ 2400 }
     ensures { IfOk result (λ defined. IsSoaked seed count defined.status defined.text.items) }
 {
-    let mut made = Made::nothing(alloc);
+    let mut made = GeneratedRun::nothing(alloc);
     let mut text = Vec::new(alloc);
     match made.make(alloc, seed, count) {
         Ok(world) => {
             let serial = serial_commits(alloc, &world)?;
             print_summary(&made, world.messages(), serial, &mut text)?;
-            Ok(Defined {
+            Ok(RunOutput {
                 status: Status::Done,
                 text,
             })
         }
         Err(WorldEnd::Limit { limit, .. }) => {
             print_limit(limit, &mut text)?;
-            Ok(Defined {
+            Ok(RunOutput {
                 status: Status::Limit,
                 text,
             })
@@ -123,7 +123,7 @@ fn print_count(word: &[u8], count: usize, out: &mut Vec<u8>) -> Result<(), NoMem
 }
 
 fn print_summary(
-    made: &Made,
+    made: &GeneratedRun,
     messages: usize,
     serial: usize,
     out: &mut Vec<u8>,

@@ -76,7 +76,7 @@ fn comes_to(rt: &impl Abort, alloc: Global, stop: &Stop) -> Vec<u8>
 }
 
 #[test]
-fn a_decision_is_there_behind_its_last_call(rt: HostRuntime) {
+fn a_decision_is_there_after_its_last_call(rt: HostRuntime) {
     let alloc = rt.alloc();
     for (calls, late, rest) in [
         (0, false, WITHOUT),

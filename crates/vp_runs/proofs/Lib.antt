@@ -1,5 +1,5 @@
 pub mod Delivered
-pub mod Behind
+pub mod Following
 pub mod StoppedRuns
 pub mod Happened
 pub mod Through

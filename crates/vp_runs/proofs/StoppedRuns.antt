@@ -6,10 +6,10 @@ use Rattle.std.specs.List.{AllByRecursion}
 use Rattle.vp_text.proofs.Items.{all_append}
 use Rattle.vp_model.specs.Types.{Event}
 use Rattle.vp_model.specs.World.{WorldState, Run, Moment, Schedule, start_world, start_run, run_from, run_of, moments_of}
-use Rattle.vp_runs.specs.Stopped.{stop_at, passed_numbers, pass_over, stopped_world, follow, raised, first_lost, lost, singles, run_in, run_behind}
+use Rattle.vp_runs.specs.Stopped.{stop_at, passed_numbers, pass_over, stopped_world, follow, raised, first_lost, lost, singles, run_in, run_after}
 use Rattle.vp_runs.specs.StopLaws.{SameButDelivered, StoppedRunsAreSchedules}
 use Rattle.vp_runs.proofs.Delivered.{IsSingle, steps_to, steps_more, steps_same, run_is}
-use Rattle.vp_runs.proofs.Behind.{Goes, schedule_goes, behind_goes, followed, led_to, single_at, all_taken, all_events}
+use Rattle.vp_runs.proofs.Following.{Goes, schedule_goes, after_goes, followed, led_to, single_at, all_taken, all_events}
 
 module _ (s : Schedule) (step : ℕ) (kept : Bool) (m : Moment) (site : ℕ) (at : slice_get (moments_of s) step ≡ Some m) where
   goes : Goes s.catalogue (start_world s.catalogue) (run_of s)
@@ -39,10 +39,10 @@ module _ (s : Schedule) (step : ℕ) (kept : Bool) (m : Moment) (site : ℕ) (at
   stopped_is = run_is s.catalogue 1 stop (run_in m.before) stop_single
 
   abbrev pub rest : Run
-  rest = run_behind s (suc step) kept site m
+  rest = run_after s (suc step) kept site m
 
   rest_goes : Goes s.catalogue (stopped_world s.catalogue kept site m) rest
-  rest_goes = behind_goes s.catalogue 1 (map (raised (first_lost m) (lost kept m)) (follow s.events (take (suc step) (moments_of s)) m)) (stopped_world s.catalogue kept site m)
+  rest_goes = after_goes s.catalogue 1 (map (raised (first_lost m) (lost kept m)) (follow s.events (take (suc step) (moments_of s)) m)) (stopped_world s.catalogue kept site m)
 
   abbrev pub whole : List Event
   whole = front ++ (stop ++ singles rest.moments)
@@ -76,5 +76,5 @@ stopped_runs s (suc step) kept m site at by =
     let less : suc step - 1 ≡ step = omega arith in
     let some : (suc step == 0) ≡ false = grind (arith, nat_tests) in
     let there : slice_get (moments_of s) (suc step - 1) ≡ Some m = sym (ap (λ (b : Bool). cond b None (slice_get (moments_of s) (suc step - 1))) some) ∙ at in
-    subst (λ (n : ℕ). SameButDelivered (run_behind s (suc step) kept site m).world (run_of (record { catalogue = s.catalogue; events = singles (take n (moments_of s)) ++ (stop_at kept site m.line.event ++ singles (run_behind s (suc step) kept site m).moments) })).world) (sym less)
+    subst (λ (n : ℕ). SameButDelivered (run_after s (suc step) kept site m).world (run_of (record { catalogue = s.catalogue; events = singles (take n (moments_of s)) ++ (stop_at kept site m.line.event ++ singles (run_after s (suc step) kept site m).moments) })).world) (sym less)
     (comes_to s step kept m site (subst (λ (n : ℕ). slice_get (moments_of s) n ≡ Some m) less there))

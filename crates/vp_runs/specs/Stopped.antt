@@ -82,13 +82,13 @@ singles moments = map (λ (m : Moment). m.line.event) moments
 -- ---- the whole
 
 -- the run after the stop
-abbrev pub run_behind : Schedule → ℕ → Bool → ℕ → Moment → Run
-run_behind s step kept site m =
+abbrev pub run_after : Schedule → ℕ → Bool → ℕ → Moment → Run
+run_after s step kept site m =
     run_from s.catalogue 1 (map (raised (first_lost m) (lost kept m)) (follow s.events (take step (moments_of s)) m)) (run_in (stopped_world s.catalogue kept site m))
 
 abbrev pub stopped_events : Schedule → ℕ → Bool → ℕ → Moment → List Event
 stopped_events s step kept site m =
-    singles (take (step - 1) (moments_of s)) ++ (stop_at kept site m.line.event ++ singles (run_behind s step kept site m).moments)
+    singles (take (step - 1) (moments_of s)) ++ (stop_at kept site m.line.event ++ singles (run_after s step kept site m).moments)
 
 -- the schedule that the run becomes, if it can stop in that step
 unfoldable pub stopped : ℕ → Bool → Schedule → Option Schedule

@@ -17,8 +17,8 @@ pub use log_laws::{logs_are_kept, logs_are_of_nodes};
 pub use stop_laws::stopped_runs_are_schedules;
 pub use worked::{a_begin, a_commit_of_two_sites, an_answer_among_others, what_is_passed_over};
 pub use worked_logs::{
-    a_checkpoint_behind_a_restart, a_decision_of_two_sites, lives_begin, nothing_is_forced,
+    a_checkpoint_after_a_restart, a_decision_of_two_sites, lives_begin, nothing_is_forced,
 };
 pub use worked_stops::{
-    a_step_that_appends_nothing, a_stop_before_the_decision, a_stop_behind_the_decision,
+    a_step_that_appends_nothing, a_stop_before_the_decision, a_stop_after_the_decision,
 };

@@ -25,7 +25,7 @@ pub fn a_decision_of_two_sites()
 {}
 
 /// A restart makes no checkpoint, though one is due then; the next step that forces a record makes it.
-pub fn a_checkpoint_behind_a_restart()
+pub fn a_checkpoint_after_a_restart()
     ensures none { length (kept (worked.over worked.many worked.filled) 1) ≡ 6 }
     ensures one { kept (worked.over worked.many (worked.filled ++ event.Call 1 call.Regroup ∷ [])) 1 ≡ worked.saved }
 {}

@@ -12,7 +12,7 @@ pub fn a_stop_before_the_decision()
 {}
 
 /// It stops once its decision is there: it crashes after the step, whose message nobody gets, and later numbers are one more.
-pub fn a_stop_behind_the_decision()
+pub fn a_stop_after_the_decision()
     ensures events { option_map (λ s. s.events) (stopped 7 true worked.decided) ≡ Some worked.with_decision }
     ensures journal { option_map journal_of (stopped 7 true worked.decided) ≡ Some worked.committed }
 {}
@@ -20,7 +20,7 @@ pub fn a_stop_behind_the_decision()
 /// There is nothing to stop in: before the first step, after the last one, in a step that forces no record, and in a restart.
 pub fn a_step_that_appends_nothing()
     ensures none { stopped 0 true worked.decided ≡ None }
-    ensures behind { stopped 15 true worked.decided ≡ None }
+    ensures following { stopped 15 true worked.decided ≡ None }
     ensures unforced { stopped 2 true worked.decided ≡ None }
     ensures restart { stopped 2 true worked.restarted ≡ None }
 {}

@@ -217,12 +217,12 @@ kind_of (event.Crash site) = Crash
 kind_of (event.Restart site) = Restart
 
 -- what follows the word of an event
-record Behind (sites : List ℕ) (e : Event) : Type 0 where
+record Following (sites : List ℕ) (e : Event) : Type 0 where
   back : List ℕ
   fields : Fields sites (kind_of e) e back
   is : event_text e ≡ word (kind_of e) ++ back
 
-fields_from : (sites : List ℕ) → AllSites sites → (e : Event) → IsEvent sites e → Behind sites e
+fields_from : (sites : List ℕ) → AllSites sites → (e : Event) → IsEvent sites e → Following sites e
 fields_from sites all (event.Call site words) h = record {
   back = decimal site ++ 32 ∷ call_text words;
   is = refl;

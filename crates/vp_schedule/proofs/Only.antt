@@ -7,7 +7,7 @@ use Rattle.vp_model.specs.World.{Schedule}
 use Rattle.vp_catalog.specs.declared.entry.Entry.TheVariants as entry
 use Rattle.vp_schedule.specs.declared.line.ScheduleLine.{ScheduleLine}
 use Rattle.vp_schedule.specs.declared.line.ScheduleLine.TheVariants as kind
-use Rattle.vp_schedule.specs.declared.draft.Draft.{Draft}
+use Rattle.vp_schedule.specs.declared.draft.ScheduleDraft.{ScheduleDraft}
 use Rattle.vp_schedule.specs.declared.fault.ScheduleFault.{ScheduleFault}
 use Rattle.vp_schedule.specs.declared.fault.ScheduleFault.TheVariants as faults
 use Rattle.vp_schedule.specs.Drafts.{LineText, blank, after, Onward, Repeats, Exceeds}
@@ -15,7 +15,7 @@ use Rattle.vp_schedule.specs.Document.{IsScheduleText, Answered, IsOnly, IsTaken
 use Rattle.vp_schedule.proofs.Steps.{said}
 use Rattle.vp_schedule.proofs.Answering.{lines_plain, spelled_lines}
 
-abbrev Stopped : (Draft → ScheduleLine → Type 0) → List ℕ → ℕ → Type 0
+abbrev Stopped : (ScheduleDraft → ScheduleLine → Type 0) → List ℕ → ℕ → Type 0
 Stopped = IsFaultyLine blank after LineText Onward
 
 repeats_stop : Stops blank after LineText Onward Repeats
@@ -30,13 +30,13 @@ exceeds_stop limit d (kind.Entry (entry.Record placed)) f o = false≢true (sym 
 exceeds_stop limit d kind.Events f o = f
 exceeds_stop limit d (kind.Event event) f o = omega (arith, f.1, o)
 
-not_both : (limit : ℕ) (d : Draft) (e : ScheduleLine) → Repeats d e → Exceeds limit d e → ⊥
+not_both : (limit : ℕ) (d : ScheduleDraft) (e : ScheduleLine) → Repeats d e → Exceeds limit d e → ⊥
 not_both limit d (kind.Entry (entry.Site site port)) f g = g.1
 not_both limit d (kind.Entry (entry.Record placed)) f g = false≢true (sym f.0 ∙ g.1)
 not_both limit d kind.Events f g = f
 not_both limit d (kind.Event event) f g = f
 
-one_limit : (a b : ℕ) (d : Draft) (e : ScheduleLine) → Exceeds a d e → Exceeds b d e → a ≡ b
+one_limit : (a b : ℕ) (d : ScheduleDraft) (e : ScheduleLine) → Exceeds a d e → Exceeds b d e → a ≡ b
 one_limit a b d (kind.Entry entry) f g = f.0 ∙ sym g.0
 one_limit a b d kind.Events f g = absurd f
 one_limit a b d (kind.Event event) f g = f.0 ∙ sym g.0
@@ -45,9 +45,9 @@ ok_ok : (text : List ℕ) (s r : Schedule) → IsScheduleText s text → IsSched
 ok_ok text s r h k =
     let a = spelled_lines s text h in
     let b = spelled_lines r text k in
-    ap (λ (d : Draft). d.schedule) (sym a.says ∙ ap said (whole_same blank after LineText Onward text (lines_plain text) a.lines b.lines a.lines_are b.lines_are) ∙ b.says)
+    ap (λ (d : ScheduleDraft). d.schedule) (sym a.says ∙ ap said (whole_same blank after LineText Onward text (lines_plain text) a.lines b.lines a.lines_are b.lines_are) ∙ b.says)
 
-ok_stopped : (F : Draft → ScheduleLine → Type 0) → Stops blank after LineText Onward F → (text : List ℕ) (s : Schedule) (line : ℕ) → IsScheduleText s text → Stopped F text line → ⊥
+ok_stopped : (F : ScheduleDraft → ScheduleLine → Type 0) → Stops blank after LineText Onward F → (text : List ℕ) (s : Schedule) (line : ℕ) → IsScheduleText s text → Stopped F text line → ⊥
 ok_stopped F stops text s line h f =
     let a = spelled_lines s text h in
     whole_not_faulty blank after LineText Onward F stops text (lines_plain text) a.lines a.lines_are line f

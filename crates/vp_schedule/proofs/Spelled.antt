@@ -14,7 +14,7 @@ use Rattle.vp_catalog.specs.declared.entry.Entry.{Entry}
 use Rattle.vp_catalog.specs.Document.{IsCatalogue}
 use Rattle.vp_schedule.specs.declared.line.ScheduleLine.{ScheduleLine}
 use Rattle.vp_schedule.specs.declared.line.ScheduleLine.TheVariants as kind
-use Rattle.vp_schedule.specs.declared.draft.Draft.{Draft}
+use Rattle.vp_schedule.specs.declared.draft.ScheduleDraft.{ScheduleDraft}
 use Rattle.vp_schedule.specs.Events.{IsEvent}
 use Rattle.vp_schedule.specs.Drafts.{LineText, after, Onward}
 use Rattle.vp_schedule.specs.Document.{IsSchedule, IsScheduleText}
@@ -23,7 +23,7 @@ use Rattle.vp_catalog.proofs.Spelled.{spelled}
 use Rattle.vp_schedule.proofs.Catalogues.{entries_whole}
 use Rattle.vp_schedule.proofs.Steps.{said, Lines, entries_of, catalogue_said, head_whole, no_events}
 
-abbrev draft_of : Catalogue → List Event → Bool → Draft
+abbrev draft_of : Catalogue → List Event → Bool → ScheduleDraft
 draft_of c events opened = record { schedule = record { catalogue = c; events = events }; opened = opened }
 
 -- ---- what the lines say
@@ -66,7 +66,7 @@ lines_spell (kind.Event event ∷ es) t h on =
 -- ---- the lines of a schedule
 
 -- some lines that say the draft
-pub record LinesOf (d : Draft) (text : List ℕ) : Type 0 where
+pub record LinesOf (d : ScheduleDraft) (text : List ℕ) : Type 0 where
   pub lines : List ScheduleLine
   pub lines_are : Lines lines text
   pub says : said lines ≡ d
@@ -77,22 +77,22 @@ as_lines (entry ∷ es) = kind.Entry entry ∷ as_lines es
 
 said_head : (es : List Entry) → said (as_lines es) ≡ draft_of (catalogue.all_said es) [] false
 said_head [] = refl
-said_head (entry ∷ es) = ap (λ (d : Draft). after d (kind.Entry entry)) (said_head es)
+said_head (entry ∷ es) = ap (λ (d : ScheduleDraft). after d (kind.Entry entry)) (said_head es)
 
 head_lines : (es : List Entry) (t : List ℕ) → catalogue.Lines es t → Lines (as_lines es) t
 head_lines [] t h = h
 head_lines (entry ∷ es) t h =
     let back = sym (said_head es) in
-    (h.0, h.1, head_lines es h.0 h.2, subst (λ (d : Draft). LineText d (kind.Entry entry) h.1) back (refl, h.3), subst (λ (d : Draft). Onward d (kind.Entry entry)) back h.4, h.5)
+    (h.0, h.1, head_lines es h.0 h.2, subst (λ (d : ScheduleDraft). LineText d (kind.Entry entry) h.1) back (refl, h.3), subst (λ (d : ScheduleDraft). Onward d (kind.Entry entry)) back h.4, h.5)
 
 -- one more line
-line_more : (d : Draft) (text line : List ℕ) (e : ScheduleLine) → LinesOf d text → LineText d e line → Onward d e → LinesOf (after d e) (text ++ line)
+line_more : (d : ScheduleDraft) (text line : List ℕ) (e : ScheduleLine) → LinesOf d text → LineText d e line → Onward d e → LinesOf (after d e) (text ++ line)
 line_more d text line e l h onward =
     let back = sym l.says in
     record {
       lines = e ∷ l.lines;
-      lines_are = (text, line, l.lines_are, subst (λ (d : Draft). LineText d e line) back h, subst (λ (d : Draft). Onward d e) back onward, refl);
-      says = ap (λ (d : Draft). after d e) l.says;
+      lines_are = (text, line, l.lines_are, subst (λ (d : ScheduleDraft). LineText d e line) back h, subst (λ (d : ScheduleDraft). Onward d e) back onward, refl);
+      says = ap (λ (d : ScheduleDraft). after d e) l.says;
     }
 
 event_lines : (c : Catalogue) (events more : List Event) (text : List ℕ) → LinesOf (draft_of c events true) text → AllByRecursion (λ e. IsEvent (sites_of c) e) more → length events + length more ≤ 100000

@@ -12,7 +12,7 @@ use Rattle.vp_catalog.specs.Entries as entries
 use Rattle.vp_catalog.specs.EntryReading.{entry_at}
 use Rattle.vp_schedule.specs.declared.line.ScheduleLine.{ScheduleLine}
 use Rattle.vp_schedule.specs.declared.line.ScheduleLine.TheVariants as kind
-use Rattle.vp_schedule.specs.declared.draft.Draft.{Draft}
+use Rattle.vp_schedule.specs.declared.draft.ScheduleDraft.{ScheduleDraft}
 use Rattle.vp_schedule.specs.Drafts.{sites_said, LineText, IsAllowed, blank, after, Onward}
 use Rattle.vp_schedule.specs.LineReading.{line_at}
 use Rattle.vp_catalog.proofs.Steps as catalogue
@@ -22,14 +22,14 @@ use Rattle.vp_schedule.proofs.Newlines.{event_is_line}
 use Rattle.vp_schedule.proofs.LineTexts.{line_exact}
 
 -- what some lines say
-abbrev pub said : List ScheduleLine → Draft
+abbrev pub said : List ScheduleLine → ScheduleDraft
 said = reached blank after LineText Onward
 
 abbrev pub Lines : List ScheduleLine → List ℕ → Type 0
 Lines = LinesText blank after LineText Onward
 
 -- the place that the reading has reached
-abbrev pub Stands : List ℕ → List ℕ → Draft → ℕ → Type 0
+abbrev pub Stands : List ℕ → List ℕ → ScheduleDraft → ℕ → Type 0
 Stands = SoFar blank after LineText Onward line_at
 
 -- ---- the catalogue's lines among them
@@ -111,16 +111,16 @@ readable most = record {
 
 -- ---- the steps
 
-pub stands_few : (text rest : List ℕ) (d : Draft) (line : ℕ) → Stands text rest d line → length (sites_said d) ≤ 16
-stands_few text rest d line s = subst (λ (d : Draft). length (sites_said d) ≤ 16) s.state_is (sites_few s.lines s.front s.lines_are)
+pub stands_few : (text rest : List ℕ) (d : ScheduleDraft) (line : ℕ) → Stands text rest d line → length (sites_said d) ≤ 16
+stands_few text rest d line s = subst (λ (d : ScheduleDraft). length (sites_said d) ≤ 16) s.state_is (sites_few s.lines s.front s.lines_are)
 
-pub stands_room : (text rest : List ℕ) (d : Draft) (line : ℕ) → Stands text rest d line → (left : ℕ) → line_at d rest ≡ Err left → left ≤ length rest
+pub stands_room : (text rest : List ℕ) (d : ScheduleDraft) (line : ℕ) → Stands text rest d line → (left : ℕ) → line_at d rest ≡ Err left → left ≤ length rest
 stands_room text rest d line s left read = (so_far_bad blank after LineText Onward line_at text rest d line left (readable (length text)) s read).0
 
-pub stands_allowed : (text rest new : List ℕ) (d : Draft) (line : ℕ) (e : ScheduleLine) → Stands text rest d line → line_at d rest ≡ Ok (e, new) → IsAllowed d e
+pub stands_allowed : (text rest new : List ℕ) (d : ScheduleDraft) (line : ℕ) (e : ScheduleLine) → Stands text rest d line → line_at d rest ≡ Ok (e, new) → IsAllowed d e
 stands_allowed text rest new d line e s read =
     let p = (so_far_exact blank after LineText Onward line_at text rest d line (readable (length text)) s).ok rest e new read in
     (p.text, p.spelled)
 
-pub stands_shorter : (text rest new : List ℕ) (d : Draft) (line : ℕ) (e : ScheduleLine) → Stands text rest d line → line_at d rest ≡ Ok (e, new) → length new < length rest
+pub stands_shorter : (text rest new : List ℕ) (d : ScheduleDraft) (line : ℕ) (e : ScheduleLine) → Stands text rest d line → line_at d rest ≡ Ok (e, new) → length new < length rest
 stands_shorter text rest new d line e s read = so_far_shorter blank after LineText Onward line_at text rest new d line e (readable (length text)) s read

@@ -7,7 +7,7 @@ use Rattle.vp_model.specs.World.{Schedule}
 use Rattle.vp_model.specs.Texts.Schedule.{schedule_text}
 use Rattle.vp_catalog.specs.Document.{IsCatalogue}
 use Rattle.vp_schedule.specs.declared.line.ScheduleLine.{ScheduleLine}
-use Rattle.vp_schedule.specs.declared.draft.Draft.{Draft}
+use Rattle.vp_schedule.specs.declared.draft.ScheduleDraft.{ScheduleDraft}
 use Rattle.vp_schedule.specs.declared.fault.ScheduleFault.{ScheduleFault}
 use Rattle.vp_schedule.specs.declared.fault.ScheduleFault.TheVariants as faults
 use Rattle.vp_schedule.specs.Events.{IsEvent}
@@ -43,7 +43,7 @@ IsTaken text result = (s : Schedule) → IsScheduleText s text → result ≢ Er
 
 -- the next line was read, or its fault is at this place in the text
 
-abbrev pub NextLine : Draft → ℕ → List ℕ → List ℕ → Result ScheduleLine ScheduleFault → Type 0
+abbrev pub NextLine : ScheduleDraft → ℕ → List ℕ → List ℕ → Result ScheduleLine ScheduleFault → Type 0
 NextLine draft number old new (Ok line) = line_at draft old ≡ Ok (line, new)
 NextLine draft number old new (Err (faults.BadLine line at)) = (line ≡ number) × (left : ℕ) × (line_at draft old ≡ Err left) × (at ≡ length old - left + 1)
 NextLine draft number old new (Err (faults.Twice line)) = ⊥
@@ -51,5 +51,5 @@ NextLine draft number old new (Err (faults.TooMany line limit)) = ⊥
 NextLine draft number old new (Err faults.NoMemory) = ⊤
 
 -- another line has to come
-abbrev pub is_owed : List ℕ → Draft → Bool
+abbrev pub is_owed : List ℕ → ScheduleDraft → Bool
 is_owed rest draft = nat_lt 0 (length rest) || not draft.opened

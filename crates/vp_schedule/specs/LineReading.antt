@@ -7,7 +7,7 @@ use Rattle.vp_heads.specs.declared.line.HeadLine.{HeadLine}
 use Rattle.vp_heads.specs.declared.line.HeadLine.TheVariants as head
 use Rattle.vp_schedule.specs.declared.line.ScheduleLine.{ScheduleLine}
 use Rattle.vp_schedule.specs.declared.line.ScheduleLine.TheVariants as kind
-use Rattle.vp_schedule.specs.declared.draft.Draft.{Draft}
+use Rattle.vp_schedule.specs.declared.draft.ScheduleDraft.{ScheduleDraft}
 use Rattle.vp_schedule.specs.EventReading.{event_at}
 use Rattle.vp_schedule.specs.Drafts.{sites_said}
 
@@ -29,5 +29,5 @@ event_line_at sites bytes = do
   end ← literal_at (10 ∷ []) event.1
   Ok (kind.Event event.0, end.1)
 
-unfoldable pub line_at : Draft → List ℕ → Result (ScheduleLine × List ℕ) ℕ
+unfoldable pub line_at : ScheduleDraft → List ℕ → Result (ScheduleLine × List ℕ) ℕ
 line_at draft bytes = cond draft.opened (event_line_at (sites_said draft) bytes) (head_line_at draft.schedule.catalogue bytes)

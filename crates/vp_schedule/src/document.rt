@@ -5,7 +5,7 @@ ghost use Rattle.vp_schedule.specs.Drafts.{sites_said};
 ghost use Rattle.vp_schedule.specs.LineReading.{line_at};
 ghost use Rattle.vp_schedule.specs.Document.{Answered, IsOnly, IsTaken, NextLine, is_owed};
 
-use crate::draft::Draft;
+use crate::draft::ScheduleDraft;
 use crate::fault::ScheduleFault;
 use crate::line::ScheduleLine;
 use crate::line_reading::parse_line;
@@ -18,7 +18,7 @@ use vp_text::Cursor;
 fn next_line(
     alloc: Global,
     cursor: &mut Cursor,
-    draft: &Draft,
+    draft: &ScheduleDraft,
     line: usize,
 ) -> Result<ScheduleLine, ScheduleFault>
     requires few { length (sites_said draft.now) ≤ 16 }
@@ -38,7 +38,7 @@ fn next_line(
 }
 
 /// Whether another line has to come: more bytes are left, or the line `events` has not come yet.
-fn owes_line(cursor: &Cursor, draft: &Draft) -> bool
+fn owes_line(cursor: &Cursor, draft: &ScheduleDraft) -> bool
     ensures { result ≡ is_owed cursor.now draft.now }
 {
     cursor.left() > 0 || !draft.opened
@@ -51,7 +51,7 @@ pub fn read(alloc: Global, text: &[u8]) -> Result<Schedule, ScheduleFault>
     ensures only { IsOnly text.now result }
     ensures taken { IsTaken text.now result }
 {
-    let mut draft = Draft::new(alloc);
+    let mut draft = ScheduleDraft::new(alloc);
     let mut cursor = Cursor::new(text);
     let mut line = 1;
     while owes_line(&cursor, &draft) {

@@ -12,17 +12,17 @@ use vp_catalog::Catalog;
 
 /// A schedule as far as it was read, and whether the line `events` has come.
 #[derive(Drop)]
-pub struct Draft {
+pub struct ScheduleDraft {
     pub schedule: Schedule,
     pub opened: bool,
 }
 
-impl Draft {
+impl ScheduleDraft {
     /// Makes the draft of no lines. Takes no memory.
-    pub fn new(alloc: Global) -> Draft
+    pub fn new(alloc: Global) -> ScheduleDraft
         ensures { result ≡ blank }
     {
-        Draft {
+        ScheduleDraft {
             schedule: Schedule {
                 catalog: Catalog::new(alloc),
                 events: Events::new(alloc),

@@ -6,7 +6,7 @@ ghost use Rattle.vp_base.specs.Faults.{line_left};
 ghost use Rattle.vp_schedule.specs.Drafts.{sites_said};
 ghost use Rattle.vp_schedule.specs.LineReading.{head_line_at, event_line_at, line_at};
 
-use crate::draft::Draft;
+use crate::draft::ScheduleDraft;
 use crate::event_reading::parse_event;
 use crate::line::ScheduleLine;
 use std::alloc::Global;
@@ -49,7 +49,7 @@ fn parse_event_line(
 pub fn parse_line(
     alloc: Global,
     cursor: &mut Cursor,
-    draft: &Draft,
+    draft: &ScheduleDraft,
 ) -> Result<ScheduleLine, LineFault>
     requires { length (sites_said draft.now) ≤ 16 }
     ensures { Tries (λ line. line) line_left result cursor.new (line_at draft.now cursor.old) }

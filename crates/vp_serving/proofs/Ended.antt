@@ -8,7 +8,7 @@ use Rattle.vp_model.specs.Catalogue.{Catalogue}
 use Rattle.vp_outside.specs.Disk.{DiskState}
 use Rattle.vp_outside.specs.Links.{LinkState, Receives}
 use Rattle.vp_outside.specs.Output.{SinkState, AppendsPrefix}
-use Rattle.vp_outside.specs.declared.datagram.Handed.{Handed}
+use Rattle.vp_outside.specs.declared.datagram.Dispatch.{Dispatch}
 use Rattle.vp_runs.specs.Turns.{end_line}
 use Rattle.vp_runs.specs.Runs.{NodeRun, node_run, recorded}
 use Rattle.vp_node.specs.Nodes.{NodeValue}
@@ -17,7 +17,7 @@ use Rattle.vp_serving.specs.Serving.{outside, Course, IsWhole, HasStopped, HasDo
 use Rattle.vp_serving.specs.Telling.{Finishes}
 use Rattle.vp_serving.specs.declared.end.End.{End}
 use Rattle.vp_serving.specs.declared.end.End.TheVariants as ends
-use Rattle.vp_serving.proofs.Prefixes.{prefix_all, prefix_front, prefix_take, prefix_behind}
+use Rattle.vp_serving.proofs.Prefixes.{prefix_all, prefix_front, prefix_take, prefix_after}
 use Rattle.vp_serving.proofs.Served.{SoFar, kept_as, safe_all}
 
 module _ (catalogue : Catalogue) (id turns count : ℕ) (stopped : Bool) (link0 link1 : LinkState) (sink0 sink1 : SinkState) (disk0 disk1 : DiskState) (node : NodeValue)
@@ -25,7 +25,7 @@ module _ (catalogue : Catalogue) (id turns count : ℕ) (stopped : Bool) (link0 
   abbrev run : NodeRun
   run = node_run catalogue id h.batches h.arrived
 
-  abbrev sent : List Handed
+  abbrev sent : List Dispatch
   sent = handed_in catalogue id h.batches link0.given h.arrived (length h.arrived)
 
   abbrev course : (sink : SinkState) → Course catalogue id turns (outside link0 link1 sink0 sink disk0 disk1)
@@ -70,7 +70,7 @@ module _ (catalogue : Catalogue) (id turns count : ℕ) (stopped : Bool) (link0 
       written = recorded run ++ take cut.0 end_line;
       handed = sent;
       did = record { writes = Appends-trans sink0.held sink1.held sink2.held (recorded run) (take cut.0 end_line) h.did.writes cut.2; hands = h.did.hands };
-      written_of = prefix_behind (recorded run) (take cut.0 end_line) end_line (prefix_take cut.0 end_line cut.1);
+      written_of = prefix_after (recorded run) (take cut.0 end_line) end_line (prefix_take cut.0 end_line cut.1);
       handed_of = prefix_all sent;
       safe = safe_all catalogue id h.batches h.arrived node disk0 disk1 h.stands h.kept h.others link0.given sent (prefix_all sent);
     }

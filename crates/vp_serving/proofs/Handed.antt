@@ -7,34 +7,34 @@ use Rattle.vp_model.specs.Catalogue.{Catalogue}
 use Rattle.vp_outside.specs.Causes.{count_after}
 use Rattle.vp_outside.specs.Links.{LinkState, Hands, HandsNow, handed_after}
 use Rattle.vp_outside.specs.declared.datagram.Datagram.{Datagram}
-use Rattle.vp_outside.specs.declared.datagram.Handed.{Handed}
+use Rattle.vp_outside.specs.declared.datagram.Dispatch.{Dispatch}
 use Rattle.vp_outside.proofs.Passed.{hands_then, one_longer}
 use Rattle.vp_runs.specs.Arrivals.{arrival}
 use Rattle.vp_runs.specs.Turns.{turn_on}
 use Rattle.vp_runs.specs.Runs.{NodeRun, with_turn, one_turn, node_run}
 use Rattle.vp_runs.proofs.Runs.{runs_go_on}
-use Rattle.vp_serving.specs.Handed.{datagrams_in, turn_behind, handed_in}
+use Rattle.vp_serving.specs.Handed.{datagrams_in, turn_after, handed_in}
 use Rattle.vp_serving.specs.Serving.{IsPrefix}
 use Rattle.vp_serving.specs.Laws.{RunsAreHandedOver}
 
 -- a beginning of some datagrams is a beginning once they are handed over
 pub prefix_handed : (given : ℕ) (xs ys : List Datagram) → IsPrefix xs ys → IsPrefix (handed_after given xs) (handed_after given ys)
 prefix_handed given xs ys h =
-    let f : Datagram → Handed = λ d. record { after = given; datagram = d } in
+    let f : Datagram → Dispatch = λ d. record { after = given; datagram = d } in
     ap (map f) h ∙ sym (take-map f (length xs) ys) ∙ ap (λ n. take n (map f ys)) (sym (length-map xs f))
 
 -- one more of them, if none was given in between
 pub hands_one_more : (link0 link1 link2 : LinkState) (ds : List Datagram) (d : Datagram) → HandsNow link0 link1 ds → link1.given ≡ link0.given → HandsNow link1 link2 (d ∷ [])
     → HandsNow link0 link2 (ds ++ d ∷ [])
 hands_one_more link0 link1 link2 ds d before same now =
-    let f : Datagram → Handed = λ x. record { after = link0.given; datagram = x } in
+    let f : Datagram → Dispatch = λ x. record { after = link0.given; datagram = x } in
     let more : Hands link1.handed link2.handed (handed_after link0.given (d ∷ [])) = subst (λ n. Hands link1.handed link2.handed (handed_after n (d ∷ []))) same now in
     subst (Hands link0.handed link2.handed) (sym (map-append f ds (d ∷ [])))
     (hands_then link0.handed link1.handed link2.handed (handed_after link0.given ds) (handed_after link0.given (d ∷ [])) before more)
 
 module _ (catalogue : Catalogue) (id : ℕ) (batches : List (List LogRecord)) where
   -- what comes later doesn't matter
-  turn_of_front : (front rest : List Datagram) (n : ℕ) → suc n ≤ length front → turn_behind catalogue id batches (front ++ rest) n ≡ turn_behind catalogue id batches front n
+  turn_of_front : (front rest : List Datagram) (n : ℕ) → suc n ≤ length front → turn_after catalogue id batches (front ++ rest) n ≡ turn_after catalogue id batches front n
   turn_of_front front rest n le =
       ap (λ (ds : List Datagram). drop (length (node_run catalogue id batches ds).datagrams) (node_run catalogue id batches (take (suc n) (front ++ rest))).datagrams) (take-append-le n front rest (omega (arith, le)))
       ∙ ap (λ (ds : List Datagram). drop (length (node_run catalogue id batches (take n front)).datagrams) (node_run catalogue id batches ds).datagrams) (take-append-le (suc n) front rest le)
@@ -42,7 +42,7 @@ module _ (catalogue : Catalogue) (id : ℕ) (batches : List (List LogRecord)) wh
   pub handed_of_front : (given : ℕ) (front rest : List Datagram) (n : ℕ) → n ≤ length front → handed_in catalogue id batches given (front ++ rest) n ≡ handed_in catalogue id batches given front n
   handed_of_front given front rest zero le = refl
   handed_of_front given front rest (suc n) le =
-      ap (λ (hs : List Handed). hs ++ handed_after (count_after given (suc n)) (turn_behind catalogue id batches (front ++ rest) n)) (handed_of_front given front rest n (omega (arith, le)))
+      ap (λ (hs : List Dispatch). hs ++ handed_after (count_after given (suc n)) (turn_after catalogue id batches (front ++ rest) n)) (handed_of_front given front rest n (omega (arith, le)))
       ∙ ap (λ (ds : List Datagram). handed_in catalogue id batches given front n ++ handed_after (count_after given (suc n)) ds) (turn_of_front front rest n le)
 
   -- one more turn hands over what it adds to the run
@@ -54,12 +54,12 @@ module _ (catalogue : Catalogue) (id : ℕ) (batches : List (List LogRecord)) wh
       let all = front ++ d ∷ [] in
       let n = length front in
       let last : take (suc n) all ≡ all = ap (λ m. take m all) (sym (one_longer front d)) ∙ take-length all in
-      let added : turn_behind catalogue id batches all n ≡ more =
+      let added : turn_after catalogue id batches all n ≡ more =
       ap (λ (ds : List Datagram). drop (length (node_run catalogue id batches ds).datagrams) (node_run catalogue id batches (take (suc n) all)).datagrams) (take-append_seam front (d ∷ []))
       ∙ ap (λ (ds : List Datagram). drop (length (node_run catalogue id batches front).datagrams) (node_run catalogue id batches ds).datagrams) last
       ∙ ap (drop (length (node_run catalogue id batches front).datagrams)) is ∙ drop-append_seam (node_run catalogue id batches front).datagrams more in
       subst (λ m. handed_in catalogue id batches given all m ≡ handed_in catalogue id batches given front n ++ handed_after (count_after given m) more) (sym (one_longer front d))
-      (ap (λ (hs : List Handed). hs ++ handed_after (count_after given (suc n)) (turn_behind catalogue id batches all n)) (handed_of_front given front (d ∷ []) n (omega arith))
+      (ap (λ (hs : List Dispatch). hs ++ handed_after (count_after given (suc n)) (turn_after catalogue id batches all n)) (handed_of_front given front (d ∷ []) n (omega arith))
       ∙ ap (λ (ds : List Datagram). handed_in catalogue id batches given front n ++ handed_after (count_after given (suc n)) ds) added)
 
   -- ---- the datagrams are those of the run
@@ -110,10 +110,10 @@ module _ (catalogue : Catalogue) (id : ℕ) (batches : List (List LogRecord)) wh
   handed_datagrams given arrived (suc n) =
       let next = next_grows arrived n in
       let before = (node_run catalogue id batches (take n arrived)).datagrams in
-      let added : turn_behind catalogue id batches arrived n ≡ next.0 = ap (drop (length before)) next.1 ∙ drop-append_seam before next.0 in
-      map-append (λ (h : Handed). h.datagram) (handed_in catalogue id batches given arrived n) (handed_after (count_after given (suc n)) (turn_behind catalogue id batches arrived n))
-      ∙ ap (λ (ds : List Datagram). ds ++ datagrams_in (handed_after (count_after given (suc n)) (turn_behind catalogue id batches arrived n))) (handed_datagrams given arrived n)
-      ∙ ap (λ (ds : List Datagram). before ++ ds) (all_datagrams (count_after given (suc n)) (turn_behind catalogue id batches arrived n) ∙ added)
+      let added : turn_after catalogue id batches arrived n ≡ next.0 = ap (drop (length before)) next.1 ∙ drop-append_seam before next.0 in
+      map-append (λ (h : Dispatch). h.datagram) (handed_in catalogue id batches given arrived n) (handed_after (count_after given (suc n)) (turn_after catalogue id batches arrived n))
+      ∙ ap (λ (ds : List Datagram). ds ++ datagrams_in (handed_after (count_after given (suc n)) (turn_after catalogue id batches arrived n))) (handed_datagrams given arrived n)
+      ∙ ap (λ (ds : List Datagram). before ++ ds) (all_datagrams (count_after given (suc n)) (turn_after catalogue id batches arrived n) ∙ added)
       ∙ sym next.1
 
 pub runs_are_handed_over : RunsAreHandedOver

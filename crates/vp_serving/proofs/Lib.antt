@@ -1,6 +1,6 @@
 mod Begun
 mod Ended
-mod Handed
+mod Dispatch
 mod Moments
 mod Prefixes
 mod Printed

@@ -14,5 +14,5 @@ pub prefix_take : {X : Type 0} (n : ℕ) (xs : List X) → n ≤ length xs → I
 prefix_take n xs le = ap (λ m. take m xs) (sym (length-take-le n xs le))
 
 -- both after the same list
-pub prefix_behind : {X : Type 0} (xs ys zs : List X) → IsPrefix ys zs → IsPrefix (xs ++ ys) (xs ++ zs)
-prefix_behind xs ys zs h = ap (λ l. xs ++ l) h ∙ sym (ap (λ m. take m (xs ++ zs)) (length-append xs ys) ∙ take-append-add xs zs (length ys))
+pub prefix_after : {X : Type 0} (xs ys zs : List X) → IsPrefix ys zs → IsPrefix (xs ++ ys) (xs ++ zs)
+prefix_after xs ys zs h = ap (λ l. xs ++ l) h ∙ sym (ap (λ m. take m (xs ++ zs)) (length-append xs ys) ∙ take-append-add xs zs (length ys))

@@ -10,7 +10,7 @@ use Rattle.vp_outside.specs.Causes.{count_after}
 use Rattle.vp_outside.specs.Disk.{Halves, DiskState, Becomes, Steps, Only, log_of}
 use Rattle.vp_outside.specs.Links.{Gave}
 use Rattle.vp_outside.specs.declared.datagram.Datagram.{Datagram}
-use Rattle.vp_outside.specs.declared.datagram.Handed.{Handed}
+use Rattle.vp_outside.specs.declared.datagram.Dispatch.{Dispatch}
 use Rattle.vp_stable.specs.Halves.{Standing, StandsAt, HaveBatches}
 use Rattle.vp_stable.specs.Moments.{LeavesOthers}
 use Rattle.vp_runs.specs.Keeping.{kept_with}
@@ -87,7 +87,7 @@ module _ (catalogue : Catalogue) (id : ℕ) (batches : List (List LogRecord)) (a
       by (Some log) stands keeps = (has stands, keeps.synced)
 
   -- all turns are in the log
-  pub safe_all : (given : ℕ) (handed : List Handed) → IsPrefix handed (handed_in catalogue id batches given arrived (length arrived)) → IsSafe catalogue id batches given arrived handed disk disk'
+  pub safe_all : (given : ℕ) (handed : List Dispatch) → IsPrefix handed (handed_in catalogue id batches given arrived (length arrived)) → IsSafe catalogue id batches given arrived handed disk disk'
   safe_all given handed front = record {
     sure = length arrived;
     few = omega arith;

@@ -11,7 +11,7 @@ use Rattle.vp_outside.specs.Disk.{DiskState, Becomes, Steps, log_of}
 use Rattle.vp_outside.specs.Links.{LinkState, Gave, Hands, HandsNow, StaysBound, GivesNone, Receives, received, handed_after}
 use Rattle.vp_outside.specs.Output.{SinkState, AppendsPrefix}
 use Rattle.vp_outside.specs.declared.datagram.Datagram.{Datagram}
-use Rattle.vp_outside.specs.declared.datagram.Handed.{Handed}
+use Rattle.vp_outside.specs.declared.datagram.Dispatch.{Dispatch}
 use Rattle.vp_stable.specs.Halves.{StandsAt}
 use Rattle.vp_stable.specs.Moments.{LeavesOnly, LeavesOthers}
 use Rattle.vp_stable.proofs.Times.{others_join}
@@ -27,7 +27,7 @@ use Rattle.vp_serving.specs.declared.end.End.TheVariants as ends
 use Rattle.vp_outside.proofs.Passed.{count_more, gave_more, hands_none, hands_then, one_longer}
 use Rattle.vp_serving.proofs.Handed.{prefix_handed, handed_of_front, handed_more}
 use Rattle.vp_serving.proofs.Moments.{turn_moments}
-use Rattle.vp_serving.proofs.Prefixes.{prefix_all, prefix_front, prefix_take, prefix_behind}
+use Rattle.vp_serving.proofs.Prefixes.{prefix_all, prefix_front, prefix_take, prefix_after}
 use Rattle.vp_serving.proofs.RunTurns.{site_after, batches_after, datagrams_after, stopped_after, recorded_after}
 use Rattle.vp_serving.proofs.Served.{SoFar, stands_on, safe_all, safe_torn}
 
@@ -75,7 +75,7 @@ module _ (catalogue : Catalogue) (id turns count : ℕ) (link0 link1 link2 link3
   datagrams_are : after.datagrams ≡ before.datagrams ++ turn.datagrams
   datagrams_are = datagrams_after catalogue id h.batches front d node h.site h.stopped_is
 
-  abbrev sent : List Handed
+  abbrev sent : List Dispatch
   sent = handed_in catalogue id h.batches link0.given front (length front)
 
   -- with the datagram that came, the turns before it hand over the same
@@ -151,7 +151,7 @@ module _ (catalogue : Catalogue) (id turns count : ℕ) (link0 link1 link2 link3
     told written handed written_of handed_of writes hands =
         let now = handed_after link2.given handed in
         let front_of_all : IsPrefix (sent ++ now) (handed_in catalogue id h.batches link0.given (front ++ d ∷ []) (length (front ++ d ∷ []))) =
-        subst (IsPrefix (sent ++ now)) (sym all_sent) (prefix_behind sent now (handed_after link2.given turn.datagrams) (prefix_handed link2.given handed turn.datagrams handed_of)) in
+        subst (IsPrefix (sent ++ now)) (sym all_sent) (prefix_after sent now (handed_after link2.given turn.datagrams) (prefix_handed link2.given handed turn.datagrams handed_of)) in
         record {
           course = course sink2;
           end = [];
@@ -162,7 +162,7 @@ module _ (catalogue : Catalogue) (id turns count : ℕ) (link0 link1 link2 link3
             writes = Appends-trans sink0.held sink1.held sink2.held (recorded before) written h.did.writes writes;
             hands = hands_then link0.handed link2.handed link3.handed sent now hands_before hands;
           };
-          written_of = subst (IsPrefix (recorded before ++ written)) (sym (append-nil (recorded after) ∙ recorded_is)) (prefix_behind (recorded before) written lines written_of);
+          written_of = subst (IsPrefix (recorded before ++ written)) (sym (append-nil (recorded after) ∙ recorded_is)) (prefix_after (recorded before) written lines written_of);
           handed_of = front_of_all;
           safe = safe_all catalogue id h.batches (front ++ d ∷ []) kept_now disk0 disk2 stands turned.kept (others_join h.others others) link0.given (sent ++ now) front_of_all;
         }
@@ -188,7 +188,7 @@ module _ (catalogue : Catalogue) (id turns count : ℕ) (link0 link1 link2 link3
     writes_before : Appends sink0.held sink2.held (recorded before)
     writes_before = rw still.1 h.did.writes
 
-    abbrev sent_before : List Handed
+    abbrev sent_before : List Dispatch
     sent_before = handed_in catalogue id h.batches link0.given (front ++ d ∷ []) (length front)
 
     all_before : Hands link0.handed link3.handed sent_before
@@ -217,7 +217,7 @@ module _ (catalogue : Catalogue) (id turns count : ℕ) (link0 link1 link2 link3
       handed = sent_before;
       did = record { writes = writes_before; hands = all_before };
       written_of = subst (IsPrefix (recorded before)) (sym (append-nil (recorded after) ∙ recorded_is)) (prefix_front (recorded before) lines);
-      handed_of = subst (λ (hs : List Handed). IsPrefix hs (handed_in catalogue id h.batches link0.given (front ++ d ∷ []) (length (front ++ d ∷ [])))) (sym same_sent)
+      handed_of = subst (λ (hs : List Dispatch). IsPrefix hs (handed_in catalogue id h.batches link0.given (front ++ d ∷ []) (length (front ++ d ∷ [])))) (sym same_sent)
           (subst (IsPrefix sent) (sym all_sent) (prefix_front sent (handed_after link2.given turn.datagrams)));
       safe = safe_before;
     }

@@ -10,7 +10,7 @@ use Rattle.vp_outside.specs.Disk.{Halves, DiskState, log_of, Steps, Only}
 use Rattle.vp_outside.specs.Links.{LinkState, Gave, Hands}
 use Rattle.vp_outside.specs.Output.{SinkState}
 use Rattle.vp_outside.specs.declared.datagram.Datagram.{Datagram}
-use Rattle.vp_outside.specs.declared.datagram.Handed.{Handed}
+use Rattle.vp_outside.specs.declared.datagram.Dispatch.{Dispatch}
 use Rattle.vp_stable.specs.Halves.{HaveBatches, AreBadLog, ReadAlike}
 use Rattle.vp_stable.specs.Moments.{LeavesOnly}
 use Rattle.vp_runs.specs.Keeping.{durable_in}
@@ -66,7 +66,7 @@ pub record Course (catalogue : Catalogue) (id turns : ℕ) (o : Outside) : Type 
   pub moments : KeepsAtAnyMoment catalogue id batches arrived o.disk o.disk'
 
 -- what the first of these turns hand over
-abbrev pub handed_by : {catalogue : Catalogue} {id turns : ℕ} {o : Outside} → Course catalogue id turns o → ℕ → List Handed
+abbrev pub handed_by : {catalogue : Catalogue} {id turns : ℕ} {o : Outside} → Course catalogue id turns o → ℕ → List Dispatch
 handed_by {catalogue = catalogue} {id = id} {o = o} course = handed_in catalogue id course.batches o.link.given course.arrived
 
 -- the run over all that came
@@ -80,7 +80,7 @@ abbrev pub IsPrefix : {X : Type 0} → List X → List X → Type 0
 IsPrefix front whole = front ≡ take (length front) whole
 
 -- In all, this was recorded and this was handed over.
-pub record Did (o : Outside) (written : List ℕ) (handed : List Handed) : Type 0 where
+pub record Did (o : Outside) (written : List ℕ) (handed : List Dispatch) : Type 0 where
   pub writes : Appends o.sink.held o.sink'.held written
   pub hands : Hands o.link.handed o.link'.handed handed
 
@@ -89,7 +89,7 @@ abbrev pub IsKeptAs : NodeRun → DiskState → DiskState → Type 0
 IsKeptAs run disk disk' = disk.honest → IfSome (disk'.logs disk.asked) (λ log. HaveBatches run.node.batches log × Only log (disk'.may_leave disk.asked))
 
 -- Each datagram that was handed over belongs to a turn that every crash leaves in the log.
-pub record IsSafe (catalogue : Catalogue) (id : ℕ) (batches : List (List LogRecord)) (given : ℕ) (arrived : List Datagram) (handed : List Handed) (disk disk' : DiskState) : Type 0 where
+pub record IsSafe (catalogue : Catalogue) (id : ℕ) (batches : List (List LogRecord)) (given : ℕ) (arrived : List Datagram) (handed : List Dispatch) (disk disk' : DiskState) : Type 0 where
   pub sure : ℕ
   pub few : sure ≤ length arrived
   pub handed_of : IsPrefix handed (handed_in catalogue id batches given arrived sure)
@@ -169,7 +169,7 @@ module _ (catalogue : Catalogue) (id turns : ℕ) (o : Outside) where
     pub end : List ℕ
     pub end_is : MayEnd course end
     pub written : List ℕ
-    pub handed : List Handed
+    pub handed : List Dispatch
     pub did : Did o written handed
     pub written_of : IsPrefix written (recorded (run_of course) ++ end)
     pub handed_of : IsPrefix handed (handed_by course (length course.arrived))

@@ -10,7 +10,7 @@ use crate::stepped::Stepped;
 use crate::views::invite;
 use vp_base::{Effects, Message, NoMemory, View, ViewId};
 use vp_catalog::Catalog;
-use vp_refresh::Asked;
+use vp_refresh::RefreshEntry;
 
 /// Ends the invitation: the sites that have accepted are the members of the view, which this site then holds.
 #[tactic(auto, unfolding(vp_model::specs::Step::fix_view, vp_model::specs::Step::fix, vp_model::specs::Views::hold))]
@@ -110,7 +110,7 @@ fn ask_again(
     site: &SiteState,
     catalog: &Catalog,
     view: ViewId,
-    asked: &Asked,
+    asked: &RefreshEntry,
     effects: &mut Effects,
 ) -> Result<(), NoMemory>
     ensures { OnOk result (in_step site.now effects.new ≡ ask_again catalog.now view asked.now (in_step site.now effects.old)) }

@@ -18,7 +18,7 @@ fn next(rt: &impl Abort, world: World, event: Event) -> (World, Line) {
 }
 
 /// The world after the event.
-fn behind(rt: &impl Abort, world: World, event: Event) -> World {
+fn following(rt: &impl Abort, world: World, event: Event) -> World {
     let (world, _) = next(rt, world, event);
     world
 }
@@ -32,7 +32,7 @@ fn line_of(rt: &impl Abort, world: World, event: Event) -> Line {
 #[test]
 fn a_site_starts_in_its_second_life(rt: HostRuntime) {
     let site = SiteId::of(2);
-    let down = behind(&rt, new_world(&rt, rt.alloc()), Event::Crash { site });
+    let down = following(&rt, new_world(&rt, rt.alloc()), Event::Crash { site });
     let line = line_of(&rt, down, Event::Restart { site });
     assert!(rt; matches!(line.shown, Shown::Life { life: 2 }));
 }
@@ -45,8 +45,8 @@ fn a_cut_pair_waits(rt: HostRuntime) {
         site: b,
         call: Call::Regroup,
     };
-    let inviting = behind(&rt, new_world(&rt, rt.alloc()), invite);
-    let parted = behind(&rt, inviting, Event::Cut { a, b });
+    let inviting = following(&rt, new_world(&rt, rt.alloc()), invite);
+    let parted = following(&rt, inviting, Event::Cut { a, b });
     let line = line_of(&rt, parted, Event::Deliver { k: 1 });
     assert!(rt; matches!(line.shown, Shown::Parted { .. }));
 }

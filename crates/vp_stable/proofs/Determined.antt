@@ -12,8 +12,8 @@ pub head : (x y : ℕ) (xs ys : List ℕ) → x ∷ xs ≡ y ∷ ys → x ≡ y
 head x y xs ys e = ap (λ (l : List ℕ). get_or l 0 0) e
 
 -- and so is what follows them
-behind : (x y : List LogRecord) (a b : List (List LogRecord)) (r s : List ℕ) → opened (x ∷ a) ++ r ≡ opened (y ∷ b) ++ s → measured x ++ (opened a ++ r) ≡ measured y ++ (opened b ++ s)
-behind x y a b r s e = sym (append_assoc (measured x) (opened a) r) ∙ ap (λ (l : List ℕ). drop 1 l) e ∙ append_assoc (measured y) (opened b) s
+following : (x y : List LogRecord) (a b : List (List LogRecord)) (r s : List ℕ) → opened (x ∷ a) ++ r ≡ opened (y ∷ b) ++ s → measured x ++ (opened a ++ r) ≡ measured y ++ (opened b ++ s)
+following x y a b r s e = sym (append_assoc (measured x) (opened a) r) ∙ ap (λ (l : List ℕ). drop 1 l) e ∙ append_assoc (measured y) (opened b) s
 
 -- at most 1 byte holds no batch
 pub none_in : (bs : List (List LogRecord)) (bytes : List ℕ) → length bytes ≤ 1 → HasBatches bs bytes → bs ≡ []
@@ -50,7 +50,7 @@ clash [] [] gate r s a_can b_can closed none e = closed (head gate 1 r s e)
 clash [] (y ∷ b) gate r s a_can b_can closed none e = closed (head gate 1 r (measured y ++ opened b ++ 1 ∷ s) e)
 clash (x ∷ a) [] gate r s a_can b_can closed none e = goes_on x a gate r s a_can.0 none e
 clash (x ∷ a) (y ∷ b) gate r s a_can b_can closed none e =
-    clash a b gate r s a_can.1 b_can.1 closed none (measured_same x y (opened a ++ gate ∷ r) (opened b ++ 1 ∷ s) a_can.0 b_can.0 (behind x y a b (gate ∷ r) (1 ∷ s) e)).1
+    clash a b gate r s a_can.1 b_can.1 closed none (measured_same x y (opened a ++ gate ∷ r) (opened b ++ 1 ∷ s) a_can.0 b_can.0 (following x y a b (gate ∷ r) (1 ∷ s) e)).1
 
 pub bad_logs_have_no_batches : BadLogsHaveNoBatches
 bad_logs_have_no_batches place bs bytes bad (inl none) = absurd (omega (arith, bad.some, none.0))
@@ -62,7 +62,7 @@ places [] [] r s a_can b_can a_none b_none e = refl
 places [] (y ∷ b) r s a_can b_can a_none b_none e = absurd (goes_on y b 1 s r b_can.0 a_none (sym e))
 places (x ∷ a) [] r s a_can b_can a_none b_none e = absurd (goes_on x a 1 r s a_can.0 b_none e)
 places (x ∷ a) (y ∷ b) r s a_can b_can a_none b_none e =
-    let same = measured_same x y (opened a ++ 1 ∷ r) (opened b ++ 1 ∷ s) a_can.0 b_can.0 (behind x y a b (1 ∷ r) (1 ∷ s) e) in
+    let same = measured_same x y (opened a ++ 1 ∷ r) (opened b ++ 1 ∷ s) a_can.0 b_can.0 (following x y a b (1 ∷ r) (1 ∷ s) e) in
     let more = places a b r s a_can.1 b_can.1 a_none b_none same.1 in
     omega (arith, more, ap length same.0, length-measured x, length-measured y, length-append (measured x) (opened a), length-append (measured y) (opened b))
 
@@ -77,7 +77,7 @@ module _ (one : (x y : List LogRecord) (bytes : List ℕ) → IsBatchBytes x byt
   same_batches [] (y ∷ b) g h r s a_can b_can g_closed h_closed e = absurd (g_closed (head g 1 r (measured y ++ opened b ++ h ∷ s) e))
   same_batches (x ∷ a) [] g h r s a_can b_can g_closed h_closed e = absurd (h_closed (head h 1 s (measured x ++ opened a ++ g ∷ r) (sym e)))
   same_batches (x ∷ a) (y ∷ b) g h r s a_can b_can g_closed h_closed e =
-      let same = measured_same x y (opened a ++ g ∷ r) (opened b ++ h ∷ s) a_can.0 b_can.0 (behind x y a b (g ∷ r) (h ∷ s) e) in
+      let same = measured_same x y (opened a ++ g ∷ r) (opened b ++ h ∷ s) a_can.0 b_can.0 (following x y a b (g ∷ r) (h ∷ s) e) in
       let first : x ≡ y = one x y (batch_bytes x) (record { is = refl; allowed = a_can.0.records }) (record { is = same.0; allowed = b_can.0.records }) in
       let rest : a ≡ b = same_batches a b g h r s a_can.1 b_can.1 g_closed h_closed same.1 in
       λ i. first i ∷ rest i

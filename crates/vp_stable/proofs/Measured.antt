@@ -67,13 +67,13 @@ made_first batch next bytes least within small number records allowed =
     let rest : drop next bytes ≡ get_or bytes next 0 ∷ drop (next + 1) bytes = drop_more bytes next 0 within in
     let on : next ≡ 8 + (next - 8) = omega (arith, least) in
     let back : drop (next - 8) (drop 8 bytes) ≡ get_or bytes next 0 ∷ drop (next + 1) bytes = drop-drop (next - 8) 8 bytes ∙ ap (λ (k : ℕ). drop k bytes) (sym on) ∙ rest in
-    let behind : drop 8 bytes ≡ batch_bytes batch ++ get_or bytes next 0 ∷ drop (next + 1) bytes =
+    let following : drop 8 bytes ≡ batch_bytes batch ++ get_or bytes next 0 ∷ drop (next + 1) bytes =
     sym (take-append-drop (next - 8) (drop 8 bytes)) ∙ ap (λ (l : List ℕ). l ++ drop (next - 8) (drop 8 bytes)) records ∙ ap (λ (l : List ℕ). batch_bytes batch ++ l) back in
     record {
       gate = get_or bytes next 0;
       rest = drop (next + 1) bytes;
       is = sym (take-append-drop 8 bytes) ∙ ap (λ (l : List ℕ). l ++ drop 8 bytes) (number ∙ ap (λ (n : ℕ). big_bytes 8 n) (sym size))
-          ∙ ap (λ (l : List ℕ). big_bytes 8 (length (batch_bytes batch)) ++ l) behind
+          ∙ ap (λ (l : List ℕ). big_bytes 8 (length (batch_bytes batch)) ++ l) following
           ∙ sym (append_assoc (big_bytes 8 (length (batch_bytes batch))) (batch_bytes batch) (get_or bytes next 0 ∷ drop (next + 1) bytes));
       at = on ∙ ap (λ (n : ℕ). 8 + n) (sym size) ∙ sym (length-measured batch);
       can = record { records = allowed; fits = omega (arith, size, small) };

@@ -56,6 +56,6 @@ module _ (front back : List ℕ) (gate place : ℕ) (at : place ≡ length front
 
 -- what is before a place and what is after it make up the list
 pub around : (xs front back : List ℕ) (place : ℕ) → take place xs ≡ front → drop (place + 1) xs ≡ back → place < length xs → xs ≡ front ++ get_or xs place 0 ∷ back
-around xs front back place before behind within =
+around xs front back place before following within =
     sym (take-append-drop place xs) ∙ ap (λ (l : List ℕ). l ++ drop place xs) before
-    ∙ ap (λ (l : List ℕ). front ++ l) (drop_more xs place 0 within ∙ ap (λ (l : List ℕ). get_or xs place 0 ∷ l) behind)
+    ∙ ap (λ (l : List ℕ). front ++ l) (drop_more xs place 0 within ∙ ap (λ (l : List ℕ). get_or xs place 0 ∷ l) following)

@@ -32,10 +32,10 @@ module _ (batches : List (List LogRecord)) (at : ℕ) (bytes : List ℕ) (read :
   -- a batch follows it
   pub one_more : (batch : List LogRecord) (next : ℕ) → StandsFirst batch next (take (length bytes - (at + 1)) (drop (at + 1) bytes)) → IsRead (batches ++ batch ∷ []) (at + (1 + next)) bytes
   one_more batch next stands =
-      let behind : drop (at + 1) bytes ≡ measured batch ++ stands.gate ∷ stands.rest = sym (take_rest bytes (at + 1)) ∙ stands.is in
+      let following : drop (at + 1) bytes ≡ measured batch ++ stands.gate ∷ stands.rest = sym (take_rest bytes (at + 1)) ∙ stands.is in
       let front = opened (batches ++ batch ∷ []) in
       let back = stands.gate ∷ stands.rest in
-      let whole : bytes ≡ front ++ back = from_gate ∙ ap (λ (l : List ℕ). opened batches ++ 1 ∷ l) behind ∙ sym (opened-push batches batch back) in
+      let whole : bytes ≡ front ++ back = from_gate ∙ ap (λ (l : List ℕ). opened batches ++ 1 ∷ l) following ∙ sym (opened-push batches batch back) in
       let place : at + (1 + next) ≡ length front = omega (arith, read.place, stands.at, length-opened-push batches batch) in
       record {
         within = omega (arith, place, ap length whole, length-append front back);

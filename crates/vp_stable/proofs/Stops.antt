@@ -7,7 +7,7 @@ use Rattle.vp_outside.specs.declared.sink.OutFault.{OutFault}
 use Rattle.vp_outside.specs.declared.sink.OutFault.TheVariants.{Failed, NoMemory}
 use Rattle.vp_outside.proofs.Halves.{InHalf-refl}
 use Rattle.vp_stable.specs.Stops.{WritesToStop, AppendsToStop, StaysPut, PutsWhere}
-use Rattle.vp_stable.proofs.Tears.{torn_behind, torn_written}
+use Rattle.vp_stable.proofs.Tears.{torn_after, torn_written}
 use Rattle.vp_stable.proofs.Writes.{in_half_as, in_half_then, becomes-as, becomes-same, becomes-then, both_written}
 
 pub appends_as : (S T : Bool → Halves → Halves → Type 0) (calls : ℕ) (old new : DiskState) → ((kept : Bool) (a b : Halves) → S kept a b → T kept a b) → AppendsToStop S calls old new → AppendsToStop T calls old new
@@ -32,7 +32,7 @@ module _ (half : ℕ) (piece : List ℕ) (gate : ℕ) where
 
   -- what follows the closed gate is not part of the log
   first_stays : (a b : List ℕ) → Written (gate + 1) piece a b → StaysPut piece gate a b
-  first_stays a b written batch batches is log = torn_behind gate batches a log (length piece) b (torn_written (gate + 1) piece a b written)
+  first_stays a b written batch batches is log = torn_after gate batches a log (length piece) b (torn_written (gate + 1) piece a b written)
 
   none_stays : (told : Option Halves) → Becomes (where_kept false) told told
   none_stays told = becomes-same (where_kept false) told (λ log. InHalf-refl half (StaysPut piece gate) log (λ a batch batches is log. log))

@@ -76,8 +76,8 @@ module _ (place : ℕ) (batches : List (List LogRecord)) (old : List ℕ) (log :
   log_front = ap (λ (l : List ℕ). take (place + 1) l) log.is ∙ take_through (opened batches) log.rest log.gate place log.at
 
   -- what follows the closed gate is not part of the log
-  pub torn_behind : (n : ℕ) (new : List ℕ) → Torn (place + 1) n old new → IsLog place batches new
-  torn_behind n new torn =
+  pub torn_after : (n : ℕ) (new : List ℕ) → Torn (place + 1) n old new → IsLog place batches new
+  torn_after n new torn =
       let within : place + 1 ≡ min (place + 1) (length old) = omega (arith, log_size) in
       let front : take (place + 1) new ≡ opened batches ++ log.gate ∷ [] = ap (λ (k : ℕ). take k new) within ∙ torn.before ∙ log_front in
       record {
@@ -89,8 +89,8 @@ module _ (place : ℕ) (batches : List (List LogRecord)) (old : List ℕ) (log :
         can = log.can;
       }
 
-  pub written_behind : (batch : List LogRecord) (new : List ℕ) → Written (place + 1) (measured batch ++ 0 ∷ []) old new → IsStaged batch place batches new
-  written_behind batch new written =
+  pub written_after : (batch : List LogRecord) (new : List ℕ) → Written (place + 1) (measured batch ++ 0 ∷ []) old new → IsStaged batch place batches new
+  written_after batch new written =
       let piece = measured batch ++ 0 ∷ [] in
       let zeros : List ℕ = replicate (place + 1 - length old) 0 in
       let more = drop (place + 1 + length piece) old in

@@ -7,7 +7,7 @@ use Rattle.vp_outside.specs.Disk.{Halves, InHalf, Written, Torn, CutTo, MaybeCut
 use Rattle.vp_stable.specs.Log.{IsLog}
 use Rattle.vp_stable.specs.Moments.{After}
 use Rattle.vp_stable.specs.Writing.{MayClear, Clears, Puts, MayPut, IsSynced, Tears}
-use Rattle.vp_stable.proofs.Tears.{torn_empty, written_empty, torn_behind, written_behind, torn_gate, written_gate}
+use Rattle.vp_stable.proofs.Tears.{torn_empty, written_empty, torn_after, written_after, torn_gate, written_gate}
 use Rattle.vp_stable.proofs.Times.{elapses_as, elapses_then}
 
 pub on_err : {T E P : Type 0} (result : Result T E) → P → OnErr result P
@@ -101,15 +101,15 @@ cut_clears a b c cut written = written_empty b c written
 module _ (piece : List ℕ) (gate : ℕ) where
   -- after the first write, whether it is done or not
   pub first_torn : (n : ℕ) (a b : List ℕ) → Torn (gate + 1) n a b → MayPut piece gate a b
-  first_torn n a b torn batch batches is log = inl (torn_behind gate batches a log n b torn)
+  first_torn n a b torn batch batches is log = inl (torn_after gate batches a log n b torn)
 
   -- after the second write, whether it is done or not
   pub second_torn : (a b c : List ℕ) → Written (gate + 1) piece a b → Torn gate 1 b c → MayPut piece gate a c
   second_torn a b c written torn batch batches is log =
-      let staged = written_behind gate batches a log batch b (subst (λ (p : List ℕ). Written (gate + 1) p a b) is.is written) in
+      let staged = written_after gate batches a log batch b (subst (λ (p : List ℕ). Written (gate + 1) p a b) is.is written) in
       subst (λ (p : List ℕ). IsLog gate batches c ⊎ IsLog (gate + length p) (batches ++ batch ∷ []) c) (sym is.is) (torn_gate batch is.can gate batches b staged c torn)
 
   pub both_written : (a b c : List ℕ) → Written (gate + 1) piece a b → Written gate (1 ∷ []) b c → Puts piece gate a c
   both_written a b c written opens batch batches is log =
-      let staged = written_behind gate batches a log batch b (subst (λ (p : List ℕ). Written (gate + 1) p a b) is.is written) in
+      let staged = written_after gate batches a log batch b (subst (λ (p : List ℕ). Written (gate + 1) p a b) is.is written) in
       subst (λ (p : List ℕ). IsLog (gate + length p) (batches ++ batch ∷ []) c) (sym is.is) (written_gate batch is.can gate batches b staged c opens)

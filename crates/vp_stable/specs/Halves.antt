@@ -181,8 +181,8 @@ abbrev pub DueIsOfTheBatches : Type 0
 DueIsOfTheBatches = (at : Standing) (batches : List (List LogRecord)) (log : Halves) → StandsAt at batches log → is_due at ≡ due batches
 
 -- right after a checkpoint none is due
-abbrev pub NoneIsDueBehindOne : Type 0
-NoneIsDueBehindOne = (batch : List LogRecord) → due (batch ∷ []) ≡ false
+abbrev pub NoneIsDueAfterOne : Type 0
+NoneIsDueAfterOne = (batch : List LogRecord) → due (batch ∷ []) ≡ false
 
 -- halves hold only one list of batches, or are not a log because of only one gate
 abbrev pub HalvesAreOneLog : Type 0

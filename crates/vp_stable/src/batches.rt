@@ -23,7 +23,7 @@ const LENGTH_BYTES: usize = 8;
 pub const OPEN: u8 = 1;
 
 /// Makes what follows a gate that is to be opened: the length of the batch, the batch, and the next gate, which is closed.
-pub fn behind_gate(alloc: Global, batch: &Batch) -> Result<Vec<u8>, NoMemory>
+pub fn after_gate(alloc: Global, batch: &Batch) -> Result<Vec<u8>, NoMemory>
     requires { IsBatch batch.now }
     ensures bytes { IfOk result (λ piece. piece.items ≡ measured batch.now ++ 0 ∷ []) }
     ensures can { IfOk result (λ _. CanStand batch.now) }
@@ -96,10 +96,10 @@ pub fn generation_in(batch: &Batch) -> u64
 pub fn generation(alloc: Global, bytes: &[u8]) -> Result<u64, NoMemory>
     ensures { IfOk result (λ generation. HasGeneration generation bytes.now) }
 {
-    let [OPEN, behind @ ..] = bytes else {
+    let [OPEN, following @ ..] = bytes else {
         return Ok(0);
     };
-    match first_batch(alloc, behind)? {
+    match first_batch(alloc, following)? {
         Some((batch, _)) => Ok(generation_in(&batch)),
         None => Ok(0),
     }

@@ -1,7 +1,7 @@
 //! Laws of logs as bytes: functions that do nothing, whose contracts are the laws.
 
 ghost use Rattle.vp_stable.specs.Laws.{BatchesAreOne, PlacesAreOne, BadLogsHaveNoBatches, BadPlacesAreOne};
-ghost use Rattle.vp_stable.specs.Halves.{DueIsOfTheBatches, NoneIsDueBehindOne, HalvesAreOneLog, BadHalvesHaveNoBatches};
+ghost use Rattle.vp_stable.specs.Halves.{DueIsOfTheBatches, NoneIsDueAfterOne, HalvesAreOneLog, BadHalvesHaveNoBatches};
 
 use vp_records::spellings_are_of_one_batch;
 
@@ -28,5 +28,5 @@ pub fn halves_are_one_log()
 /// Whether a checkpoint is due for a log depends only on its batches, and none is due right after a checkpoint.
 pub fn a_checkpoint_is_due_of_batches()
     ensures batches { DueIsOfTheBatches }
-    ensures behind { NoneIsDueBehindOne }
+    ensures following { NoneIsDueAfterOne }
 {}

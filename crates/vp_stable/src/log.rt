@@ -10,7 +10,7 @@ ghost use Rattle.vp_stable.specs.Moments.{LeavesOnly, LeavesOthers, Quiet};
 ghost use Rattle.vp_stable.specs.Stops.{AppendsToStop, GainsWhere};
 ghost use Rattle.vp_stable.specs.Faults.{HasLogCause, HasAppendCause};
 
-use crate::batches::{behind_gate, checkpoint_batch, generation_in, read_batches};
+use crate::batches::{after_gate, checkpoint_batch, generation_in, read_batches};
 use crate::fault::{AppendFault, LogFault};
 use crate::half::{read_current, write_synced};
 use crate::writing::{clear, put};
@@ -135,7 +135,7 @@ impl Log {
         ensures others { LeavesOthers (D.state disk.old) (D.state disk.new) }
         ensures cause { HasAppendCause (D.state disk.old).faults (D.state disk.new).faults result }
     {
-        let piece = behind_gate(self.alloc, batch)?;
+        let piece = after_gate(self.alloc, batch)?;
         put(disk, self.half, self.gate, &piece)?;
         if self.second == 0 {
             self.generation = generation_in(batch);
@@ -184,7 +184,7 @@ impl Log {
             return Ok(());
         };
         let batch = checkpoint_batch(self.alloc, generation, durable)?;
-        let piece = behind_gate(self.alloc, &batch)?;
+        let piece = after_gate(self.alloc, &batch)?;
         let half = 1 - self.half;
         clear(disk, half)?;
         put(disk, half, 0, &piece)?;

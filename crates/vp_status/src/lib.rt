@@ -5,4 +5,4 @@ mod refusal;
 mod status;
 
 pub use refusal::{print_bad_line, print_limit, print_twice};
-pub use status::{Defined, Status};
+pub use status::{RunOutput, Status};

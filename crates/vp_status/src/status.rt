@@ -53,29 +53,29 @@ impl Status {
 
 /// What is defined for a run: its status, and all that it prints.
 #[derive(Drop)]
-pub struct Defined {
+pub struct RunOutput {
     pub status: Status,
     pub text: Vec<u8>,
 }
 
-impl Defined {
+impl RunOutput {
     /// Makes this status, with a copy of this text.
-    pub fn new(alloc: Global, status: Status, text: &[u8]) -> Result<Defined, NoMemory>
+    pub fn new(alloc: Global, status: Status, text: &[u8]) -> Result<RunOutput, NoMemory>
         ensures status { IfOk result (λ it. it.status ≡ status) }
         ensures text { IfOk result (λ it. it.text.items ≡ text.now) }
     {
-        Ok(Defined {
+        Ok(RunOutput {
             status,
             text: Vec::from_slice(alloc, text)?,
         })
     }
 
     /// Makes the status and the line of a link that failed.
-    pub fn link_fault(alloc: Global) -> Result<Defined, NoMemory>
+    pub fn link_fault(alloc: Global) -> Result<RunOutput, NoMemory>
         ensures status { IfOk result (λ it. it.status ≡ LinkFailed) }
         ensures text { IfOk result (λ it. it.text.items ≡ link_fault_text) }
     {
-        Defined::new(alloc, Status::LinkFault, b"link fault\n")
+        RunOutput::new(alloc, Status::LinkFault, b"link fault\n")
     }
 
     /// Prints the text, and returns its status, or that of the fault that cut it short.

@@ -142,10 +142,10 @@ module _ (s : Schedule) (is : IsSchedule s) (j : ℕ) (steps : Steps) (nodes : N
         (nodes_are_ready s is.catalogue_is formed h.begun h.begins h.ms grows.0 m nodes moments_are h.nodes_are)
 
     -- it is done
-    pub comes_on : (after : Steps) (now : NodesValue) (behind : List Event)
+    pub comes_on : (after : Steps) (now : NodesValue) (following : List Event)
         → HaveDone steps.world.catalogue (steps.done ++ e ∷ []) (next steps.world.catalogue e steps.world.world).world after → exceeded world_limits (next steps.world.catalogue e steps.world.world).world ≡ None
-        → DoesEvent Does steps.world.catalogue e steps.world.world nodes now → behind ≡ left_then steps.world.world left → Comes s (j + 1) after now behind
-    comes_on after now behind done none does left_is =
+        → DoesEvent Does steps.world.catalogue e steps.world.world nodes now → following ≡ left_then steps.world.world left → Comes s (j + 1) after now following
+    comes_on after now following done none does left_is =
         let k = known in
         let none_here : exceeded world_limits v ≡ None = subst (λ (k : Known). exceeded world_limits (next k.catalogue e k.world).world ≡ None) k none in
         record {
@@ -189,7 +189,7 @@ module _ (s : Schedule) (is : IsSchedule s) (j : ℕ) (steps : Steps) (nodes : N
         let longer : length (h.ms ++ m ∷ []) ≡ j + 1 = length-append h.ms (m ∷ []) ∙ ap (λ n. n + 1) h.length_is in
         let up_to : take step (moments_of s) ≡ h.ms ++ m ∷ [] = ap (take step) grows.1 ∙ front_of (h.ms ++ m ∷ []) grows.0 step (step_is ∙ sym longer) in
         let at_it : moment_of step (moments_of s) ≡ Some m = ap (λ b. cond b None (slice_get (moments_of s) (step - 1))) some ∙ ap (λ ms. slice_get ms (step - 1)) grows.1 ∙ within h.ms m grows.0 (step - 1) less in
-        let behind : left_then steps.world.world left ≡ left_then h.w left = ap (λ (k : Known). left_then k.world left) known in
+        let following : left_then steps.world.world left ≡ left_then h.w left = ap (λ (k : Known). left_then k.world left) known in
         let tied_here = front_tied s is.catalogue_is formed h.ms (m ∷ grows.0) moments_are h.w h.begun nodes h.begins h.came.along h.nodes_are in
         let folds_here = front_folds s is.catalogue_is formed h.ms (m ∷ grows.0) moments_are h.w h.begun nodes h.begins h.came.along h.nodes_are in
         record {
@@ -198,7 +198,7 @@ module _ (s : Schedule) (is : IsSchedule s) (j : ℕ) (steps : Steps) (nodes : N
             is = at_it;
             event_is = refl;
             done = subst (HaveDone s.catalogue (singles (take (step - 1) (moments_of s))) h.w) (sym steps_are) (subst (λ ms. HaveDone s.catalogue (singles ms) h.w steps) (sym front_is) h.done);
-            left_is = left_is ∙ behind ∙ it.left_is ∙ ap (λ ms. follow s.events ms m) (sym up_to);
+            left_is = left_is ∙ following ∙ it.left_is ∙ ap (λ ms. follow s.events ms m) (sym up_to);
             none = ap (limit_in world_limits) front_is ∙ h.none;
           };
           formed = comes_formed;

@@ -169,11 +169,11 @@ module _ (s : Schedule) (is : IsSchedule s) (step : ℕ) (front : Front) (e : Ev
   can_rise sites (event.Crash site) r = tt
   can_rise sites (event.Restart site) r = tt
 
-  behind_rise : (sites : List ℕ) (n : ℕ) (events : List Event) → AllByRecursion (IsReadable sites) events → AllByRecursion CanRise (drop n events)
-  behind_rise sites zero [] all = tt
-  behind_rise sites zero (e ∷ events) all = (can_rise sites e all.0, behind_rise sites zero events all.1)
-  behind_rise sites (suc n) [] all = tt
-  behind_rise sites (suc n) (e ∷ events) all = behind_rise sites n events all.1
+  after_rise : (sites : List ℕ) (n : ℕ) (events : List Event) → AllByRecursion (IsReadable sites) events → AllByRecursion CanRise (drop n events)
+  after_rise sites zero [] all = tt
+  after_rise sites zero (e ∷ events) all = (can_rise sites e all.0, after_rise sites zero events all.1)
+  after_rise sites (suc n) [] all = tt
+  after_rise sites (suc n) (e ∷ events) all = after_rise sites n events all.1
 
   line_rise : (done : ℕ) (o : Option Event) → AllByRecursion CanRise (option_map_or (left_of_line done) o [])
   line_rise done None = tt
@@ -190,7 +190,7 @@ module _ (s : Schedule) (is : IsSchedule s) (step : ℕ) (front : Front) (e : Ev
   pub all_rise : AllByRecursion CanRise front.left
   all_rise =
       subst (λ (left : List Event). AllByRecursion CanRise left) (sym h.before.left_is)
-      (all_append CanRise (option_map_or (left_of_line _) (slice_get s.events (m.number - 1)) []) (drop m.number s.events) (line_rise _ (slice_get s.events (m.number - 1))) (behind_rise (sites_of s.catalogue) m.number s.events is.events_are))
+      (all_append CanRise (option_map_or (left_of_line _) (slice_get s.events (m.number - 1)) []) (drop m.number s.events) (line_rise _ (slice_get s.events (m.number - 1))) (after_rise (sites_of s.catalogue) m.number s.events is.events_are))
 
 -- the site that stopped in the step does it, if the run has come there once more
 pub taker_again : (s : Schedule) (is : IsSchedule s) (step : ℕ) (front : Front) (e : Event) (h : IsBefore s step front e) (again : Front) (f : Event) (g : IsBefore s step again f) (site : ℕ)

@@ -110,7 +110,7 @@ module _ (s : Schedule) (ms : List Moment) (w : WorldState) (left : List Event) 
       let m = moment n w e (next s.catalogue e w) in
       let lines : drop i s.events ≡ f.line ∷ f.rest = sym (drop-drop f.skipped h.index s.events) ∙ f.lines_are in
       let here = at_dropped i s.events f.line f.rest lines in
-      let behind : drop n s.events ≡ f.rest = ap (λ k. drop k s.events) (one_on i) ∙ here.1 in
+      let following : drop n s.events ≡ f.rest = ap (λ k. drop k s.events) (one_on i) ∙ here.1 in
       let goes = subst (λ n. ends s.catalogue (h.index + 1) h.done (drop h.index s.events) run ≡ ends s.catalogue n (suc f.steps) (f.line ∷ f.rest) (one_step s.catalogue n e run)) n_is f.goes in
       let steps_are : f.steps ≡ count n ms = before f.skipped f.steps f.steps_are in
       let counted : suc f.steps ≡ count n (ms ++ m ∷ []) = ap suc steps_are ∙ sym (one_counted n ms m refl) in
@@ -131,7 +131,7 @@ module _ (s : Schedule) (ms : List Moment) (w : WorldState) (left : List Event) 
             ∙ ap (λ d. left_of_line d f.line ++ f.rest) counted
             ∙ ap (λ o. option_map_or (left_of_line (count n (ms ++ m ∷ []))) o [] ++ f.rest) (sym (here.0))
             ∙ ap (λ j. option_map_or (left_of_line (count n (ms ++ m ∷ []))) (slice_get s.events j) [] ++ f.rest) (less i)
-            ∙ ap (λ rest. option_map_or (left_of_line (count n (ms ++ m ∷ []))) (slice_get s.events (n - 1)) [] ++ rest) (sym behind);
+            ∙ ap (λ rest. option_map_or (left_of_line (count n (ms ++ m ∷ []))) (slice_get s.events (n - 1)) [] ++ rest) (sym following);
         single = f.single;
       }
     where

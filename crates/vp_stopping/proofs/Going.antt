@@ -75,9 +75,9 @@ module _ (catalogue : Catalogue) (whole : Run) (before : List Event) (steps : St
         limit_append h.ms (m ∷ []) ∙ ap (λ o. option_or o (limit_in world_limits (m ∷ []))) h.none ∙ limit_one m
         ∙ sym (ap (λ (k : Known). exceeded world_limits (next k.catalogue e k.world).world) known)
 
-    pub going_on : (after : Steps) (behind : List Event) → HaveDone steps.world.catalogue (steps.done ++ e ∷ []) (next steps.world.catalogue e steps.world.world).world after
-        → exceeded world_limits (next steps.world.catalogue e steps.world.world).world ≡ None → behind ≡ left_then steps.world.world left → Going catalogue whole before after behind
-    going_on after behind done none left_is = record {
+    pub going_on : (after : Steps) (following : List Event) → HaveDone steps.world.catalogue (steps.done ++ e ∷ []) (next steps.world.catalogue e steps.world.world).world after
+        → exceeded world_limits (next steps.world.catalogue e steps.world.world).world ≡ None → following ≡ left_then steps.world.world left → Going catalogue whole before after following
+    going_on after following done none left_is = record {
       ms = h.ms ++ m ∷ [];
       w = v;
       done = (
@@ -140,9 +140,9 @@ stop_grows steps stop site e kept done takes did =
     omega (arith, grows, same)
 
 -- what is left keeps its messages
-pub raised_so : (steps stop : Steps) (left behind : List Event) (before now : ℕ) → before ≡ length steps.world.world.sent → now ≡ length stop.world.world.sent → behind ≡ map (raised (before + 1) (now - before)) left
-    → behind ≡ map (raised (length steps.world.world.sent + 1) (length stop.world.world.sent - length steps.world.world.sent)) left
-raised_so steps stop left behind before now first last is =
+pub raised_so : (steps stop : Steps) (left following : List Event) (before now : ℕ) → before ≡ length steps.world.world.sent → now ≡ length stop.world.world.sent → following ≡ map (raised (before + 1) (now - before)) left
+    → following ≡ map (raised (length steps.world.world.sent + 1) (length stop.world.world.sent - length steps.world.world.sent)) left
+raised_so steps stop left following before now first last is =
     is ∙ ap (λ n. map (raised (n + 1) (now - n)) left) first ∙ ap (λ n. map (raised (length steps.world.world.sent + 1) (n - length steps.world.world.sent)) left) last
 
 -- ---- the whole
@@ -199,8 +199,8 @@ module _ (s : Schedule) (step : ℕ) (e : Event) (steps : Steps) (left : List Ev
   stop_ends end.NoMemory r ended is = rw is tt
 
   -- the stop is done
-  module _ (stop : Steps) (behind : List Event) (none : limit_in world_limits In.moments ≡ None) (done : HaveDone c (steps.done ++ stop_at kept site e) (stopped_world c kept site (moment_in c e w)) stop)
-      (left_is : behind ≡ map (raised (length w.sent + 1) (length stop.world.world.sent - length w.sent)) left) where
+  module _ (stop : Steps) (following : List Event) (none : limit_in world_limits In.moments ≡ None) (done : HaveDone c (steps.done ++ stop_at kept site e) (stopped_world c kept site (moment_in c e w)) stop)
+      (left_is : following ≡ map (raised (length w.sent + 1) (length stop.world.world.sent - length w.sent)) left) where
     stop_is : stop.world ≡ record { catalogue = s.catalogue; world = stopped_world s.catalogue kept site h.m }
     stop_is = done.0 ∙ ap (λ (c : Catalogue). record { catalogue = c; world = stopped_world steps.world.catalogue kept site (moment_in steps.world.catalogue e w) }) c_is
         ∙ ap (λ (v : WorldState). record { catalogue = s.catalogue; world = v }) world_is
@@ -214,16 +214,16 @@ module _ (s : Schedule) (step : ℕ) (e : Event) (steps : Steps) (left : List Ev
         ∙ (place_sends c kept site e w (taken_single c w site e takes)).2
         ∙ its_moment (λ m. lost kept (moment_in c e w) ≡ lost kept m) (λ number. ap (λ (k : Known). lost kept (moment_in k.catalogue e k.world)) h.done.0)
 
-    behind_is : behind ≡ map (raised (first_lost h.m) (lost kept h.m)) (follow s.events (take step (moments_of s)) h.m)
-    behind_is =
+    following_is : following ≡ map (raised (first_lost h.m) (lost kept h.m)) (follow s.events (take step (moments_of s)) h.m)
+    following_is =
         left_is ∙ ap (λ first. map (raised first (length stop.world.world.sent - length w.sent)) left) first_is
         ∙ ap (λ count. map (raised (first_lost h.m) count) left) count_is
         ∙ ap (map (raised (first_lost h.m) (lost kept h.m))) h.left_is
 
-    pub whole_is : run_from stop.world.catalogue 1 behind (run_in stop.world.world) ≡ Whole
+    pub whole_is : run_from stop.world.catalogue 1 following (run_in stop.world.world) ≡ Whole
     whole_is =
-        ap (λ (k : Known). run_from k.catalogue 1 behind (run_in k.world)) stop_is
-        ∙ ap (λ events. run_from s.catalogue 1 events (run_in (stopped_world s.catalogue kept site h.m))) behind_is
+        ap (λ (k : Known). run_from k.catalogue 1 following (run_in k.world)) stop_is
+        ∙ ap (λ events. run_from s.catalogue 1 events (run_in (stopped_world s.catalogue kept site h.m))) following_is
 
     limit_then_is : limit_reached world_limits (comes_to s step kept h.m site h.is) ≡ limit_in world_limits Whole.moments
     limit_then_is =
@@ -232,7 +232,7 @@ module _ (s : Schedule) (step : ℕ) (e : Event) (steps : Steps) (left : List Ev
         ∙ ap (λ o. option_or o (limit_in world_limits Whole.moments)) none
 
     -- a limit ends what follows
-    rest_ended : (what : Counted) → limit_in world_limits (run_from stop.world.catalogue 1 behind (run_in stop.world.world)).moments ≡ Some what
+    rest_ended : (what : Counted) → limit_in world_limits (run_from stop.world.catalogue 1 following (run_in stop.world.world)).moments ≡ Some what
         → (t : Schedule) × (stopped step kept s ≡ Some t) × (limit_reached world_limits t ≡ Some what)
     rest_ended what some = (
       comes_to s step kept h.m site h.is,
@@ -240,13 +240,13 @@ module _ (s : Schedule) (step : ℕ) (e : Event) (steps : Steps) (left : List Ev
       limit_then_is ∙ ap (λ (r : Run). limit_in world_limits r.moments) (sym whole_is) ∙ some,
     )
 
-    pub rest_ends : (why : WorldEnd) (r : Result Stopped WorldEnd) → Ends {A = Steps} (limit_in world_limits (run_from stop.world.catalogue 1 behind (run_in stop.world.world)).moments) (Err why) → r ≡ Err why → GoesOn s step at r
+    pub rest_ends : (why : WorldEnd) (r : Result Stopped WorldEnd) → Ends {A = Steps} (limit_in world_limits (run_from stop.world.catalogue 1 following (run_in stop.world.world)).moments) (Err why) → r ≡ Err why → GoesOn s step at r
     rest_ends (end.Limit what much) r ended is = rw is (ended.1, rest_ended what ended.0)
     rest_ends end.NoMemory r ended is = rw is tt
 
     -- all is done
-    pub rest_done : (ended : Steps) → HaveDone stop.world.catalogue (stop.done ++ singles (run_from stop.world.catalogue 1 behind (run_in stop.world.world)).moments) (run_from stop.world.catalogue 1 behind (run_in stop.world.world)).world ended
-        → limit_in world_limits (run_from stop.world.catalogue 1 behind (run_in stop.world.world)).moments ≡ None
+    pub rest_done : (ended : Steps) → HaveDone stop.world.catalogue (stop.done ++ singles (run_from stop.world.catalogue 1 following (run_in stop.world.world)).moments) (run_from stop.world.catalogue 1 following (run_in stop.world.world)).world ended
+        → limit_in world_limits (run_from stop.world.catalogue 1 following (run_in stop.world.world)).moments ≡ None
         → (it : Stopped) → it.schedule.catalogue ≡ s.catalogue → it.schedule.events ≡ ended.done → it.commits ≡ ended.world.world.journal → it.log ≡ at.log → GoesOn s step at (Ok it)
     rest_done ended all within it catalogue_is events_are commits_are log_is =
         let events : it.schedule.events ≡ (comes_to s step kept h.m site h.is).events =

@@ -10,10 +10,10 @@ use Rattle.vp_model.specs.Catalogue.{Catalogue}
 use Rattle.vp_model.specs.World.{WorldState, Run, Moment, Schedule, moment, next, start_world, run_from, run_of, moments_of}
 use Rattle.vp_model.specs.Limits.{world_limits, exceeded, limit_in, limit_reached}
 use Rattle.vp_runs.proofs.Through.{Follow}
-use Rattle.vp_runs.specs.Stopped.{moment_of, appender, stopped, stopped_events, stop_at, stopped_world, passed_numbers, pass_over, run_behind, run_in, singles}
+use Rattle.vp_runs.specs.Stopped.{moment_of, appender, stopped, stopped_events, stop_at, stopped_world, passed_numbers, pass_over, run_after, run_in, singles}
 use Rattle.vp_runs.specs.StopLaws.{SameButDelivered}
 use Rattle.vp_runs.proofs.Delivered.{IsSingle, steps_to, run_is}
-use Rattle.vp_runs.proofs.Behind.{schedule_goes, behind_goes, led_to}
+use Rattle.vp_runs.proofs.Following.{schedule_goes, after_goes, led_to}
 use Rattle.vp_runs.proofs.StoppedRuns.{whole_single, stop_single, stopped_runs}
 use Rattle.vp_stopping.proofs.SingleLimits.{limit_at, limit_more, limit_same, limit_followed, limit_run, limit_of_singles, limit_append, limit_one}
 use Rattle.vp_stopping.specs.RanStopped.{limit_stopped}
@@ -40,7 +40,7 @@ module _ (s : Schedule) (step : ℕ) (kept : Bool) (m : Moment) (site : ℕ) (at
   in_place = run_from s.catalogue 1 (stop_at kept site m.line.event) (run_in m.before)
 
   abbrev pub rest : Run
-  rest = run_behind s step kept site m
+  rest = run_after s step kept site m
 
   front_along : Follow s.catalogue (start_world s.catalogue) (take (step - 1) (moments_of s)) m.before
   front_along =
@@ -58,15 +58,15 @@ module _ (s : Schedule) (step : ℕ) (kept : Bool) (m : Moment) (site : ℕ) (at
       let stop = stop_at kept site m.line.event in
       let tail = singles rest.moments in
       let start = start_world s.catalogue in
-      let single : AllByRecursion IsSingle comes_to.events = subst (λ k. AllByRecursion IsSingle (singles (take (k - 1) (moments_of s)) ++ (stop ++ singles (run_behind s k kept site m).moments))) (sym is)
-      (subst (λ j. AllByRecursion IsSingle (singles (take j (moments_of s)) ++ (stop ++ singles (run_behind s (suc n) kept site m).moments))) (omega arith) (whole_single s n kept m site there)) in
+      let single : AllByRecursion IsSingle comes_to.events = subst (λ k. AllByRecursion IsSingle (singles (take (k - 1) (moments_of s)) ++ (stop ++ singles (run_after s k kept site m).moments))) (sym is)
+      (subst (λ j. AllByRecursion IsSingle (singles (take j (moments_of s)) ++ (stop ++ singles (run_after s (suc n) kept site m).moments))) (omega arith) (whole_single s n kept m site there)) in
       let led : steps_to s.catalogue front start ≡ m.before = sym (subst (λ k. m.before ≡ steps_to s.catalogue (singles (take k (moments_of s))) start) less (led_to s.catalogue n (moments_of s) m start (run_of s).world (schedule_goes s).follow there)) in
       let stop_all = stop_single s n kept m site there in
       let place : in_place.world ≡ steps_to s.catalogue stop m.before = run_is s.catalogue 1 stop (run_in m.before) stop_all in
       let v = stopped_world s.catalogue kept site m in
       let same : SameButDelivered v (steps_to s.catalogue stop m.before) =
       subst (λ (w : WorldState). SameButDelivered (pass_over (passed_numbers kept m) w) (steps_to s.catalogue stop m.before)) (sym place) ((steps_to s.catalogue stop m.before).delivered ++ passed_numbers kept m, refl) in
-      let behind = (behind_goes s.catalogue 1 _ v).follow in
+      let following = (after_goes s.catalogue 1 _ v).follow in
       limit_of_singles comes_to single
       ∙ limit_more s.catalogue front (stop ++ tail) start
       ∙ ap (λ o. option_or o (limit_at s.catalogue (stop ++ tail) (steps_to s.catalogue front start))) (sym (limit_followed s.catalogue (take (step - 1) (moments_of s)) start m.before front_along))
@@ -75,7 +75,7 @@ module _ (s : Schedule) (step : ℕ) (kept : Bool) (m : Moment) (site : ℕ) (at
       ap (limit_at s.catalogue (stop ++ tail)) led
       ∙ limit_more s.catalogue stop tail m.before
       ∙ ap (λ o. option_or o (limit_at s.catalogue tail (steps_to s.catalogue stop m.before))) (sym (limit_run s.catalogue 1 stop (run_in m.before) stop_all))
-      ∙ ap (option_or (limit_in world_limits in_place.moments)) (sym (limit_same s.catalogue tail v (steps_to s.catalogue stop m.before) same) ∙ sym (limit_followed s.catalogue rest.moments v rest.world behind))
+      ∙ ap (option_or (limit_in world_limits in_place.moments)) (sym (limit_same s.catalogue tail v (steps_to s.catalogue stop m.before) same) ∙ sym (limit_followed s.catalogue rest.moments v rest.world following))
       )
 
   pub limit_is : limit_in world_limits (take (step - 1) (moments_of s)) ≡ None → limit_reached world_limits comes_to ≡ option_or (limit_in world_limits in_place.moments) (limit_in world_limits rest.moments)

@@ -56,9 +56,9 @@ stopped_place catalogue m kept s stood stepped single at then_ = ap (λ (w : Wor
 
 -- ---- what may be asked
 
-module _ (catalogue : Catalogue) (w : WorldState) (behind : AfterStop) where
+module _ (catalogue : Catalogue) (w : WorldState) (following : AfterStop) where
   abbrev IfAsked : Option Asked → Type 0
-  IfAsked o = IfSome o (λ a. MayAfterStop catalogue a behind)
+  IfAsked o = IfSome o (λ a. MayAfterStop catalogue a following)
 
   stepping : (e : Event) (given : Input) (o : Option SiteState) → IfAsked (option_map (λ site. Asked.steps e site given) o)
   stepping e given None = tt
@@ -76,7 +76,7 @@ module _ (catalogue : Catalogue) (w : WorldState) (behind : AfterStop) where
   crashing s None = tt
   crashing s (Some x) = tt
 
-  may_start : (s : ℕ) (place : Place) → place_of s w.places ≡ Some place → Waits catalogue w place.id behind.nodes → MayRestart catalogue place.id (started catalogue place.id place.durable) behind.nodes
+  may_start : (s : ℕ) (place : Place) → place_of s w.places ≡ Some place → Waits catalogue w place.id following.nodes → MayRestart catalogue place.id (started catalogue place.id place.durable) following.nodes
   may_start s place at waits =
       let same : waits.place ≡ place = (let z = sym waits.place_is ∙ ap (λ id. place_of id w.places) (place-id s w.places place at) ∙ at in cc) in
       record {
@@ -93,25 +93,25 @@ module _ (catalogue : Catalogue) (w : WorldState) (behind : AfterStop) where
         same_catalogue = waits.same_catalogue;
       }
 
-  module _ (h : IsAfterStop catalogue w behind) where
+  module _ (h : IsAfterStop catalogue w following) where
     starting : (s : ℕ) (found : Option Place) → place_of s w.places ≡ found → IfAsked (option_and_then (restart_asked catalogue) found)
     starting s None at = tt
     starting s (Some place) at = go place.up
       where
         go : (up : Option SiteState) → IfAsked (cond (is_some up) None (Some (Asked.restarts place.id (started catalogue place.id place.durable))))
         go (Some x) = tt
-        go None = λ is. may_start s place at (subst (λ o. IfSome o (λ id. Waits catalogue w id behind.nodes)) is h)
+        go None = λ is. may_start s place at (subst (λ o. IfSome o (λ id. Waits catalogue w id following.nodes)) is h)
 
-    pub behind_ready : (e : Event) → IsReady MayAfterStop catalogue e w behind
-    behind_ready (event.Call s words) = stepping (event.Call s words) (input.Call 0 words) (site_of w s)
-    behind_ready (event.Deliver k) = delivering k (message_at w k)
-    behind_ready (event.Flow count) = tt
-    behind_ready (event.Tick s) = stepping (event.Tick s) input.Tick (site_of w s)
-    behind_ready (event.Probe s) = stepping (event.Probe s) input.Probe (site_of w s)
-    behind_ready (event.Cut a b) = tt
-    behind_ready (event.Heal a b) = tt
-    behind_ready (event.Crash s) = crashing s (site_of w s)
-    behind_ready (event.Restart s) = starting s (place_of s w.places) refl
+    pub after_ready : (e : Event) → IsReady MayAfterStop catalogue e w following
+    after_ready (event.Call s words) = stepping (event.Call s words) (input.Call 0 words) (site_of w s)
+    after_ready (event.Deliver k) = delivering k (message_at w k)
+    after_ready (event.Flow count) = tt
+    after_ready (event.Tick s) = stepping (event.Tick s) input.Tick (site_of w s)
+    after_ready (event.Probe s) = stepping (event.Probe s) input.Probe (site_of w s)
+    after_ready (event.Cut a b) = tt
+    after_ready (event.Heal a b) = tt
+    after_ready (event.Crash s) = crashing s (site_of w s)
+    after_ready (event.Restart s) = starting s (place_of s w.places) refl
 
 -- ---- what is done then
 
@@ -237,8 +237,8 @@ module _ (catalogue : Catalogue) (w : WorldState) (old new : AfterStop) where
               unchanged (other_stays s (λ other. differ (let z = sym is_it ∙ other in cc)) (place_of s w.places) refl (subst (λ (e : Event). IfDone e) is d)) (others id differ).place_is
 
     -- this holds after each step
-    pub behind_on : IsAfterStop catalogue w old → IsAfterStop catalogue v new
-    behind_on h = go old.stopped refl h
+    pub after_on : IsAfterStop catalogue w old → IsAfterStop catalogue v new
+    after_on h = go old.stopped refl h
       where
         go : (o : Option ℕ) → old.stopped ≡ o → IfSome o (λ id. Waits catalogue w id old.nodes) → IsAfterStop catalogue v new
         go None none h = none_waits none (effect catalogue 0 e w)

@@ -120,20 +120,20 @@ module _ (catalogue : Catalogue) where
     pub single : IsSingle line
     pub gone : (done : ℕ) → left_at (suc done) line ≡ []
     pub first : (w : WorldState) (rest : List Event) → next_single w (line ∷ rest) ≡ Some line
-    pub behind : (w : WorldState) (rest : List Event) → left_then w (line ∷ rest) ≡ rest
+    pub following : (w : WorldState) (rest : List Event) → left_then w (line ∷ rest) ≡ rest
     pub does : (n : ℕ) (run : Run) → finish n zero line run ≡ one_step catalogue n line run
     pub ended : (n done : ℕ) (run : Run) → finish n (suc done) line run ≡ run
 
   plain : (line : Event) → IsSingle line → Plain line
-  plain (event.Call s words) h = record { single = h; gone = λ d. refl; first = λ w r. refl; behind = λ w r. refl; does = λ n r. refl; ended = λ n d r. refl }
-  plain (event.Deliver k) h = record { single = h; gone = λ d. refl; first = λ w r. refl; behind = λ w r. refl; does = λ n r. refl; ended = λ n d r. refl }
+  plain (event.Call s words) h = record { single = h; gone = λ d. refl; first = λ w r. refl; following = λ w r. refl; does = λ n r. refl; ended = λ n d r. refl }
+  plain (event.Deliver k) h = record { single = h; gone = λ d. refl; first = λ w r. refl; following = λ w r. refl; does = λ n r. refl; ended = λ n d r. refl }
   plain (event.Flow count) h = absurd h
-  plain (event.Tick s) h = record { single = h; gone = λ d. refl; first = λ w r. refl; behind = λ w r. refl; does = λ n r. refl; ended = λ n d r. refl }
-  plain (event.Probe s) h = record { single = h; gone = λ d. refl; first = λ w r. refl; behind = λ w r. refl; does = λ n r. refl; ended = λ n d r. refl }
-  plain (event.Cut a b) h = record { single = h; gone = λ d. refl; first = λ w r. refl; behind = λ w r. refl; does = λ n r. refl; ended = λ n d r. refl }
-  plain (event.Heal a b) h = record { single = h; gone = λ d. refl; first = λ w r. refl; behind = λ w r. refl; does = λ n r. refl; ended = λ n d r. refl }
-  plain (event.Crash s) h = record { single = h; gone = λ d. refl; first = λ w r. refl; behind = λ w r. refl; does = λ n r. refl; ended = λ n d r. refl }
-  plain (event.Restart s) h = record { single = h; gone = λ d. refl; first = λ w r. refl; behind = λ w r. refl; does = λ n r. refl; ended = λ n d r. refl }
+  plain (event.Tick s) h = record { single = h; gone = λ d. refl; first = λ w r. refl; following = λ w r. refl; does = λ n r. refl; ended = λ n d r. refl }
+  plain (event.Probe s) h = record { single = h; gone = λ d. refl; first = λ w r. refl; following = λ w r. refl; does = λ n r. refl; ended = λ n d r. refl }
+  plain (event.Cut a b) h = record { single = h; gone = λ d. refl; first = λ w r. refl; following = λ w r. refl; does = λ n r. refl; ended = λ n d r. refl }
+  plain (event.Heal a b) h = record { single = h; gone = λ d. refl; first = λ w r. refl; following = λ w r. refl; does = λ n r. refl; ended = λ n d r. refl }
+  plain (event.Crash s) h = record { single = h; gone = λ d. refl; first = λ w r. refl; following = λ w r. refl; does = λ n r. refl; ended = λ n d r. refl }
+  plain (event.Restart s) h = record { single = h; gone = λ d. refl; first = λ w r. refl; following = λ w r. refl; does = λ n r. refl; ended = λ n d r. refl }
 
   no_more : (n : ℕ) → n ≡ n + 0
   no_more n = omega arith
@@ -150,7 +150,7 @@ module _ (catalogue : Catalogue) where
         rest = rest;
         lines_are = refl;
         steps_are = inl (refl, refl);
-        left_is = ap (λ (front : List Event). left_then run.world (front ++ rest)) fresh ∙ p.behind run.world rest ∙ ap (λ (front : List Event). front ++ rest) (sym (p.gone 0));
+        left_is = ap (λ (front : List Event). left_then run.world (front ++ rest)) fresh ∙ p.following run.world rest ∙ ap (λ (front : List Event). front ++ rest) (sym (p.gone 0));
         goes =
             subst (λ m. run_from catalogue (n + 1) rest (finish n zero line run) ≡ run_from catalogue (m + 1) rest (finish m 1 line (one_step catalogue m e run))) (no_more n)
             (ap (run_from catalogue (n + 1) rest) (p.does n run ∙ ap (λ (e : Event). one_step catalogue n e run) same ∙ sym (p.ended n 0 (one_step catalogue n e run))));

@@ -13,9 +13,9 @@ use Rattle.vp_stopping.specs.declared.after_stop.AfterStop.{AfterStop}
 
 -- the first start of the site that stopped is asked of its node, and all else of the sites
 abbrev pub MayAfterStop : Catalogue → Asked → AfterStop → Type 0
-MayAfterStop catalogue (Asked.steps e site given) behind = Unit {0}
-MayAfterStop catalogue (Asked.crashes id) behind = Unit {0}
-MayAfterStop catalogue (Asked.restarts id site) behind = behind.stopped ≡ Some id → MayDo catalogue (Asked.restarts id site) behind.nodes
+MayAfterStop catalogue (Asked.steps e site given) following = Unit {0}
+MayAfterStop catalogue (Asked.crashes id) following = Unit {0}
+MayAfterStop catalogue (Asked.restarts id site) following = following.stopped ≡ Some id → MayDo catalogue (Asked.restarts id site) following.nodes
 
 -- That site starts from its log as the stop has left it, whatever batches that has; and nothing else is done to the nodes.
 abbrev pub DoesAfterStop : Asked → AfterStop → AfterStop → Type 0
@@ -41,4 +41,4 @@ pub record Waits (catalogue : Catalogue) (w : WorldState) (id : ℕ) (nodes : No
 
 -- this holds of the site that stopped, until it starts
 abbrev pub IsAfterStop : Catalogue → WorldState → AfterStop → Type 0
-IsAfterStop catalogue w behind = IfSome behind.stopped (λ id. Waits catalogue w id behind.nodes)
+IsAfterStop catalogue w following = IfSome following.stopped (λ id. Waits catalogue w id following.nodes)

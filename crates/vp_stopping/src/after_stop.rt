@@ -8,7 +8,7 @@ use vp_catalog::Catalog;
 use vp_cluster::Nodes;
 use vp_records::Durable;
 use vp_site::{Site, StartFault};
-use vp_world::{ByThemselves, Stepper};
+use vp_world::{PlainStepper, Stepper};
 
 /// Who does the steps after a stop: the sites by themselves; but the one that stopped is started by its node, from the log that the stop
 /// has left. From then on that site does its steps by itself too.
@@ -45,7 +45,7 @@ impl Stepper for AfterStop {
         site: Site,
         input: &Input,
     ) -> Result<(Site, Effects), NoMemory> {
-        ByThemselves.step(catalog, event, site, input)
+        PlainStepper.step(catalog, event, site, input)
     }
 
     fn crash(&mut self, _: SiteId) {}
@@ -60,7 +60,7 @@ impl Stepper for AfterStop {
             self.stopped = None;
             self.nodes.restart(catalog, id, durable)
         } else {
-            ByThemselves.restart(catalog, id, durable)
+            PlainStepper.restart(catalog, id, durable)
         }
     }
 }

@@ -22,7 +22,7 @@ use vp_base::{Commits, CopyOf, Event, Events, NoMemory, SiteId};
 use vp_catalog::Catalog;
 use vp_cluster::{Nodes, SiteLog, Stop, StoppedLog};
 use vp_schedule::Schedule;
-use vp_world::{ByThemselves, Stepper, World, WorldEnd};
+use vp_world::{PlainStepper, Stepper, World, WorldEnd};
 
 /// What a run becomes that stops within a step: a schedule, with its commits in the order of the steps; and the log of the site that
 /// stopped, as the stop left it.
@@ -64,7 +64,7 @@ impl Steps {
         ensures done { IfOk result (HaveDone self.world.catalogue (self.done ++ event ∷ []) (next self.world.catalogue event self.world.world).world) }
         ensures end { Ends (refused world_limits self.world.catalogue event self.world.world) result }
     {
-        self.step_by(event, &mut ByThemselves)
+        self.step_by(event, &mut PlainStepper)
     }
 
     /// Does one step, for which the site is lent to the stepper.
@@ -134,17 +134,17 @@ impl Steps {
     }
 
     /// Does all that is left after a stop.
-    fn go_on(self, left: Left, behind: AfterStop) -> Result<Steps, WorldEnd>
-        requires { IsAfterStop self.world.catalogue self.world.world behind }
+    fn go_on(self, left: Left, following: AfterStop) -> Result<Steps, WorldEnd>
+        requires { IsAfterStop self.world.catalogue self.world.world following }
         ensures done { IfOk result (HaveDone self.world.catalogue (self.done ++ singles (run_from self.world.catalogue 1 left (run_in self.world.world)).moments)
             (run_from self.world.catalogue 1 left (run_in self.world.world)).world) }
         ensures end { Ends (limit_in world_limits (run_from self.world.catalogue 1 left (run_in self.world.world)).moments) result }
     {
         let mut left = left;
-        let mut behind = behind;
+        let mut following = following;
         let mut steps = self;
         while let Some(event) = left.next(&steps.world)? {
-            steps = steps.step_by(event, &mut behind)?;
+            steps = steps.step_by(event, &mut following)?;
         }
         Ok(steps)
     }
@@ -284,11 +284,11 @@ fn go_on(
     let before = steps.world.messages() as u32;
     let steps = steps.stop(site, event, kept)?;
     left.raise(before + 1, steps.world.messages() as u32 - before)?;
-    let behind = AfterStop {
+    let following = AfterStop {
         nodes,
         stopped: Some(site),
     };
-    let ended = steps.go_on(left, behind)?;
+    let ended = steps.go_on(left, following)?;
     Ok(ended.stopped(&schedule.catalog, log)?)
 }
 

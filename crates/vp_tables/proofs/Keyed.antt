@@ -150,11 +150,11 @@ module _ {T : Type 0} (txn : T → TxnId) where
   is_after n item [] rest a = a.0
   is_after n item (t ∷ done) rest a = is_after n item done rest a.1
 
-  pub put_behind : (item : T) (done rest : List T) → AreAscending txn (done ++ item ∷ rest) → put (λ a b. same_txn (txn a) (txn b)) (λ a b. txn_before (txn a) (txn b)) item done ≡ done ++ item ∷ []
-  put_behind item [] rest a = refl
-  put_behind item (t ∷ done) rest a =
+  pub put_after : (item : T) (done rest : List T) → AreAscending txn (done ++ item ∷ rest) → put (λ a b. same_txn (txn a) (txn b)) (λ a b. txn_before (txn a) (txn b)) item done ≡ done ++ item ∷ []
+  put_after item [] rest a = refl
+  put_after item (t ∷ done) rest a =
       let after = is_after (txn t) item done rest a.0 in
-      rw (not_same (txn t) (txn item) after, not_before (txn t) (txn item) after) (ap (λ ts. t ∷ ts) (put_behind item done rest a.1))
+      rw (not_same (txn t) (txn item) after, not_before (txn t) (txn item) after) (ap (λ ts. t ∷ ts) (put_after item done rest a.1))
 
   -- an item is inserted by the key of its transaction
   pub put_there : (item : T) (es : Entries) → AreKeyed txn es → values_of (tree.insert_entry key_cmp es (key_of (txn item)) item) ≡ put (λ a b. same_txn (txn a) (txn b)) (λ a b. txn_before (txn a) (txn b)) item (values_of es)

@@ -7,5 +7,5 @@ mod key;
 mod noted;
 mod table;
 
-pub use noted::Noted;
+pub use noted::TxnSet;
 pub use table::{HasTxn, Table};

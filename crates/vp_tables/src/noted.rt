@@ -11,12 +11,12 @@ use vp_base::{CopyOf, NoMemory, TxnId};
 
 /// Transactions in the order in which they were noted, each one once.
 #[derive(Drop)]
-pub struct Noted {
+pub struct TxnSet {
     keyed: IndexMap<TxnKey, TxnId>,
     alloc: Global,
 }
 
-impl Model for Noted {
+impl Model for TxnSet {
     ghost use Rattle.std.specs.Prelude.{List};
     ghost use Rattle.std.specs.Map.{values_of};
     ghost use Rattle.vp_base.specs.declared.ids.TxnId.{TxnId};
@@ -29,12 +29,12 @@ impl Model for Noted {
     ghost invariant = { λ n. AreKeyed (λ t. t) n.keyed.entries };
 }
 
-impl Noted {
+impl TxnSet {
     /// Makes an empty list, which takes no memory.
-    pub fn new(alloc: Global) -> Noted
+    pub fn new(alloc: Global) -> TxnSet
         ensures { result ≡ [] }
     {
-        Noted {
+        TxnSet {
             keyed: IndexMap::new(alloc),
             alloc,
         }
@@ -61,6 +61,6 @@ impl Noted {
     pub fn clear(&mut self)
         ensures { self.new ≡ [] }
     {
-        *self = Noted::new(self.alloc);
+        *self = TxnSet::new(self.alloc);
     }
 }

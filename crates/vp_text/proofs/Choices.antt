@@ -28,9 +28,9 @@ either_second (Ok x) q y none e = absurd (none x refl)
 either_second (Err m) (Ok z) y none e = e
 either_second (Err m) (Err n) y none e = absurd (let f : Err n ≡ done y = e in cc)
 
-behind : (s r g rest : List ℕ) → rest ≡ s ++ g → Parts (s ++ r) rest → Parts r g
-behind [] r g rest e h = subst (Parts r) e h
-behind (c ∷ s) r g rest e h = absurd (let k : Parts ((c ∷ s) ++ r) ((c ∷ s) ++ g) = subst (Parts ((c ∷ s) ++ r)) e h in k refl)
+following : (s r g rest : List ℕ) → rest ≡ s ++ g → Parts (s ++ r) rest → Parts r g
+following [] r g rest e h = subst (Parts r) e h
+following (c ∷ s) r g rest e h = absurd (let k : Parts ((c ∷ s) ++ r) ((c ∷ s) ++ g) = subst (Parts ((c ∷ s) ++ r)) e h in k refl)
 
 -- beyond this place, texts of the other language differ from the bytes too
 farther : {A : Type 0} (M : A → List ℕ → Type 0) (bytes front rest f g : List ℕ) → bytes ≡ front ++ rest → bytes ≡ f ++ g → length g ≤ length rest → ((b : A) (r : List ℕ) → M b (front ++ r) → Parts r rest) → (b : A) (r : List ℕ) → M b (f ++ r) → Parts r g
@@ -39,7 +39,7 @@ farther M bytes front rest f g e h le diverges b r m =
       | inl w ↦
           let s = w.0 in
           let k : Parts (s ++ r) rest = diverges b (s ++ r) (subst (λ (x : List ℕ). M b x) (ap (λ (x : List ℕ). x ++ r) w.1 ∙ append_assoc front s r) m) in
-          behind s r g rest w.2 k
+          following s r g rest w.2 k
       | inr w ↦ absurd (omega (arith, ap length w.3, length-append (w.0 ∷ w.1) rest))
     ]
 

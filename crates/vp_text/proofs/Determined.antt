@@ -52,10 +52,10 @@ module _ {S E : Type 0} (first : S) (after : S → E → S) (Line : S → E → 
   pub record OneMore (lines : List E) (rest : List ℕ) : Type 0 where
     pub entry : E
     pub line : List ℕ
-    pub behind : List ℕ
+    pub following : List ℕ
     pub line_is : Line (said lines) entry line
     pub onward : Onward (said lines) entry
-    pub parts : rest ≡ line ++ behind
+    pub parts : rest ≡ line ++ following
 
   -- no such line comes after the lines
   abbrev pub IsLast : {text : List ℕ} → Divided text → Type 0
@@ -100,7 +100,7 @@ module _ {S E : Type 0} (first : S) (after : S → E → S) (Line : S → E → 
             record {
               entry = d;
               line = k.1;
-              behind = s;
+              following = s;
               line_is = subst (λ (x : List E). Line (said x) d k.1) (sym m.lines) k.3;
               onward = subst (λ (x : List E). Onward (said x) d) (sym m.lines) k.4;
               parts = m.rest;
@@ -124,7 +124,7 @@ module _ {S E : Type 0} (first : S) (after : S → E → S) (Line : S → E → 
   pub ended_last : (text : List ℕ) → Plain (length text) → (d : Divided text) → d.rest ≡ [] → IsLast d
   ended_last text p d none more =
       let line = p.lines d.lines d.front (front_fits text d.front d.rest d.parts) d.lines_are more.entry more.line more.line_is in
-      omega (arith, ap length none, ap length more.parts, length-append more.line more.behind, ap length line.2, length-append line.0 (10 ∷ []))
+      omega (arith, ap length none, ap length more.parts, length-append more.line more.following, ap length line.2, length-append line.0 (10 ∷ []))
 
   abbrev pub whole_divided : (es : List E) (text : List ℕ) → Lines es text → Divided text
   whole_divided es text h = record { lines = es; front = text; rest = []; lines_are = h; parts = sym (append-nil text) }
@@ -142,7 +142,7 @@ module _ {S E : Type 0} (first : S) (after : S → E → S) (Line : S → E → 
   bad_divided text line at b = record { lines = b.lines; front = b.front; rest = b.rest; lines_are = b.lines_are; parts = b.parts }
 
   pub bad_last : (text : List ℕ) (line at : ℕ) (b : IsBadLine first after Line Onward text line at) → IsLast (bad_divided text line at b)
-  bad_last text line at b more = b.none more.entry more.line more.behind more.line_is more.parts
+  bad_last text line at b more = b.none more.entry more.line more.following more.line_is more.parts
 
   pub bad_same : (text : List ℕ) → Plain (length text) → (l m i k : ℕ) → IsBadLine first after Line Onward text l i → IsBadLine first after Line Onward text m k → (l ≡ m) × (i ≡ k)
   bad_same text p l m i k b c =
@@ -163,7 +163,7 @@ module _ {S E : Type 0} (first : S) (after : S → E → S) (Line : S → E → 
   pub faulty_last : (Faulty : S → E → Type 0) → Stops Faulty → (text : List ℕ) → Plain (length text) → (line : ℕ) (f : IsFaultyLine first after Line Onward Faulty text line) → IsLast (faulty_divided Faulty text line f)
   faulty_last Faulty stops text p line f more =
       let fits = front_fits text f.front (f.faulty ++ f.rest) f.parts in
-      let one = same_line f.faulty f.rest more.line more.behind (p.lines f.lines f.front fits f.lines_are f.entry f.faulty f.faulty_is) (p.lines f.lines f.front fits f.lines_are more.entry more.line more.line_is) more.parts in
+      let one = same_line f.faulty f.rest more.line more.following (p.lines f.lines f.front fits f.lines_are f.entry f.faulty f.faulty_is) (p.lines f.lines f.front fits f.lines_are more.entry more.line more.line_is) more.parts in
       let entry : more.entry ≡ f.entry = p.one f.lines f.front fits f.lines_are more.entry f.entry more.line more.line_is (subst (Line (said f.lines) f.entry) one.0 f.faulty_is) in
       stops (said f.lines) f.entry f.fault (subst (Onward (said f.lines)) entry more.onward)
 
@@ -193,8 +193,8 @@ module _ {S E : Type 0} (first : S) (after : S → E → S) (Line : S → E → 
       b.none f.entry f.faulty f.rest (subst (λ (x : List E). Line (said x) f.entry f.faulty) (sym same.lines) f.faulty_is) same.rest
 
   -- where the text is some lines, a line that isn't allowed could only come after all of them
-  pub bad_behind_all : (text : List ℕ) → Plain (length text) → (es : List E) → Lines es text → (l i : ℕ) (b : IsBadLine first after Line Onward text l i) → Same b.lines es b.front text b.rest []
-  bad_behind_all text p es h l i b =
+  pub bad_after_all : (text : List ℕ) → Plain (length text) → (es : List E) → Lines es text → (l i : ℕ) (b : IsBadLine first after Line Onward text l i) → Same b.lines es b.front text b.rest []
+  bad_after_all text p es h l i b =
       let d = whole_divided es text h in
       last_same text p (bad_divided text l i b) d (bad_last text l i b) (ended_last text p d refl)
 

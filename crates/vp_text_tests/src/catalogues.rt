@@ -153,7 +153,7 @@ fn many(alloc: Global, count: u64) -> Result<Vec<u8>, NoMemory> {
 }
 
 #[test]
-fn the_record_behind_256_is_too_many(rt: HostRuntime) {
+fn the_record_after_256_is_too_many(rt: HostRuntime) {
     let most = many(rt.alloc(), 256).expect(&rt, "memory");
     let told = told(
         rt.alloc(),

@@ -135,7 +135,7 @@ fn joined(rt: &impl Abort, alloc: Global, head: &[u8], line: &[u8]) -> Vec<u8> {
 }
 
 #[test]
-fn worked_lines_behind_three_sites_are_refused(rt: HostRuntime) {
+fn worked_lines_after_three_sites_are_refused(rt: HostRuntime) {
     let head = b"site 1 7001\nsite 2 7002\nsite 3 7003\nrecord x 10 1:1 2:1 3:1\nevents\n";
     let cases: [(&[u8], usize); 6] = [
         (b"call 9 begin\n", 6),

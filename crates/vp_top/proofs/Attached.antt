@@ -10,7 +10,7 @@ use Rattle.vp_outside.specs.Links.{LinkState}
 use Rattle.vp_outside.specs.Output.{SinkState}
 use Rattle.vp_outside.specs.declared.sink.OutFault.{OutFault}
 use Rattle.vp_outside.specs.declared.datagram.Datagram.{Datagram}
-use Rattle.vp_outside.specs.declared.datagram.Handed.{Handed}
+use Rattle.vp_outside.specs.declared.datagram.Dispatch.{Dispatch}
 use Rattle.vp_stable.specs.Halves.{HaveBatches, AreBadLog}
 use Rattle.vp_stable.specs.Moments.{LeavesOnly, LeavesOthers}
 use Rattle.vp_stable.proofs.Times.{elapses_then, leaves_only}
@@ -31,7 +31,7 @@ module _ (catalogue : Catalogue) (id turns : ℕ) (o : Outside) (disk : DiskStat
   abbrev as_before : Outside
   as_before = record o { disk = disk }
 
-  did : (written : List ℕ) (handed : List Handed) → Did o written handed → Did as_before written handed
+  did : (written : List ℕ) (handed : List Dispatch) → Did o written handed → Did as_before written handed
   did written handed h = record { writes = h.writes; hands = h.hands }
 
   had : (batches : List (List LogRecord)) → IfSome (log_of o.disk) (HaveBatches batches) → IfSome (log_of disk) (HaveBatches batches)
@@ -54,7 +54,7 @@ module _ (catalogue : Catalogue) (id turns : ℕ) (o : Outside) (disk : DiskStat
   kept : (run : NodeRun) → IsKeptAs run o.disk o.disk' → IsKeptAs run disk o.disk'
   kept run k h = subst (λ n. IfSome (o.disk'.logs n) (λ log. HaveBatches run.node.batches log × Only log (o.disk'.may_leave n))) asked (k (honest h))
 
-  safe : (batches : List (List LogRecord)) (given : ℕ) (arrived : List Datagram) (handed : List Handed) → IsSafe catalogue id batches given arrived handed o.disk o.disk' → IsSafe catalogue id batches given arrived handed disk o.disk'
+  safe : (batches : List (List LogRecord)) (given : ℕ) (arrived : List Datagram) (handed : List Dispatch) → IsSafe catalogue id batches given arrived handed o.disk o.disk' → IsSafe catalogue id batches given arrived handed disk o.disk'
   safe batches given arrived handed s = record {
     sure = s.sure;
     few = s.few;

@@ -18,7 +18,7 @@ use Rattle.vp_runs.specs.Keeping.{durable_in}
 use Rattle.vp_audit.specs.Audited.{Parts}
 use Rattle.vp_top.specs.Audits.{AreParts, AuditGives, ComesTo, IsPart, KeepsLogs, StopsBy}
 use Rattle.vp_base.specs.declared.memory.NoMemory.{NoMemory}
-use Rattle.vp_status.specs.declared.status.Defined.{Defined}
+use Rattle.vp_status.specs.declared.status.RunOutput.{RunOutput}
 use Rattle.vp_status.specs.declared.status.Status.{Status}
 
 -- ---- calls that change no log
@@ -82,7 +82,7 @@ module _ (catalogue : Catalogue) (logs : List (ℕ × List ℕ)) (i : ℕ) (log 
   comes : ComesTo catalogue old logs log
   comes = record {
     before = take i logs;
-    behind = drop (i + 1) logs;
+    following = drop (i + 1) logs;
     all = sym (take-append-drop i logs) ∙ ap (λ (l : List (ℕ × List ℕ)). take i logs ++ l) (drop_more logs i log lt ∙ ap (λ (l : ℕ × List ℕ). l ∷ drop (i + 1) logs) (sym at));
     parts = parts;
     read = are;
@@ -109,7 +109,7 @@ module _ (catalogue : Catalogue) (logs : List (ℕ × List ℕ)) (i : ℕ) (log 
 -- ---- what is defined for them
 
 module _ (catalogue : Catalogue) (logs : List (ℕ × List ℕ)) (old new : DiskState) where
-  pub gives_so : (end : Status) (text : List ℕ) (r : Result Defined NoMemory) → AuditGives catalogue logs old new end text → IfOk r (λ it. it.status ≡ end) → IfOk r (λ it. it.text.items ≡ text)
+  pub gives_so : (end : Status) (text : List ℕ) (r : Result RunOutput NoMemory) → AuditGives catalogue logs old new end text → IfOk r (λ it. it.status ≡ end) → IfOk r (λ it. it.text.items ≡ text)
       → IfOk r (λ it. AuditGives catalogue logs old new it.status it.text.items)
   gives_so end text (Ok it) g ends texts =
       subst (λ (s : Status). AuditGives catalogue logs old new s it.text.items) (sym ends) (subst (λ (t : List ℕ). AuditGives catalogue logs old new end t) (sym texts) g)

@@ -29,11 +29,11 @@ rose_later : (a b c : ℕ) → a ≤ b → Rose b c → Rose a c
 rose_later a b c h r = omega (arith, h, r)
 
 -- what is printed after nothing
-appends_behind : (a b c : Option (List ℕ)) (line : List ℕ) → Appends a b [] → Appends b c line → Appends a c line
-appends_behind None b c line h k = tt
-appends_behind (Some xs) None c line h k = absurd h
-appends_behind (Some xs) (Some ys) None line h k = absurd k
-appends_behind (Some xs) (Some ys) (Some zs) line h k = k ∙ ap (λ (l : List ℕ). l ++ line) (h ∙ append-nil xs)
+appends_after : (a b c : Option (List ℕ)) (line : List ℕ) → Appends a b [] → Appends b c line → Appends a c line
+appends_after None b c line h k = tt
+appends_after (Some xs) None c line h k = absurd h
+appends_after (Some xs) (Some ys) None line h k = absurd k
+appends_after (Some xs) (Some ys) (Some zs) line h k = k ∙ ap (λ (l : List ℕ). l ++ line) (h ∙ append-nil xs)
 
 module _ (catalogue : Catalogue) (id turns : ℕ) (name : List ℕ) (o : Outside) (calm : IsCalm o) where
   abbrev Decided : Status → Type 0
@@ -53,11 +53,11 @@ module _ (catalogue : Catalogue) (id turns : ℕ) (name : List ℕ) (o : Outside
       half = half;
       at = at;
       bad = s.1;
-      printed = appends_behind o.sink.held sink.held o.sink'.held (bad_log_text half at) s.0.idle.did.writes printed;
+      printed = appends_after o.sink.held sink.held o.sink'.held (bad_log_text half at) s.0.idle.did.writes printed;
     }
     served_decided (ends.LivesSpent life) s printed same = record {
       spent = subst (λ n. IsSpent catalogue id n (attached_to name o.disk)) s.1.0 s.1;
-      printed = appends_behind o.sink.held sink.held o.sink'.held lives_spent_text s.0.idle.did.writes printed;
+      printed = appends_after o.sink.held sink.held o.sink'.held lives_spent_text s.0.idle.did.writes printed;
     }
     served_decided ends.NoMemory s printed same = tt
 

@@ -19,7 +19,7 @@ use Rattle.vp_outside.specs.Input.{SourceState, Took}
 use Rattle.vp_outside.specs.Output.{SinkState}
 use Rattle.vp_serving.specs.Serving.{Outside}
 use Rattle.vp_status.specs.Printing.{Prints}
-use Rattle.vp_status.specs.declared.status.Defined.{Defined}
+use Rattle.vp_status.specs.declared.status.RunOutput.{RunOutput}
 use Rattle.vp_status.specs.declared.status.Status.{Status}
 use Rattle.vp_status.specs.declared.status.Status.TheVariants as status
 use Rattle.vp_words.specs.Commands.{command_of}
@@ -38,7 +38,7 @@ module _ (sink sink' : SinkState) (told : Status) where
   unprinted end text none same = inr (inr (none, rw same (0, omega arith, Appends-nil sink.held), ap (λ (s : SinkState). s.faults) same))
 
   -- what is printed of a text that is defined
-  pub line_told : (line : Result Defined NoMemory) (end : Status) (text : List ℕ) → IfOk line (λ it. it.status ≡ end) → IfOk line (λ it. it.text.items ≡ text) → PrintsDefined line sink sink' told → Prints end text sink sink' told
+  pub line_told : (line : Result RunOutput NoMemory) (end : Status) (text : List ℕ) → IfOk line (λ it. it.status ≡ end) → IfOk line (λ it. it.text.items ≡ text) → PrintsDefined line sink sink' told → Prints end text sink sink' told
   line_told (Ok it) end text s t p = subst (λ (e : Status). Prints e text sink sink' told) s (subst (λ (x : List ℕ). Prints it.status x sink sink' told) t p)
   line_told (Err e) end text s t p = unprinted end text p.0 p.1
 
@@ -49,7 +49,7 @@ module _ (sink sink' : SinkState) (told : Status) where
   refused_told _ _ text t p = absurd t
 
   -- A head that is refused is told as a catalogue is.
-  pub refusal_told : (fault : CatalogFault) (line : Result Defined NoMemory) → IfOk line (λ it. TellsFault fault it.status it.text.items) → PrintsDefined line sink sink' told
+  pub refusal_told : (fault : CatalogFault) (line : Result RunOutput NoMemory) → IfOk line (λ it. TellsFault fault it.status it.text.items) → PrintsDefined line sink sink' told
       → PrintsLine (status_of (end_of_catalog fault)) (last_line (end_of_catalog fault)) sink sink' told
   refusal_told fault (Ok it) t p = refused_told fault it.status it.text.items t p
   refusal_told (faults.BadLine line at) (Err e) t p = unprinted status.BadLine _ p.0 p.1

@@ -39,8 +39,8 @@ module _ (catalogue : Catalogue) (disk : DiskState) where
   -- Those before this log were read.
   pub record ComesTo (logs : List (ℕ × List ℕ)) (log : ℕ × List ℕ) : Type 0 where
     pub before : List (ℕ × List ℕ)
-    pub behind : List (ℕ × List ℕ)
-    pub all : logs ≡ before ++ log ∷ behind
+    pub following : List (ℕ × List ℕ)
+    pub all : logs ≡ before ++ log ∷ following
     pub parts : Parts
     pub read : AreParts before parts
 

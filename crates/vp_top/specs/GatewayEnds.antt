@@ -7,7 +7,7 @@ use Rattle.vp_gateway.specs.declared.end.GateEnd.TheVariants as ends
 use Rattle.vp_status.specs.Lines.{link_fault_text}
 use Rattle.vp_status.specs.Printing.{Prints}
 use Rattle.vp_status.specs.Refused.{bad_line_text, twice_text, limit_text}
-use Rattle.vp_status.specs.declared.status.Defined.{Defined}
+use Rattle.vp_status.specs.declared.status.RunOutput.{RunOutput}
 use Rattle.vp_status.specs.declared.status.Status.{Status}
 use Rattle.vp_status.specs.declared.status.Status.TheVariants as status
 use Rattle.vp_top.specs.Program.{usage_text}
@@ -43,7 +43,7 @@ PrintsLine end None sink sink' told = (told ≡ end) × (sink' ≡ sink)
 PrintsLine end (Some text) sink sink' told = Prints end text sink sink' told
 
 -- What was defined was printed, or nothing was where memory was missing.
-abbrev pub PrintsDefined : {E : Type 0} → Result Defined E → SinkState → SinkState → Status → Type 0
+abbrev pub PrintsDefined : {E : Type 0} → Result RunOutput E → SinkState → SinkState → Status → Type 0
 PrintsDefined (Ok it) sink sink' told = Prints it.status it.text.items sink sink' told
 PrintsDefined (Err e) sink sink' told = (told ≡ status.NoMemory) × (sink' ≡ sink)
 

@@ -9,11 +9,11 @@ use Rattle.vp_top.specs.Ends.{Defines, IsAudit, IsNode}
 use Rattle.vp_top.specs.Program.{IsAnswer, IsCatalogueOf, IsNowhere, IsPlaced, LacksSites}
 use Rattle.vp_top.specs.declared.plan.Plan.{Plan}
 use Rattle.vp_top.specs.declared.plan.Plan.TheVariants as plans
-use Rattle.vp_top.specs.declared.plan.Found.{Found}
-use Rattle.vp_top.specs.declared.plan.Found.TheVariants as founds
+use Rattle.vp_top.specs.declared.plan.SiteLookup.{SiteLookup}
+use Rattle.vp_top.specs.declared.plan.SiteLookup.TheVariants as founds
 
 -- the site in the catalogue, or what is printed if there is none
-abbrev pub IsFound : List ℕ → ℕ → Found → Type 0
+abbrev pub IsFound : List ℕ → ℕ → SiteLookup → Type 0
 IsFound bytes site (founds.At catalogue port) = IsPlaced bytes catalogue site port
 IsFound bytes site (founds.Nowhere told) = IsNowhere bytes site told.status told.text.items
 

@@ -10,7 +10,7 @@ use std::alloc::Global;
 use vp_base::{Answer, Call, NoMemory, SiteId};
 use vp_client::{AskFault, ask};
 use vp_outside::Link;
-use vp_status::{Defined, Status};
+use vp_status::{RunOutput, Status};
 use vp_trace::print_answer;
 
 /// Binds the client's own port, sends the call to the site's port, and makes the line of the answer, which may be any reply. It waits
@@ -23,39 +23,39 @@ pub fn call_site<L: Link>(
     site: SiteId,
     call: &Call,
     turns: u64,
-) -> Result<Defined, NoMemory>
+) -> Result<RunOutput, NoMemory>
     requires fresh { (L.state link.old).asked ≡ None }
     requires call { IsCall call.now }
     ensures gives { IfOk result (λ it. ClientGives own turns port site call.now (L.state link.old) (L.state link.new) it.status it.text.items) }
     ensures no_memory { OnErr result (ClientLeaves own turns port site call.now (L.state link.old) (L.state link.new)) }
 {
     let Ok(()) = link.bind(own) else {
-        return Defined::link_fault(alloc);
+        return RunOutput::link_fault(alloc);
     };
     told(alloc, ask(alloc, link, port, site, call, turns))
 }
 
 /// Makes the status and the line of the answer, or of its fault.
-fn told(alloc: Global, answered: Result<Answer, AskFault>) -> Result<Defined, NoMemory>
+fn told(alloc: Global, answered: Result<Answer, AskFault>) -> Result<RunOutput, NoMemory>
     ensures { IfOk result (λ it. Tells answered it.status it.text.items) }
 {
     match answered {
         Ok(answer) => answer_line(alloc, &answer),
-        Err(AskFault::NoAnswer { .. }) => Defined::new(alloc, Status::NoAnswer, b"no answer\n"),
-        Err(AskFault::LinkFault) => Defined::link_fault(alloc),
+        Err(AskFault::NoAnswer { .. }) => RunOutput::new(alloc, Status::NoAnswer, b"no answer\n"),
+        Err(AskFault::LinkFault) => RunOutput::link_fault(alloc),
         Err(AskFault::NoMemory) => Err(NoMemory),
     }
 }
 
 /// Makes the line of an answer.
-fn answer_line(alloc: Global, answer: &Answer) -> Result<Defined, NoMemory>
+fn answer_line(alloc: Global, answer: &Answer) -> Result<RunOutput, NoMemory>
     ensures status { IfOk result (λ it. it.status ≡ IsDone) }
     ensures text { IfOk result (λ it. it.text.items ≡ answer_text answer.now ++ 10 ∷ []) }
 {
     let mut text = Vec::new(alloc);
     print_answer(answer, &mut text)?;
     text.push(b'\n')?;
-    Ok(Defined {
+    Ok(RunOutput {
         status: Status::Done,
         text,
     })

@@ -19,7 +19,7 @@ use vp_catalog::Catalog;
 use vp_node::fold_batches;
 use vp_outside::{Disk, OutFault};
 use vp_stable::{Log, LogFault};
-use vp_status::{Defined, Status};
+use vp_status::{RunOutput, Status};
 use vp_words::Logs;
 
 /// Reads the logs, which are attached one after the other, and makes the report on what their sites hold. No log changes.
@@ -27,7 +27,7 @@ pub fn audit_logs<D: Disk>(
     catalog: &Catalog,
     logs: &Logs,
     disk: &mut D,
-) -> Result<Defined, NoMemory>
+) -> Result<RunOutput, NoMemory>
     ensures gives { IfOk result (λ it. AuditGives catalog.now logs.now (D.state disk.old) (D.state disk.new) it.status it.text.items) }
     ensures kept { KeepsLogs (D.state disk.old) (D.state disk.new) }
 {
@@ -36,7 +36,7 @@ pub fn audit_logs<D: Disk>(
     match read_parts(catalog, logs.as_slice(), disk) {
         Ok(parts) => reported(catalog, &parts),
         Err(LogFault::BadLog { half, at }) => bad_log(alloc, half, at),
-        Err(LogFault::DiskFault) => Defined::new(alloc, Status::DiskFault, b"disk fault\n"),
+        Err(LogFault::DiskFault) => RunOutput::new(alloc, Status::DiskFault, b"disk fault\n"),
         Err(LogFault::NoMemory) => Err(NoMemory),
     }
 }
@@ -73,27 +73,27 @@ fn peek<D: Disk>(alloc: Global, name: &Word, disk: &mut D) -> Result<Batches, Lo
     }
 }
 
-fn bad_log(alloc: Global, half: u8, at: u64) -> Result<Defined, NoMemory>
+fn bad_log(alloc: Global, half: u8, at: u64) -> Result<RunOutput, NoMemory>
     ensures status { IfOk result (λ it. it.status ≡ status.BadLog) }
     ensures text { IfOk result (λ it. it.text.items ≡ bad_log_text half at) }
 {
     let mut text = Vec::new(alloc);
     print_bad_log(half, at, &mut text)?;
-    Ok(Defined {
+    Ok(RunOutput {
         status: Status::BadLog,
         text,
     })
 }
 
 /// Makes the report on the durable parts of the sites.
-fn reported(catalog: &Catalog, parts: &Parts) -> Result<Defined, NoMemory>
+fn reported(catalog: &Catalog, parts: &Parts) -> Result<RunOutput, NoMemory>
     ensures status { IfOk result (λ it. it.status ≡ status.Done) }
     ensures text { IfOk result (λ it. it.text.items ≡ report_text catalog.now (audited catalog.now parts.now)) }
 {
     let report = audit(catalog, parts)?;
     let mut text = Vec::new(catalog.sites().allocator());
     print_report(catalog, &report, &mut text)?;
-    Ok(Defined {
+    Ok(RunOutput {
         status: Status::Done,
         text,
     })

@@ -10,7 +10,7 @@ use vp_base::NoMemory;
 use vp_catalog::CatalogFault;
 use vp_gateway::{GateEnd, serve};
 use vp_outside::{Link, Sink, Source};
-use vp_status::{Defined, Status};
+use vp_status::{RunOutput, Status};
 
 /// Answers the session of the source as this gateway, and prints why it ended after the answers.
 pub fn serve_session<S: Source, K: Sink, L: Link>(
@@ -53,13 +53,13 @@ fn tell<K: Sink>(alloc: Global, sink: &mut K, end: GateEnd) -> Status
         GateEnd::NoSite => print_line(sink, usage(alloc)),
         GateEnd::ReadFault => Status::SourceFault,
         GateEnd::WriteFault => Status::SinkFault,
-        GateEnd::LinkFault => print_line(sink, Defined::link_fault(alloc)),
+        GateEnd::LinkFault => print_line(sink, RunOutput::link_fault(alloc)),
         GateEnd::Limit => print_line(sink, too_long(alloc)),
         GateEnd::NoMemory => Status::NoMemory,
     }
 }
 
-fn print_line<K: Sink>(sink: &mut K, line: Result<Defined, NoMemory>) -> Status
+fn print_line<K: Sink>(sink: &mut K, line: Result<RunOutput, NoMemory>) -> Status
     ensures { PrintsDefined line (K.state sink.old) (K.state sink.new) result }
 {
     match line {

@@ -13,7 +13,7 @@ use vp_base::{NoMemory, SiteId, Word};
 use vp_catalog::Catalog;
 use vp_outside::{Disk, Link, OutFault, Sink};
 use vp_serving::{End, serve};
-use vp_status::{Defined, Status};
+use vp_status::{RunOutput, Status};
 use vp_text::print_number;
 
 /// Attaches the log of this name, serves the node on it for at most `turns` datagrams, and prints why it ended after its recording.
@@ -48,7 +48,7 @@ fn tell<K: Sink>(alloc: Global, sink: &mut K, end: End) -> Status
     ensures { Prints (status_of end) (last_line end) (K.state sink.old) (K.state sink.new) result }
 {
     match last_line(alloc, end) {
-        Ok(text) => Defined {
+        Ok(text) => RunOutput {
             status: status_of(end),
             text,
         }

@@ -13,14 +13,14 @@ use vp_base::{NoMemory, SiteId, Word};
 use vp_catalog::{Catalog, CatalogFault};
 use vp_outside::Link;
 use vp_replay::{checked, generated, logged, replayed, soaked};
-use vp_status::{Defined, Status, print_bad_line, print_limit, print_twice};
+use vp_status::{RunOutput, Status, print_bad_line, print_limit, print_twice};
 use vp_words::{Command, Logs};
 
 /// What the program is to do once its words are tested and its input is read.
 #[derive(Drop)]
 pub enum Plan {
     /// Print a text.
-    Print(Defined),
+    Print(RunOutput),
     /// Serve a node on the log of this name.
     Serve {
         catalog: Catalog,
@@ -47,11 +47,11 @@ pub struct Gateway {
 
 /// The site of a command in the catalogue that its input is.
 #[derive(Drop)]
-enum Found {
+enum SiteLookup {
     /// The catalogue has it, with this port.
     At { catalog: Catalog, port: u16 },
     /// The input is no catalogue, or has no such site; this is printed then.
-    Nowhere(Defined),
+    Nowhere(RunOutput),
 }
 
 /// Makes the plan for the command and its input. A client's call and a signal are done already: their plan is to print the result.
@@ -74,13 +74,13 @@ pub fn plan_of<L: Link>(
         Command::Soak { seed, count } => Ok(Plan::Print(soaked(alloc, seed, count)?)),
         Command::Logs => Ok(Plan::Print(logged(alloc, input)?)),
         Command::Node { site, log, turns } => match find(alloc, input, site)? {
-            Found::At { catalog, .. } => Ok(Plan::Serve {
+            SiteLookup::At { catalog, .. } => Ok(Plan::Serve {
                 catalog,
                 site,
                 log,
                 turns,
             }),
-            Found::Nowhere(told) => Ok(Plan::Print(told)),
+            SiteLookup::Nowhere(told) => Ok(Plan::Print(told)),
         },
         Command::Client {
             port: own,
@@ -88,16 +88,16 @@ pub fn plan_of<L: Link>(
             site,
             call,
         } => match find(alloc, input, site)? {
-            Found::At { port, .. } => Ok(Plan::Print(call_site(
+            SiteLookup::At { port, .. } => Ok(Plan::Print(call_site(
                 alloc, link, own, port, site, &call, turns,
             )?)),
-            Found::Nowhere(told) => Ok(Plan::Print(told)),
+            SiteLookup::Nowhere(told) => Ok(Plan::Print(told)),
         },
         Command::Signal { site, signal } => match find(alloc, input, site)? {
-            Found::At { port, .. } => Ok(Plan::Print(signal_site(
+            SiteLookup::At { port, .. } => Ok(Plan::Print(signal_site(
                 alloc, link, port, site, signal,
             )?)),
-            Found::Nowhere(told) => Ok(Plan::Print(told)),
+            SiteLookup::Nowhere(told) => Ok(Plan::Print(told)),
         },
         Command::Audit { logs } => audit_plan(alloc, input, logs),
         Command::Gateway { port, turns, site } => {
@@ -129,20 +129,20 @@ fn has_all(catalog: &Catalog, logs: &[(SiteId, Word)]) -> bool
 }
 
 /// Reads the catalogue and finds the site in it.
-fn find(alloc: Global, input: &[u8], site: SiteId) -> Result<Found, NoMemory>
+fn find(alloc: Global, input: &[u8], site: SiteId) -> Result<SiteLookup, NoMemory>
     ensures { IfOk result (IsFound input.now site) }
 {
     match Catalog::read(alloc, input) {
         Ok(catalog) => match catalog.port(site) {
-            Some(port) => Ok(Found::At { catalog, port }),
-            None => Ok(Found::Nowhere(usage(alloc)?)),
+            Some(port) => Ok(SiteLookup::At { catalog, port }),
+            None => Ok(SiteLookup::Nowhere(usage(alloc)?)),
         },
-        Err(fault) => Ok(Found::Nowhere(refused(alloc, fault)?)),
+        Err(fault) => Ok(SiteLookup::Nowhere(refused(alloc, fault)?)),
     }
 }
 
 /// What is told of an input that is no catalogue.
-pub fn refused(alloc: Global, fault: CatalogFault) -> Result<Defined, NoMemory>
+pub fn refused(alloc: Global, fault: CatalogFault) -> Result<RunOutput, NoMemory>
     ensures { IfOk result (λ it. TellsFault fault it.status it.text.items) }
 {
     let mut text = Vec::new(alloc);
@@ -161,15 +161,15 @@ pub fn refused(alloc: Global, fault: CatalogFault) -> Result<Defined, NoMemory>
         }
         CatalogFault::NoMemory => return Err(NoMemory),
     };
-    Ok(Defined { status, text })
+    Ok(RunOutput { status, text })
 }
 
 /// Makes the status and the line for words that are no command, and for a site that the catalogue lacks.
-pub fn usage(alloc: Global) -> Result<Defined, NoMemory>
+pub fn usage(alloc: Global) -> Result<RunOutput, NoMemory>
     ensures status { IfOk result (λ it. it.status ≡ status.Usage) }
     ensures text { IfOk result (λ it. it.text.items ≡ usage_text) }
 {
-    Defined::new(
+    RunOutput::new(
         alloc,
         Status::Usage,
         b"usage: vpdb replay|check|node|client|tick|probe|stop|generate|soak|logs|audit|gateway\n",
@@ -177,9 +177,9 @@ pub fn usage(alloc: Global) -> Result<Defined, NoMemory>
 }
 
 /// Makes the status and the line for an input that is too long.
-pub fn too_long(alloc: Global) -> Result<Defined, NoMemory>
+pub fn too_long(alloc: Global) -> Result<RunOutput, NoMemory>
     ensures status { IfOk result (λ it. it.status ≡ status.Limit) }
     ensures text { IfOk result (λ it. it.text.items ≡ codes "limit bytes 16777216\n") }
 {
-    Defined::new(alloc, Status::Limit, b"limit bytes 16777216\n")
+    RunOutput::new(alloc, Status::Limit, b"limit bytes 16777216\n")
 }

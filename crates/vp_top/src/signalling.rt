@@ -9,7 +9,7 @@ use bytes::BytesMut;
 use std::alloc::Global;
 use vp_base::{NoMemory, SiteId};
 use vp_outside::{Link, OutFault};
-use vp_status::{Defined, Status};
+use vp_status::{RunOutput, Status};
 use vp_wire::{Body, Frame, encode};
 use vp_words::Signal;
 
@@ -30,18 +30,18 @@ pub fn signal_site<L: Link>(
     port: u16,
     site: SiteId,
     signal: Signal,
-) -> Result<Defined, NoMemory>
+) -> Result<RunOutput, NoMemory>
     requires fresh { (L.state link.old).asked ≡ None }
     ensures gives { IfOk result (λ it. SignalGives port site signal (L.state link.old) (L.state link.new) it.status it.text.items) }
     ensures no_memory { OnErr result (SignalLeaves port site signal (L.state link.old) (L.state link.new)) }
     ensures none_came { GivesNone (L.state link.old) (L.state link.new) }
 {
     let Ok(()) = link.bind(0) else {
-        return Defined::link_fault(alloc);
+        return RunOutput::link_fault(alloc);
     };
     match send(alloc, link, port, site, signal) {
-        Ok(()) => Defined::new(alloc, Status::Done, b""),
-        Err(OutFault::Failed) => Defined::link_fault(alloc),
+        Ok(()) => RunOutput::new(alloc, Status::Done, b""),
+        Err(OutFault::Failed) => RunOutput::link_fault(alloc),
         Err(OutFault::NoMemory) => Err(NoMemory),
     }
 }

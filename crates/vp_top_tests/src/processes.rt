@@ -1,7 +1,7 @@
 //! A test starts its own program again, in which another test does what the words say.
 
 use std::process::Abort;
-use vp_adapters::{ClosedStreams, LogFiles, Socket, words_behind};
+use vp_adapters::{ClosedStreams, LogFiles, Socket, words_after};
 use vp_base::Word;
 use vp_outside::{Reading, Writing};
 use vp_processes::{first_unheld, say_status, started};
@@ -9,7 +9,7 @@ use vp_status::Status;
 use vp_top::run;
 
 /// The test that does what the words after its name say.
-const BY_WORDS: &str = "processes::does_what_the_words_behind_its_name_say";
+const BY_WORDS: &str = "processes::does_what_the_words_after_its_name_say";
 
 /// The status, as `main` of the program makes it.
 fn status(rt: HostRuntime, words: &[Word]) -> Status {
@@ -31,8 +31,8 @@ fn status(rt: HostRuntime, words: &[Word]) -> Status {
 
 /// With no words it does nothing. Else the first word names the file to which it writes the status of the others.
 #[test]
-fn does_what_the_words_behind_its_name_say(rt: HostRuntime) {
-    let words = words_behind(&rt, 3).expect(&rt, "memory");
+fn does_what_the_words_after_its_name_say(rt: HostRuntime) {
+    let words = words_after(&rt, 3).expect(&rt, "memory");
     if !words.is_empty() {
         say_status(rt, status(rt, &words).code()).expect(&rt, "a file");
     }

@@ -135,7 +135,7 @@ pub fn print_value(out: &mut Vec<u8>, value: &Value) -> Result<(), NoMemory>
 }
 
 /// Appends a space and the name of a record; only the space where the catalogue has no record at that place.
-pub fn print_record_behind(out: &mut Vec<u8>, catalog: &Catalog, rec: RecId) -> Result<(), NoMemory>
+pub fn print_record_after(out: &mut Vec<u8>, catalog: &Catalog, rec: RecId) -> Result<(), NoMemory>
     ensures { Appends result out.old.items (32 ∷ name_of catalog.now rec) out.new.items }
 {
     out.push(b' ')?;

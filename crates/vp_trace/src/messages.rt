@@ -8,7 +8,7 @@ ghost use Rattle.vp_model.specs.Texts.Fields.{view_text, txn_text, call_name_tex
 ghost use Rattle.vp_model.specs.Texts.Messages.{message_text, request_text, read_text, write_text, obstacle_text, outcome_text};
 
 use crate::fields::{
-    print_count, print_held, print_numbered, print_owner, print_record, print_record_behind,
+    print_count, print_held, print_numbered, print_owner, print_record, print_record_after,
     print_sites, print_txn, print_value, print_view, print_word,
 };
 use vp_base::{CallNo, Message, NoMemory, Obstacle, RecId, SiteId, Stored, TxnId, Value, ViewId};
@@ -58,7 +58,7 @@ fn print_lock_request(
     ensures { Appends result out.old.items (request_text word.now txn.now view.now number ++ 32 ∷ name_of catalog.now rec) out.new.items }
 {
     print_request(out, word, txn, view, number)?;
-    print_record_behind(out, catalog, rec)
+    print_record_after(out, catalog, rec)
 }
 
 fn print_read_answer(
@@ -153,7 +153,7 @@ fn print_refresh_request(
     ensures { Appends result out.old.items (codes "refresh-request " ++ (view_text view.now ++ 32 ∷ name_of catalog.now rec)) out.new.items }
 {
     print_view(out, b"refresh-request ", view)?;
-    print_record_behind(out, catalog, rec)
+    print_record_after(out, catalog, rec)
 }
 
 fn print_copy(
@@ -164,7 +164,7 @@ fn print_copy(
 ) -> Result<(), NoMemory>
     ensures { Appends result out.old.items (32 ∷ (name_of catalog.now rec ++ 32 ∷ (stored.now.value ++ 32 ∷ view_text stored.now.date))) out.new.items }
 {
-    print_record_behind(out, catalog, rec)?;
+    print_record_after(out, catalog, rec)?;
     print_value(out, &stored.value)?;
     out.push(b' ')?;
     stored.date.print(out)

@@ -152,7 +152,7 @@ module _ (ns : List ℕ) (r : AreRising ns) (number middle : ℕ) (within : midd
   pub upper_half : number ≤ get_or ns middle 0 → (k : ℕ) → middle ≤ k → k < length ns → number ≤ get_or ns k 0
   upper_half l k h w =
       elim (cases_lt middle k) [
-        | inl behind ↦ omega (arith, l, rises ns r middle k behind w)
+        | inl following ↦ omega (arith, l, rises ns r middle k following w)
         | inr first ↦ let same : k ≡ middle = omega arith in rw same l
       ]
 
@@ -231,7 +231,7 @@ place_of_one live r place t e =
       within = omega (arith, within);
       below = λ k l. omega (arith, here, rises (numbers live) r k place l within);
       above = λ k l w. elim (cases_lt place k) [
-        | inl behind ↦ omega (arith, here, rises (numbers live) r place k behind w)
+        | inl following ↦ omega (arith, here, rises (numbers live) r place k following w)
         | inr before ↦ let same : k ≡ place = omega arith in rw (same, here) (omega arith)
       ];
     }

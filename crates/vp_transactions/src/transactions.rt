@@ -25,7 +25,7 @@ use vp_base::{
 };
 use vp_catalog::has_site;
 use vp_lists::OfTxn;
-use vp_records::Decided;
+use vp_records::DecisionTable;
 
 /// The live transactions, the ends of those that have ended, and the decisions that some site has not acknowledged. `seq` is the
 /// number of the transaction that began last, so no live one has a higher number.
@@ -34,7 +34,7 @@ pub struct Transactions {
     pub seq: u32,
     pub live: LiveTxns,
     pub finished: VecDeque<Finished>,
-    pub decisions: Decided,
+    pub decisions: DecisionTable,
 }
 
 impl Model for Transactions {
@@ -118,7 +118,7 @@ impl Transactions {
             seq: 0,
             live: LiveTxns::new(alloc),
             finished: VecDeque::new(alloc),
-            decisions: Decided::new(alloc),
+            decisions: DecisionTable::new(alloc),
         }
     }
 

@@ -59,8 +59,8 @@ abbrev IsBodyOf : ℕ → ℕ → FrameKind → Body → List ℕ → Type 0
 IsBodyOf from to k body text = (kind_of_body body ≡ k) × (text ≡ fields body) × IsBody from to body
 
 -- codes of the same kind, with the same fields after them
-coded_behind : {K : Type 0} (code : K → ℕ) (a b : K) (s t : List ℕ) → a ≡ b → s ≡ t → code a ∷ s ≡ code b ∷ t
-coded_behind code a b s t kinds fields = rw (kinds, fields) refl
+coded_after : {K : Type 0} (code : K → ℕ) (a b : K) (s t : List ℕ) → a ≡ b → s ≡ t → code a ∷ s ≡ code b ∷ t
+coded_after code a b s t kinds fields = rw (kinds, fields) refl
 
 body_to : (from to : ℕ) (k : FrameKind) (b : Body) (t : List ℕ) → (least_from k ≤ from) × (from ≤ most_from k) → (least_to k ≤ to) × (to ≤ most_to k) → BodyOf k b t → IsBodyOf from to k b t
 body_to from to (kinds.Message kind) b t f g h =
@@ -68,10 +68,10 @@ body_to from to (kinds.Message kind) b t f g h =
     subst (λ (b : Body). IsBodyOf from to (kinds.Message kind) b t) (sym h.is) (ap (λ (k : MessageKind). kinds.Message k) m.0, m.1, (f, g, m.2))
 body_to from to kinds.Call b t f g h =
     let m = call_to h.first h.after.from h.back h.after.spelled in
-    subst (λ (b : Body). IsBodyOf from to kinds.Call b t) (sym h.after.is) (refl, h.parts ∙ ap (λ (x : List ℕ). x ++ h.back) h.before ∙ coded_behind call_code h.first (kind_of_call h.after.from) h.back (call_fields h.after.from) (sym m.0) m.1, (omega (arith, f.1), g, m.2))
+    subst (λ (b : Body). IsBodyOf from to kinds.Call b t) (sym h.after.is) (refl, h.parts ∙ ap (λ (x : List ℕ). x ++ h.back) h.before ∙ coded_after call_code h.first (kind_of_call h.after.from) h.back (call_fields h.after.from) (sym m.0) m.1, (omega (arith, f.1), g, m.2))
 body_to from to kinds.Reply b t f g h =
     let m = answer_to h.first h.after.from h.back h.after.spelled in
-    subst (λ (b : Body). IsBodyOf from to kinds.Reply b t) (sym h.after.is) (refl, h.parts ∙ ap (λ (x : List ℕ). x ++ h.back) h.before ∙ coded_behind answer_code h.first (kind_of_answer h.after.from) h.back (answer_fields h.after.from) (sym m.0) m.1, (f, omega (arith, g.1), m.2))
+    subst (λ (b : Body). IsBodyOf from to kinds.Reply b t) (sym h.after.is) (refl, h.parts ∙ ap (λ (x : List ℕ). x ++ h.back) h.before ∙ coded_after answer_code h.first (kind_of_answer h.after.from) h.back (answer_fields h.after.from) (sym m.0) m.1, (f, omega (arith, g.1), m.2))
 body_to from to kinds.Tick b t f g h = subst (λ (b : Body). IsBodyOf from to kinds.Tick b t) (sym h.1) (refl, h.0, (omega (arith, f.1), g))
 body_to from to kinds.ProbeNow b t f g h = subst (λ (b : Body). IsBodyOf from to kinds.ProbeNow b t) (sym h.1) (refl, h.0, (omega (arith, f.1), g))
 body_to from to kinds.Stop b t f g h = subst (λ (b : Body). IsBodyOf from to kinds.Stop b t) (sym h.1) (refl, h.0, (omega (arith, f.1), g))

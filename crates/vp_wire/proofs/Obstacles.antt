@@ -16,27 +16,27 @@ use Rattle.vp_bytes.proofs.Singles.{view_free}
 abbrev pub IsObstacleBytes : Obstacle → List ℕ → Type 0
 IsObstacleBytes = Spelled obstacle_bytes IsObstacle
 
-abbrev Behind : Bool → Obstacle → List ℕ → Type 0
-Behind true = Made IsOwnerBytes (λ who. obstacle.Held who)
-Behind false = Made IsMaybeViewBytes (λ now. obstacle.OtherView now)
+abbrev Following : Bool → Obstacle → List ℕ → Type 0
+Following true = Made IsOwnerBytes (λ who. obstacle.Held who)
+Following false = Made IsMaybeViewBytes (λ now. obstacle.OtherView now)
 
-behind_exact : (held : Bool) → Exact (Behind held) (λ bytes. cond held (owner_at bytes >>= λ x. Ok (obstacle.Held x.0, x.1)) (maybe_view_at bytes >>= λ x. Ok (obstacle.OtherView x.0, x.1)))
-behind_exact true = made_exact (λ who. obstacle.Held who) owner_exact
-behind_exact false = made_exact (λ now. obstacle.OtherView now) maybe_view_exact
+after_exact : (held : Bool) → Exact (Following held) (λ bytes. cond held (owner_at bytes >>= λ x. Ok (obstacle.Held x.0, x.1)) (maybe_view_at bytes >>= λ x. Ok (obstacle.OtherView x.0, x.1)))
+after_exact true = made_exact (λ who. obstacle.Held who) owner_exact
+after_exact false = made_exact (λ now. obstacle.OtherView now) maybe_view_exact
 
-obstacle_behind : (mark : ℕ) → 1 ≤ mark → mark ≤ 2 → (o : Obstacle) (t back : List ℕ) → t ≡ mark ∷ back → Behind (mark == 1) o back → IsObstacleBytes o t
-obstacle_behind zero some le o t back e h = absurd (omega (arith, some))
-obstacle_behind (suc zero) some le o t back e h = subst (λ (o : Obstacle). IsObstacleBytes o t) (sym h.is) (record { is = e ∙ ap (λ (b : List ℕ). 1 ∷ b) h.spelled.is; allowed = h.spelled.allowed })
-obstacle_behind (suc (suc zero)) some le o t back e h = subst (λ (o : Obstacle). IsObstacleBytes o t) (sym h.is) (record { is = e ∙ ap (λ (b : List ℕ). 2 ∷ b) h.spelled.is; allowed = h.spelled.allowed })
-obstacle_behind (suc (suc (suc k))) some le o t back e h = absurd (omega (arith, le))
+obstacle_after : (mark : ℕ) → 1 ≤ mark → mark ≤ 2 → (o : Obstacle) (t back : List ℕ) → t ≡ mark ∷ back → Following (mark == 1) o back → IsObstacleBytes o t
+obstacle_after zero some le o t back e h = absurd (omega (arith, some))
+obstacle_after (suc zero) some le o t back e h = subst (λ (o : Obstacle). IsObstacleBytes o t) (sym h.is) (record { is = e ∙ ap (λ (b : List ℕ). 1 ∷ b) h.spelled.is; allowed = h.spelled.allowed })
+obstacle_after (suc (suc zero)) some le o t back e h = subst (λ (o : Obstacle). IsObstacleBytes o t) (sym h.is) (record { is = e ∙ ap (λ (b : List ℕ). 2 ∷ b) h.spelled.is; allowed = h.spelled.allowed })
+obstacle_after (suc (suc (suc k))) some le o t back e h = absurd (omega (arith, le))
 
 abbrev ObstacleParts : Obstacle → List ℕ → Type 0
-ObstacleParts = Then (IsByteOf (within 1 2)) (λ mark. Behind (mark == 1))
+ObstacleParts = Then (IsByteOf (within 1 2)) (λ mark. Following (mark == 1))
 
 obstacle_to : (o : Obstacle) (t : List ℕ) → ObstacleParts o t → IsObstacleBytes o t
 obstacle_to o t h =
     let range = within_to 1 2 h.first h.before.admitted in
-    obstacle_behind h.first range.0 range.1 o t h.back (h.parts ∙ ap (λ (f : List ℕ). f ++ h.back) h.before.is) h.after
+    obstacle_after h.first range.0 range.1 o t h.back (h.parts ∙ ap (λ (f : List ℕ). f ++ h.back) h.before.is) h.after
 
 obstacle_from : (o : Obstacle) (t : List ℕ) → IsObstacleBytes o t → ObstacleParts o t
 obstacle_from (obstacle.Held who) t h = record { first = 1; front = 1 ∷ []; back = _; before = record { is = refl; admitted = refl }; after = record { from = who; spelled = record { is = refl; allowed = h.allowed }; is = refl }; parts = h.is }
@@ -44,11 +44,11 @@ obstacle_from (obstacle.OtherView now) t h = record { first = 2; front = 2 ∷ [
 
 pub obstacle_exact : Exact IsObstacleBytes obstacle_at
 unfolding obstacle_at
-obstacle_exact = exact_as obstacle_to obstacle_from (free_then byte_free (within_exact 1 2 (omega arith)) (λ mark. behind_exact (mark == 1)))
+obstacle_exact = exact_as obstacle_to obstacle_from (free_then byte_free (within_exact 1 2 (omega arith)) (λ mark. after_exact (mark == 1)))
 
-obstacle_behind_free : (held : Bool) → IsFree (Behind held)
-obstacle_behind_free true = made_free owner_free
-obstacle_behind_free false = made_free (maybe_view_free view_free)
+obstacle_after_free : (held : Bool) → IsFree (Following held)
+obstacle_after_free true = made_free owner_free
+obstacle_after_free false = made_free (maybe_view_free view_free)
 
 pub obstacle_free : IsFree IsObstacleBytes
-obstacle_free = free_as obstacle_from (then_free {M = λ mark. Behind (mark == 1)} byte_one byte_free (λ mark. obstacle_behind_free (mark == 1)))
+obstacle_free = free_as obstacle_from (then_free {M = λ mark. Following (mark == 1)} byte_one byte_free (λ mark. obstacle_after_free (mark == 1)))

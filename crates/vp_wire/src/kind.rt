@@ -5,7 +5,7 @@ ghost use Rattle.vp_wire.specs.Kinds.{answer_code, answer_kind, call_code, call_
 
 use crate::frame::Body;
 use vp_base::{Answer, Call, Message};
-use vp_bytes::Coded;
+use vp_bytes::HasCode;
 
 /// A kind of message, as the variants of `Message` are. Its number is its byte in a frame.
 #[derive(Clone, Copy, Drop)]
@@ -83,7 +83,7 @@ impl MessageKind {
     }
 }
 
-impl Coded for MessageKind {
+impl HasCode for MessageKind {
     ghost kind = { message_kind };
 
     fn of(code: u8) -> Option<MessageKind> {
@@ -137,7 +137,7 @@ impl CallKind {
     }
 }
 
-impl Coded for CallKind {
+impl HasCode for CallKind {
     ghost kind = { call_kind };
 
     fn of(code: u8) -> Option<CallKind> {
@@ -227,7 +227,7 @@ impl AnswerKind {
     }
 }
 
-impl Coded for AnswerKind {
+impl HasCode for AnswerKind {
     ghost kind = { answer_kind };
 
     fn of(code: u8) -> Option<AnswerKind> {
@@ -304,7 +304,7 @@ impl FrameKind {
     }
 }
 
-impl Coded for FrameKind {
+impl HasCode for FrameKind {
     ghost kind = { frame_kind };
 
     fn of(code: u8) -> Option<FrameKind> {

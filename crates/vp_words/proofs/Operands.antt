@@ -198,9 +198,9 @@ pub found_next : (s : Shape) (more : Bool) (h : Kept) (p : ℕ) (f : List Text �
     → (word : Text) (words : List Text) → is_utf8 word ≡ true
     → (IsPlain word → level s (within more h p false) (word ∷ words) ≡ option_and_then (λ rest. f (word ∷ rest)) (seen words))
     → level s (within more h p false) (word ∷ words) ≡ option_and_then f (seen (word ∷ words))
-found_next s more h p f none behind word words u before =
+found_next s more h p f none following word words u before =
     elim (look word u) [
-      | dashes e ↦ dashed s more h p word words e ∙ behind words ∙ sym (seen_dashes f word words e)
+      | dashes e ↦ dashed s more h p word words e ∙ following words ∙ sym (seen_dashes f word words e)
       | long w ↦ level_stops s (within more h p false) word words kind.UnknownArgument [] (long_turn s more h p word none w) ∙ sym (ap (option_and_then f) (seen_flag word words w.dashes w.begins w.more))
       | short w ↦ level_stops s (within more h p false) word words kind.UnknownArgument [] (short_turn s more h p word none w) ∙ sym (ap (option_and_then f) (seen_flag word words w.dashes w.begins w.more))
       | plain w ↦ before w ∙ sym (ap (option_and_then f) (seen_plain word words w) ∙ after_map f (λ rest. word ∷ rest) (seen words))
@@ -211,7 +211,7 @@ pub found : (s : Shape) (h : Kept) (p : ℕ) (f : List Text → Option (List Row
     → ((word : Text) (words : List Text) → IsPlain word → list_all is_utf8 words ≡ true → level s (at h p false) (word ∷ words) ≡ option_and_then (λ rest. f (word ∷ rest)) (seen words))
     → (words : List Text) → list_all is_utf8 words ≡ true → level s (at h p false) words ≡ option_and_then f (seen words)
 unfolding level level_kinds seen walk_fault
-found s h p f none behind before [] u = behind []
-found s h p f none behind before (word ∷ words) u =
+found s h p f none following before [] u = following []
+found s h p f none following before (word ∷ words) u =
     let parts = and_parts (is_utf8 word) (list_all is_utf8 words) u in
-    found_next s false h p f none behind word words parts.0 (λ w. before word words w parts.1)
+    found_next s false h p f none following word words parts.0 (λ w. before word words w parts.1)

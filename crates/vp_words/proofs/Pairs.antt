@@ -40,8 +40,8 @@ abbrev pub audit_rows : List Text → Option (List Row)
 audit_rows words = outcome (range_kinds 2 32 (length words)) (audit_row words ∷ [])
 
 -- after the first word and these
-abbrev behind : Text → List Text → Kept
-behind word words = ([], Some (codes "PAIRS", word ∷ words))
+abbrev following : Text → List Text → Kept
+following word words = ([], Some (codes "PAIRS", word ∷ words))
 
 no_flag : HasNoFlag audit_shape
 unfolding clap_on_literals
@@ -55,31 +55,31 @@ counted : (k : Kinds) (rows : List Row) → outcome (or_else (or_else k []) []) 
 counted [] rows = refl
 counted (k ∷ ks) rows = refl
 
-ended : (word : Text) (words : List Text) (t : Bool) → level audit_shape (within true (behind word words) 1 t) [] ≡ audit_rows (word ∷ words)
+ended : (word : Text) (words : List Text) (t : Bool) → level audit_shape (within true (following word words) 1 t) [] ≡ audit_rows (word ∷ words)
 unfolding level level_kinds clap_on_literals
 ended word words t =
     ap (λ (fine : Kinds). outcome (or_else (or_else (range_kinds 2 32 (length (word ∷ words))) fine) []) (audit_row (word ∷ words) ∷ [])) (texts_fine (word ∷ words))
     ∙ counted (range_kinds 2 32 (length (word ∷ words))) (audit_row (word ∷ words) ∷ [])
 
 goes : (first : Text) (words : List Text) (word : Text) (rest : List Text)
-    → level audit_shape (within true (behind first words) 1 true) (word ∷ rest) ≡ level audit_shape (within true (behind first (words ++ word ∷ [])) 1 true) rest
+    → level audit_shape (within true (following first words) 1 true) (word ∷ rest) ≡ level audit_shape (within true (following first (words ++ word ∷ [])) 1 true) rest
 unfolding walked clap_on_literals
-goes first words word rest = level_goes audit_shape (within true (behind first words) 1 true) (within true (behind first (words ++ word ∷ [])) 1 true) word rest refl refl
+goes first words word rest = level_goes audit_shape (within true (following first words) 1 true) (within true (following first (words ++ word ∷ [])) 1 true) word rest refl refl
 
-trailing : (first : Text) (words rest : List Text) → level audit_shape (within true (behind first words) 1 true) rest ≡ audit_rows (first ∷ words ++ rest)
+trailing : (first : Text) (words rest : List Text) → level audit_shape (within true (following first words) 1 true) rest ≡ audit_rows (first ∷ words ++ rest)
 trailing first words [] = ended first words true ∙ ap (λ (l : List Text). audit_rows (first ∷ l)) (sym (append-nil words))
 trailing first words (word ∷ rest) =
     goes first words word rest ∙ trailing first (words ++ word ∷ []) rest ∙ ap (λ (l : List Text). audit_rows (first ∷ l)) (append_assoc words (word ∷ []) rest)
 
 taken : (first : Text) (words rest : List Text) → list_all is_utf8 rest ≡ true
-    → level audit_shape (within true (behind first words) 1 false) rest ≡ option_and_then (λ more. audit_rows (first ∷ words ++ more)) (seen rest)
+    → level audit_shape (within true (following first words) 1 false) rest ≡ option_and_then (λ more. audit_rows (first ∷ words ++ more)) (seen rest)
 unfolding seen walked clap_on_literals
 taken first words [] u = ended first words false ∙ ap (λ (l : List Text). audit_rows (first ∷ l)) (sym (append-nil words))
 taken first words (word ∷ rest) u =
     let parts = and_parts (is_utf8 word) (list_all is_utf8 rest) u in
-    found_next audit_shape true (behind first words) 1 (λ more. audit_rows (first ∷ words ++ more)) no_flag (trailing first words) word rest parts.0
-    (λ w. level_goes audit_shape (within true (behind first words) 1 false) (within true (behind first (words ++ word ∷ [])) 1 false) word rest
-    (plain_turn audit_shape true (behind first words) 1 word w) (plain_walk audit_shape true (behind first words) 1 word w)
+    found_next audit_shape true (following first words) 1 (λ more. audit_rows (first ∷ words ++ more)) no_flag (trailing first words) word rest parts.0
+    (λ w. level_goes audit_shape (within true (following first words) 1 false) (within true (following first (words ++ word ∷ [])) 1 false) word rest
+    (plain_turn audit_shape true (following first words) 1 word w) (plain_walk audit_shape true (following first words) 1 word w)
     ∙ taken first (words ++ word ∷ []) rest parts.1 ∙ moved (seen rest))
   where
     moved : (o : Option (List Text)) → option_and_then (λ more. audit_rows (first ∷ (words ++ word ∷ []) ++ more)) o ≡ option_and_then (λ more. audit_rows (first ∷ words ++ word ∷ more)) o
@@ -89,12 +89,12 @@ taken first words (word ∷ rest) u =
 pub audit_found : (words : List Text) → list_all is_utf8 words ≡ true → level audit_shape (at nothing 1 false) words ≡ option_and_then audit_rows (seen words)
 unfolding level level_kinds walked clap_on_literals
 audit_found = found audit_shape nothing 1 audit_rows no_flag dashed
-    (λ word words w u. level_goes audit_shape (at nothing 1 false) (within true (behind word []) 1 false) word words
+    (λ word words w u. level_goes audit_shape (at nothing 1 false) (within true (following word []) 1 false) word words
     (plain_turn audit_shape false nothing 1 word w) (plain_walk audit_shape false nothing 1 word w) ∙ taken word [] words u)
   where
     dashed : (words : List Text) → level audit_shape (at nothing 1 true) words ≡ audit_rows words
     dashed [] = refl
-    dashed (word ∷ words) = level_goes audit_shape (at nothing 1 true) (within true (behind word []) 1 true) word words refl refl ∙ trailing word [] words
+    dashed (word ∷ words) = level_goes audit_shape (at nothing 1 true) (within true (following word []) 1 true) word words refl refl ∙ trailing word [] words
 
 -- ---- sites and logs in turn
 

@@ -37,8 +37,8 @@ abbrev pub nothing : Kept
 nothing = ([], None)
 
 -- after the operand of the id
-abbrev pub behind : List Row → Text → Text → Kept
-behind rows id word = (rows, Some (id, word ∷ []))
+abbrev pub following : List Row → Text → Text → Kept
+following rows id word = (rows, Some (id, word ∷ []))
 
 -- No more words are taken: what was kept makes the rows.
 record IsEnd (s : Shape) (h : Kept) (p : ℕ) (rows : List Row) : Type 0 where
@@ -57,7 +57,7 @@ record IsNext (s : Shape) (h : Kept) (p : ℕ) (next : Text → Kept) : Type 0 w
 -- A word is taken for each of the ids.
 abbrev Takes : Shape → Kept → ℕ → List Text → List Row → Type 0
 Takes s h p [] rows = IsEnd s h p rows
-Takes s h p (id ∷ ids) rows = IsNext s h p (behind rows id) × ((word : Text) → Takes s (behind rows id word) (p + 1) ids (rows ++ given id word ∷ []))
+Takes s h p (id ∷ ids) rows = IsNext s h p (following rows id) × ((word : Text) → Takes s (following rows id word) (p + 1) ids (rows ++ given id word ∷ []))
 
 trailing : (s : Shape) (h : Kept) (p : ℕ) (ids : List Text) (rows : List Row) → Takes s h p ids rows
     → (words : List Text) → level s (at h p true) words ≡ operand_rows ids rows words
@@ -66,8 +66,8 @@ trailing s h p [] rows t [] = t.ended
 trailing s h p [] rows t (word ∷ words) = level_stops s (at h p true) word words kind.UnknownArgument [] (t.turned word)
 trailing s h p (id ∷ ids) rows t [] = t.0.missing
 trailing s h p (id ∷ ids) rows t (word ∷ words) =
-    level_goes s (at h p true) (at (behind rows id word) (p + 1) true) word words (t.0.turned word) (t.0.went word)
-    ∙ trailing s (behind rows id word) (p + 1) ids (rows ++ given id word ∷ []) (t.1 word) words
+    level_goes s (at h p true) (at (following rows id word) (p + 1) true) word words (t.0.turned word) (t.0.went word)
+    ∙ trailing s (following rows id word) (p + 1) ids (rows ++ given id word ∷ []) (t.1 word) words
 
 taken : (s : Shape) (h : Kept) (p : ℕ) (ids : List Text) (rows : List Row) → HasNoFlag s → Takes s h p ids rows
     → (words : List Text) → list_all is_utf8 words ≡ true → level s (at h p false) words ≡ option_and_then (operand_rows ids rows) (seen words)
@@ -77,8 +77,8 @@ taken s h p [] rows none t =
     (λ word words w u. level_stops s (at h p false) word words kind.UnknownArgument [] (plain_turn s false h p word w ∙ t.stray) ∙ sym (none_after (seen words)))
 taken s h p (id ∷ ids) rows none t =
     found s h p (operand_rows (id ∷ ids) rows) none (trailing s h p (id ∷ ids) rows t)
-    (λ word words w u. level_goes s (at h p false) (at (behind rows id word) (p + 1) false) word words (plain_turn s false h p word w ∙ t.0.fine) (plain_walk s false h p word w ∙ t.0.taken word)
-    ∙ taken s (behind rows id word) (p + 1) ids (rows ++ given id word ∷ []) none (t.1 word) words u)
+    (λ word words w u. level_goes s (at h p false) (at (following rows id word) (p + 1) false) word words (plain_turn s false h p word w ∙ t.0.fine) (plain_walk s false h p word w ∙ t.0.taken word)
+    ∙ taken s (following rows id word) (p + 1) ids (rows ++ given id word ∷ []) none (t.1 word) words u)
 
 -- ---- the commands
 

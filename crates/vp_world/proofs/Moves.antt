@@ -12,7 +12,7 @@ use Rattle.vp_model.specs.Catalogue.{Catalogue}
 use Rattle.vp_model.specs.Site.{SiteState}
 use Rattle.vp_model.specs.Step.{step}
 use Rattle.vp_model.specs.World.{Place, WorldState, Moved, shows, place_of, site_of, is_cut, change_place, fixed_view, after_step, site_step, at_site, deliver, crash, restart_place, restart_from, restart, happens, message_at, same_pair}
-use Rattle.vp_world.specs.declared.place.Taken.{Taken}
+use Rattle.vp_world.specs.declared.place.PlaceEffects.{PlaceEffects}
 use Rattle.vp_world.specs.declared.end.WorldEnd.{WorldEnd}
 use Rattle.vp_mail.specs.Posted.{Posted}
 use Rattle.vp_world.specs.Limits.{Does, too_many, with_line}
@@ -67,7 +67,7 @@ module _ (catalogue : Catalogue) (id : ℕ) (given : Input) where
     step_takes site up =
         rw (stepped_where site w.places (place_of id w.places) refl up, agreed_is site.inviting (step catalogue site given).site.held) refl
 
-    takes_where : (t : Taken) (found : Option SiteState) → site_of w id ≡ found → Some t ≡ option_map (λ site. taken site (step catalogue site given)) found → option_map_or (λ site. site_step catalogue id site given w) found (shows w (shown.Down id)) ≡ takes_in t (record w { places = stepped })
+    takes_where : (t : PlaceEffects) (found : Option SiteState) → site_of w id ≡ found → Some t ≡ option_map (λ site. taken site (step catalogue site given)) found → option_map_or (λ site. site_step catalogue id site given w) found (shows w (shown.Down id)) ≡ takes_in t (record w { places = stepped })
     takes_where t None up e = cc
     takes_where t (Some site) up e =
         let same : taken site (step catalogue site given) ≡ t = cc in
@@ -78,9 +78,9 @@ module _ (catalogue : Catalogue) (id : ℕ) (given : Input) where
     down_where None up e = rw (idle_where w.places (place_of id w.places) refl up) refl
     down_where (Some site) up e = cc
 
-  module _ (w : WorldState) (r : Option Taken) (old new : List Place) (now : old ≡ w.places) (e : r ≡ option_map (λ site. taken site (step catalogue site given)) (site_in id old)) (p : new ≡ change_place id (stepped_place catalogue given) old) where
+  module _ (w : WorldState) (r : Option PlaceEffects) (old new : List Place) (now : old ≡ w.places) (e : r ≡ option_map (λ site. taken site (step catalogue site given)) (site_in id old)) (p : new ≡ change_place id (stepped_place catalogue given) old) where
     -- an input comes to a site that is up
-    pub at_site_takes : (t : Taken) → r ≡ Some t → at_site catalogue id given w ≡ takes_in t (record w { places = new })
+    pub at_site_takes : (t : PlaceEffects) → r ≡ Some t → at_site catalogue id given w ≡ takes_in t (record w { places = new })
     unfolding at_site stepped
     at_site_takes t is = rw (p, now) (takes_where w t (site_of w id) refl (sym is ∙ e ∙ ap (λ places. option_map (λ site. taken site (step catalogue site given)) (site_in id places)) now))
 

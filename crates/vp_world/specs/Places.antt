@@ -10,7 +10,7 @@ use Rattle.vp_model.specs.Site.{SiteState, Stepped}
 use Rattle.vp_model.specs.Step.{step}
 use Rattle.vp_model.specs.World.{Place, place_of, change_place, after_step, restart_place}
 use Rattle.vp_records.specs.Applying.{AppliesSome}
-use Rattle.vp_world.specs.declared.place.Taken.{Taken}
+use Rattle.vp_world.specs.declared.place.PlaceEffects.{PlaceEffects}
 
 -- the view that the site had invited to and holds now
 abbrev pub newly_agreed : Option ViewId → Option View → Option View
@@ -19,7 +19,7 @@ newly_agreed (Some inviting) None = None
 newly_agreed None held = None
 
 -- what the step gives besides the site and its log
-abbrev pub taken : SiteState → Stepped → Taken
+abbrev pub taken : SiteState → Stepped → PlaceEffects
 taken before o = record { effects = o.effects; agreed = newly_agreed (option_map (λ inviting. inviting.0) before.inviting) o.site.held }
 
 -- the site of these places with this number, if it is up

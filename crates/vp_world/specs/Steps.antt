@@ -8,12 +8,12 @@ use Rattle.vp_model.specs.Catalogue.{Catalogue}
 use Rattle.vp_model.specs.World.{WorldState, Moved, place_of, site_of, message_at, is_cut, next}
 use Rattle.vp_model.specs.Justified.{site_named}
 use Rattle.vp_model.specs.Told.{is_step}
-use Rattle.vp_world.specs.declared.place.Taken.{Taken}
+use Rattle.vp_world.specs.declared.place.PlaceEffects.{PlaceEffects}
 use Rattle.vp_world.specs.Asked.{Asked, restart_asked}
 use Rattle.vp_world.specs.Places.{Did}
 
 -- the world with what a step of a site gives
-abbrev pub takes_in : Taken → WorldState → Moved
+abbrev pub takes_in : PlaceEffects → WorldState → Moved
 takes_in t w =
     record {
       world = record w {

@@ -11,15 +11,15 @@ use vp_catalog::Catalog;
 
 /// An event that was done in a world. A contract sees the world after it and its line. The messages and the commits of the step are held
 /// by the line until the world goes on, so that none is copied.
-pub struct Happened {
+pub struct WorldStep {
     pub(crate) catalog: Catalog,
     pub(crate) state: Box<State>,
     pub(crate) line: Line,
 }
 
-impl Drop for Happened {
+impl Drop for WorldStep {
     fn drop(self) {
-        let Happened {
+        let WorldStep {
             catalog: _,
             state: _,
             line: _,
@@ -27,7 +27,7 @@ impl Drop for Happened {
     }
 }
 
-impl Model for Happened {
+impl Model for WorldStep {
     ghost use Rattle.vp_model.specs.Types.{Line};
     ghost use Rattle.vp_world.specs.Known.{Known, IsWithinLimits};
     ghost use Rattle.vp_world.specs.Limits.{with_line};
@@ -39,7 +39,7 @@ impl Model for Happened {
     ghost invariant = { λ h. IsWithinLimits (with_line h.line.shown h.state.value) };
 }
 
-impl Happened {
+impl WorldStep {
     /// The line that the trace shows for the event.
     pub fn line(&self) -> &Line
         ensures { result.now ≡ self.now.1 }
@@ -58,7 +58,7 @@ impl Happened {
     pub fn into_world(self) -> Result<World, NoMemory>
         ensures { IfOk result (λ w. w ≡ self.0) }
     {
-        let Happened {
+        let WorldStep {
             catalog,
             mut state,
             mut line,

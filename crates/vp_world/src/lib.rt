@@ -13,6 +13,6 @@ mod stepper;
 mod world;
 
 pub use end::WorldEnd;
-pub use happened::Happened;
-pub use stepper::{ByThemselves, Stepper};
+pub use happened::WorldStep;
+pub use stepper::{PlainStepper, Stepper};
 pub use world::World;

@@ -21,7 +21,7 @@ use vp_site::{Site, StartFault};
 
 /// What a step gives besides the site and its log: its effects, and the view that it fixes, if it fixes one.
 #[derive(Drop)]
-pub struct Taken {
+pub struct PlaceEffects {
     pub effects: Effects,
     pub agreed: Option<View>,
 }
@@ -158,7 +158,7 @@ impl Place {
         event: &Event,
         input: &Input,
         stepper: &mut S,
-    ) -> Result<Option<Taken>, NoMemory>
+    ) -> Result<Option<PlaceEffects>, NoMemory>
         requires { IfSome self.old.up (λ site. S.may catalog.now (Asked.steps event.now site input.now) stepper.old) }
         ensures taken { IfOk result (λ t. t ≡ option_map (λ site. taken site (step catalog.now site input.now)) self.old.up) }
         ensures place { OnOk result (self.new ≡ stepped_place catalog.now input.now self.old) }
@@ -179,7 +179,7 @@ impl Place {
         event: &Event,
         input: &Input,
         stepper: &mut S,
-    ) -> Result<Taken, NoMemory>
+    ) -> Result<PlaceEffects, NoMemory>
         requires { S.may catalog.now (Asked.steps event.now site input.now) stepper.old }
         ensures taken { IfOk result (λ t. t ≡ taken site (step catalog.now site input.now)) }
         ensures place { OnOk result (self.new ≡ after_step (step catalog.now site input.now) self.old) }
@@ -190,7 +190,7 @@ impl Place {
         let (site, effects) = stepper.step(catalog, event, site, input)?;
         let agreed = newly_agreed(inviting, site.held())?;
         self.take_back(site, effects.records.as_slice())?;
-        Ok(Taken { effects, agreed })
+        Ok(PlaceEffects { effects, agreed })
     }
 
     /// Puts the site back after its step, and the records that the step forced into what the log keeps.

@@ -11,7 +11,7 @@ ghost use Rattle.vp_model.specs.World.{start_place, place_of, change_place};
 ghost use Rattle.vp_world.specs.Asked.{Asked, restart_asked};
 ghost use Rattle.vp_world.specs.Places.{site_in, taken, stepped_place, crashed_place, restarted_place, restart_line, Did, GivesUpAt};
 
-use crate::place::{Place, Taken};
+use crate::place::{Place, PlaceEffects};
 use crate::stepper::Stepper;
 use std::alloc::Global;
 use std::marker::Model;
@@ -72,7 +72,7 @@ fn step_at<S: Stepper>(
     event: &Event,
     input: &Input,
     stepper: &mut S,
-) -> Result<Option<Taken>, NoMemory>
+) -> Result<Option<PlaceEffects>, NoMemory>
     requires { IfSome (site_in id places.old) (λ site. S.may catalog.now (Asked.steps event.now site input.now) stepper.old) }
     ensures taken { IfOk result (λ t. t ≡ option_map (λ site. taken site (step catalog.now site input.now)) (site_in id places.old)) }
     ensures places { OnOk result (places.new ≡ change_place id (stepped_place catalog.now input.now) places.old) }
@@ -156,7 +156,7 @@ impl Places {
         event: &Event,
         input: &Input,
         stepper: &mut S,
-    ) -> Result<Option<Taken>, NoMemory>
+    ) -> Result<Option<PlaceEffects>, NoMemory>
         requires { IfSome (site_in id self.old) (λ site. S.may catalog.now (Asked.steps event.now site input.now) stepper.old) }
         ensures taken { IfOk result (λ t. t ≡ option_map (λ site. taken site (step catalog.now site input.now)) (site_in id self.old)) }
         ensures places { OnOk result (self.new ≡ change_place id (stepped_place catalog.now input.now) self.old) }

@@ -15,7 +15,7 @@ ghost use Rattle.vp_world.specs.Places.{Did};
 ghost use Rattle.vp_world.specs.Heads.{is_open, head_of, lesser};
 
 use crate::end::WorldEnd;
-use crate::place::Taken;
+use crate::place::PlaceEffects;
 use crate::places::Places;
 use crate::stepper::Stepper;
 use std::alloc::Global;
@@ -203,10 +203,10 @@ impl State {
 
     /// Takes what a step of a site gives. Its messages and commits are only in the line until `keep`, as after each function below. If
     /// the messages are too many, or memory runs out, the state may only be dropped.
-    fn take_in(&mut self, taken: Taken) -> Result<Shown, WorldEnd>
+    fn take_in(&mut self, taken: PlaceEffects) -> Result<Shown, WorldEnd>
         ensures { Does (takes_in taken self.old) self.new result }
     {
-        let Taken { effects, agreed } = taken;
+        let PlaceEffects { effects, agreed } = taken;
         let Some(first) = self.mail.first_number(effects.messages.as_slice()) else {
             return Err(WorldEnd::Limit {
                 what: Counted::Messages,

@@ -52,9 +52,9 @@ pub trait Stepper {
 
 /// A stepper that only does the steps: sites start from what the world keeps of them.
 #[derive(Clone, Copy, Drop)]
-pub struct ByThemselves;
+pub struct PlainStepper;
 
-impl Stepper for ByThemselves {
+impl Stepper for PlainStepper {
     ghost may = { λ _ _ _. ⊤ };
 
     ghost did = { λ _ _ _. ⊤ };

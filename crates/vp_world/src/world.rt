@@ -8,9 +8,9 @@ ghost use Rattle.vp_world.specs.Limits.{Ends};
 ghost use Rattle.vp_world.specs.Steps.{taker, passed_over, IsReady, DoesEvent};
 
 use crate::end::WorldEnd;
-use crate::happened::Happened;
+use crate::happened::WorldStep;
 use crate::state::State;
-use crate::stepper::{ByThemselves, Stepper};
+use crate::stepper::{PlainStepper, Stepper};
 use std::marker::Model;
 use vp_base::{Commits, CopyOf, Event, Line, Newest, NoMemory, SiteId};
 use vp_catalog::Catalog;
@@ -60,14 +60,14 @@ impl World {
         ensures line { IfOk result (λ r. r.1 ≡ record { event = event.now; shown = (next self.catalogue event.now self.world).shown }) }
         ensures end { Ends (refused world_limits self.catalogue event.now self.world) result }
     {
-        let happened = self.next_by(event, &mut ByThemselves)?;
+        let happened = self.next_by(event, &mut PlainStepper)?;
         let line = happened.line().copy_of()?;
         Ok((happened.into_world()?, line))
     }
 
     /// Does the event, where the stepper does what it asks of a site: a step, a crash or a restart. The world goes on once its line was
     /// shown. After an error the world is gone.
-    pub fn next_by<S: Stepper>(self, event: &Event, stepper: &mut S) -> Result<Happened, WorldEnd>
+    pub fn next_by<S: Stepper>(self, event: &Event, stepper: &mut S) -> Result<WorldStep, WorldEnd>
         requires { IsReady S.may self.catalogue event.now self.world stepper.old }
         ensures world { IfOk result (λ r. r.0 ≡ record { catalogue = self.catalogue; world = (next self.catalogue event.now self.world).world }) }
         ensures line { IfOk result (λ r. r.1 ≡ record { event = event.now; shown = (next self.catalogue event.now self.world).shown }) }
@@ -80,7 +80,7 @@ impl World {
             event: event.copy_of()?,
             shown,
         };
-        Ok(Happened {
+        Ok(WorldStep {
             catalog,
             state,
             line,

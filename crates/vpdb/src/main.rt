@@ -2,7 +2,7 @@
 #![tactic(auto)]
 
 use std::process::ExitCode;
-use vp_adapters::{ClosedStreams, LogFiles, Socket, words_behind};
+use vp_adapters::{ClosedStreams, LogFiles, Socket, words_after};
 use vp_base::NoMemory;
 use vp_outside::{Reading, Writing};
 use vp_status::Status;
@@ -21,7 +21,7 @@ fn status(rt: HostRuntime) -> Status {
     if closed.output.is_some() {
         return Status::SinkFault;
     }
-    match words_behind(&rt, 1) {
+    match words_after(&rt, 1) {
         Ok(words) => run(
             rt.alloc(),
             &words,

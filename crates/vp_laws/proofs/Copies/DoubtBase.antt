@@ -82,7 +82,7 @@ module _ (catalogue : Catalogue) (w new : Scene) (s : ℕ) (x : SiteState) (give
       let c = entry_closes catalogue w k refresh f rec v.0 g also (v.1, v.2) in
       stops catalogue w new s x given o k n d refresh e v.0 rec h wrote (subst (Precedes e.view) (sym (v.2 ∙ says.0)) below) c
 
-  -- a name that was used stood before, where it stands now
+  -- a name that was used stood before, where it is now
   stood : (txn : TxnId) → ((i : ℕ) (y : SiteState) (t : Live) → plain_at new i ≡ Some y → Has y.live t → t.txn ≡ txn → Was w i t) → Stands new txn → Stands w txn
   stood txn was (Stands.live i y t up here named) = let a = was i y t up here named in Stands.live i a.site a.u a.up_then a.here (a.named ∙ named)
   stood txn was (Stands.entered e h named) = ⊎_elim

@@ -16,7 +16,7 @@ use Rattle.vp_laws.proofs.Copies.Force.{Table, accessible_by, weighs, table_one,
 use Rattle.vp_laws.proofs.Journal.Acts.{level, upto_parts, nothing_under, after_append}
 use Rattle.vp_laws.proofs.Journal.UpTo.{upto_all, under, Ascends, order_ascends}
 
--- in an ascending list nothing stands above what comes later, and below what came before
+-- in an ascending list nothing is above what comes later, and below what came before
 before_low : (before behind : List Commit) (e : Commit) → Ascends (before ++ e ∷ behind) → (f : Commit) → Has before f → AtMost f.view e.view
 before_low [] behind e h f q = absurd (has_none f q)
 before_low (b ∷ before) behind e h f q = ⊎_elim

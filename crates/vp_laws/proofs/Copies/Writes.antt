@@ -72,7 +72,7 @@ stands_among (c ∷ front) back e f k = ⊎_elim
     (λ more. has_more c (front ++ e ∷ back) f (stands_among front back e f more))
     (has_cons c (front ++ back) f k)
 
--- the journal without the entry that stands there
+-- the journal without the entry that is there
 without_there : (front back : List Commit) (e : Commit) → Once (front ++ e ∷ back) → without_entry e.txn (front ++ e ∷ back) ≡ front ++ back
 without_there front back e once =
     filter-append (λ (f : Commit). not (same_txn f.txn e.txn)) front (e ∷ back)

@@ -29,7 +29,7 @@ pub record Known (catalogue : Catalogue) (w : Scene) : Type 0 where
   pub led : InvLed w
   -- nothing is dated above a promise
   pub below : InvBelow w
-  -- no name stands above what was used
+  -- no name is above what was used
   pub names : InvNames w
   -- prepares and votes
   pub votes : InvVotes catalogue w

@@ -13,7 +13,7 @@ use Rattle.vp_laws.proofs.Lists.Views.{AtMost, Precedes}
 use Rattle.vp_laws.proofs.Moves.LocalViews.{Tidy}
 use Rattle.vp_laws.proofs.Worlds.Scenes.{Scene, plain_at, kept_at, promise_at}
 
--- no identifier stands above what its site has used
+-- no identifier is above what its site has used
 abbrev pub Used : Scene → ViewId → Type 0
 Used w i = AtMost i (promise_at w i.site)
 
@@ -44,7 +44,7 @@ Told w from m = Unit {0}
 
 -- an agreed view
 pub record ViewOk (w : Scene) (v : View) : Type 0 where
-  -- its name stands not above what its site has used
+  -- its name is not above what its site has used
   pub own : Used w v.id
   -- each member has promised it
   pub members : (a : ℕ) → Has v.members a → AtMost v.id (promise_at w a)
@@ -54,7 +54,7 @@ pub record InvViews (catalogue : Catalogue) (w : Scene) : Type 0 where
   pub site : (s : ℕ) (x : SiteState) → plain_at w s ≡ Some x → SiteOk w s x
   -- each place is of a site of the catalogue
   pub known : (s : ℕ) (p : Place) → place_of s w.places ≡ Some p → Has (sites_of catalogue) s
-  -- no promise stands above what the site of its name has used
+  -- no promise is above what the site of its name has used
   pub promise : (s : ℕ) → Used w (promise_at w s)
   -- each message
   pub told : (m : Sent) → Has w.sent m → Told w m.from m.message

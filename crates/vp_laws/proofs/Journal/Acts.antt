@@ -49,7 +49,7 @@ upto_parts v (e ∷ es) h = go (view_before v e.view) (view_before e.view v) (sa
         ap (λ (l : List Commit). e ∷ l) (rest ∙ ap (λ (l : List Commit). l ++ level v es) low) ∙ sym (ap (λ (l : List Commit). l ++ e ∷ level v es) low)
     go false false false q r s rest = absurd (let z = above_from e.view v s r in not_both v e.view z (up_to_from v e.view q))
 
--- lists joined from two ascending lists of views that differ only where nothing stands
+-- lists joined from two ascending lists of views that differ only where nothing is
 flat_none : (g : ViewId → List Commit) (vs : List ViewId) → ((u : ViewId) → Has vs u → g u ≡ []) → flat_map g vs ≡ []
 flat_none g [] h = refl
 flat_none g (v ∷ vs) h = rw (h v (has_first v vs)) (flat_none g vs (λ u q. h u (has_more v vs u q)))
@@ -135,7 +135,7 @@ module _ (front back : List Commit) (e : Commit) where
       go true q = let is : e.view ≡ u = same_is e.view u q in ap (low all) (sym is) ∙ own_low all ∙ sym (own_low rest) ∙ ap (low rest) is
       go false q = ap (under e.view) (elsewhere u q)
 
-  -- what stands there stands in both
+  -- what is there is in both
   both_have : (j : List Commit) (u : ViewId) → (Has (views_of j) u) ⊎ (low j u ≡ [])
   both_have j u = go (low j u) refl
     where
@@ -204,13 +204,13 @@ module _ {C : Type 0} (act : Commit → C → C) where
   after_quiet c [] h = refl
   after_quiet c (e ∷ es) h = ap (λ (c : C). after c es) (h e (has_first e es) c) ∙ after_quiet c es (λ f q. h f (has_more e es f q))
 
-  -- behind quiet ones an entry acts last
+  -- after quiet ones an entry acts last
   pub after_last : (c : C) (front back : List Commit) (e : Commit) → ((f : Commit) → Has back f → IsQuiet f) → after c (front ++ e ∷ back) ≡ act e (after c (front ++ back))
   after_last c front back e h =
       after_append c front (e ∷ back) ∙ after_quiet (act e (after c front)) back h
       ∙ ap (act e) (sym (after_append c front back ∙ after_quiet (after c front) back h))
 
-  -- in the order of views: an entry behind which none of its view acts on it does so last of those up to its view
+  -- in the order of views: an entry after which none of its view acts on it does so last of those up to its view
   pub after_own : (c : C) (front back : List Commit) (e : Commit) → ((f : Commit) → Has back f → f.view ≡ e.view → IsQuiet f) → after c (upto e.view (order (front ++ e ∷ back))) ≡ act e (after c (upto e.view (order (front ++ back))))
   after_own c front back e h =
       ap (after c) (now ∙ sym (append_assoc low in_front (e ∷ in_back)))

@@ -81,7 +81,7 @@ has_flat f (a ∷ xs) x y h k = ⊎_elim (λ (one : a ≡ x). has_left (f a) (fl
 pub order_has : (journal : List Commit) (f : Commit) → Has (order journal) f → Has journal f
 order_has journal f h = let r = flat_has (in_view journal) (views_of journal) f h in (filter_has (λ (e : Commit). same_view e.view r.0) journal f r.2).0
 
--- a list with an entry put in, behind those of views up to its own
+-- a list with an entry put in, after those of views up to its own
 pub record Split (e : Commit) (old new : List Commit) : Type 0 where
   pub before : List Commit
   pub behind : List Commit
@@ -172,7 +172,7 @@ views_more : (es : List Commit) (e : Commit) (vs : List ViewId) → for_each (es
 views_more [] e vs = refl
 views_more (f ∷ es) e vs = views_more es e (put_view f.view vs)
 
--- an entry at the end of the journal goes in behind those of views up to its own
+-- an entry at the end of the journal goes in after those of views up to its own
 pub order_more : (journal : List Commit) (e : Commit) → Split e (order journal) (order (journal ++ e ∷ []))
 order_more journal e = subst
     (λ (vs : List ViewId). Split e (order journal) (flat_map (in_view (journal ++ e ∷ [])) vs))

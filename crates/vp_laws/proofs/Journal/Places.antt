@@ -14,7 +14,7 @@ abbrev pub Once : List Commit → Type 0
 Once [] = Unit {0}
 Once (c ∷ cs) = ((d : Commit) → Has cs d → d.txn ≢ c.txn) × Once cs
 
--- the entries before it and those behind it
+-- the entries before it and those after it
 pub has_split : {X : Type 0} (xs : List X) (x : X) → Has xs x → (front : List X) × (back : List X) × (xs ≡ front ++ x ∷ back)
 has_split [] x h = absurd (has_none x h)
 has_split (y ∷ ys) x h = ⊎_elim
@@ -29,7 +29,7 @@ nil_not : {X C : Type 0} (xs : List X) (x : X) (ys : List X) → [] ≡ xs ++ x 
 nil_not [] x ys e = cc
 nil_not (z ∷ xs) x ys e = cc
 
--- an item of a list with one more at the end: it is that one, or has it behind it
+-- an item of a list with one more at the end: it is that one, or has it after it
 pub last_split : {X : Type 0} (xs : List X) (g : X) (front : List X) (e : X) (back : List X) → xs ++ g ∷ [] ≡ front ++ e ∷ back → ((e ≡ g) × (back ≡ [])) ⊎ ((b : List X) × (back ≡ b ++ g ∷ []) × (xs ≡ front ++ e ∷ b))
 last_split [] g [] e back is = let q = cons_parts g e [] back is in inl (sym q.0, sym q.1)
 last_split [] g (f ∷ front) e back is = let q = cons_parts g f [] (front ++ e ∷ back) is in nil_not front e back q.1
@@ -51,7 +51,7 @@ pub once_later : (front back : List Commit) (e f : Commit) → Once (front ++ e 
 once_later [] back e f h k = h.0 f k
 once_later (c ∷ front) back e f h k = once_later front back e f h.1 k
 
--- what stands among the last values is the last value
+-- what is among the last values is the last value
 above_differ : (n : ℕ) (ws : List Write) → AllByRecursion (λ (x : Write). n < x.0) ws → Has (keys ws) n → ⊥
 above_differ n [] h k = has_none n k
 above_differ n (w ∷ ws) h k = ⊎_elim (λ (one : w.0 ≡ n). not_above n w.0 h.0 one) (λ more. above_differ n ws h.1 more) (has_cons w.0 (keys ws) n k)

@@ -103,7 +103,7 @@ set_all-put n v (y ∷ ws) m h = go (n == y.0) (nat_lt n y.0) refl refl (set_all
         sym (set_all-swap n v ws (slice_set m y.0 y.1) (all_above n y.0 ws l h.0) ∙ ap (set_all ws) (set_swap m y.0 n y.1 v (λ q. omega arith)))
     go false false e f i = i
 
--- what stands in the map after all writes
+-- what is in the map after all writes
 pub value_put : {V : Type 0} (n k : ℕ) (v : V) (ws : List (ℕ × V)) → value_at n (put_at k v ws) ≡ cond (k == n) (Some v) (value_at n ws)
 value_put {V} n k v [] = go (k == n)
   where

@@ -83,7 +83,7 @@ module _ (start : Values) (journal : List Commit) (e : Commit) where
   abbrev s : Split e (order journal) (order (journal ++ e ∷ []))
   s = order_more journal e
 
-  -- what stands up to the entry's view, before and after it is added
+  -- what is up to the entry's view, before and after it is added
   pub up_to_own : upto e.view (order journal) ≡ s.before
   up_to_own = ap (upto e.view) s.was ∙ upto_append e.view s.before s.behind ∙ rw (upto_all e.view s.before s.low, upto_none e.view s.behind s.high) (append_nil_before s.before)
     where

@@ -44,7 +44,7 @@ upto_has d es f h = let q = filter_has (λ (e : Commit). not (view_before d e.vi
     go true e t = cc
     go false e t = up_to_from d f.view e
 
--- what stands in a view is of it
+-- what is in a view is of it
 pub in_at : (journal : List Commit) (u : ViewId) (f : Commit) → Has (in_view journal u) f → f.view ≡ u
 in_at journal u f h = same_is f.view u (filter_has (λ (c : Commit). same_view c.view u) journal f h).1
 

@@ -73,7 +73,7 @@ pub value_written : (rec : ℕ) (start : List ℕ) (journal : List Commit) (e : 
 value_written rec start journal e d value h w none =
     after_added (writes_over rec) start journal e d h (λ f q a b. leaves_value f rec (none f q a b)) ∙ takes_value e rec value _ w
 
--- an entry that stands anywhere in the journal: no later entry of its view wrote the record
+-- an entry that is anywhere in the journal: no later entry of its view wrote the record
 pub value_of_last : (rec : ℕ) (start value : List ℕ) (front back : List Commit) (e : Commit) → value_at rec (last_changes e) ≡ Some value → ((f : Commit) → Has back f → f.view ≡ e.view → Wrote f rec → ⊥) → value_up_to rec start (front ++ e ∷ back) e.view ≡ value
 value_of_last rec start value front back e w none =
     after_own (writes_over rec) start front back e (λ f q is. leaves_value f rec (none f q is)) ∙ takes_value e rec value _ w

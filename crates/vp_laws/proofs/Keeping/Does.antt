@@ -53,7 +53,7 @@ pub record Does (catalogue : Catalogue) (w new : Scene) (s : ℕ) (x : SiteState
   pub led : Led x
   -- its parts, doubts and dates
   pub below : Below x
-  -- what the step tells of views
+  -- what the step says of views
   pub local : Local x given o
   -- how transactions end in it
   pub endings : Endings x given o.site.coordinator o.effects.messages o.effects.commits

@@ -10,7 +10,7 @@ use Rattle.vp_laws.proofs.Lists.Members.{map_has, Has, has_none, has_first, has_
 use Rattle.vp_laws.proofs.Lists.Changes.{put_has, mapped_has}
 use Rattle.vp_laws.proofs.Lists.Numbers.{eq_self, unequal}
 
--- what stands among the last values was written
+-- what is among the last values was written
 last_from : (ops : List Op) (writes : List (ℕ × Change)) (p : ℕ × List ℕ) → Has (fold with_op writes ops) p → Has writes p ⊎ ((value : List ℕ) × Has ops (op.Write p.0 value))
 last_from [] writes p h = inl h
 last_from (op.Read rec value ∷ ops) writes p h = ⊎_elim (λ old. inl old) (λ (q : (value : List ℕ) × Has ops (op.Write p.0 value)). inr (q.0, has_more _ ops _ q.1)) (last_from ops writes p h)
@@ -36,7 +36,7 @@ written_op ops rec h =
     let q = last_written ops r.0 r.1 in
     (q.0, subst (λ (n : ℕ). Has ops (op.Write n q.0)) r.2 q.1)
 
--- no number stands twice
+-- no number occurs twice
 abbrev pub Differ : List ℕ → Type 0
 Differ [] = Unit {0}
 Differ (n ∷ ns) = (Has ns n → ⊥) × Differ ns

@@ -15,7 +15,7 @@ pub record Tidy (x : SiteState) : Type 0 where
   pub waiting : (i : ViewId) → x.waiting ≡ Some i → (i ≡ x.promise) × (x.held ≡ None) × (x.inviting ≡ None)
   pub inviting : (b : ViewId × List ℕ) → x.inviting ≡ Some b → (b.0 ≡ x.promise) × (x.held ≡ None) × (x.waiting ≡ None) × (b.0.site ≡ x.id) × Has b.1 x.id
 
--- where a refresh stands in a held view alone, there is none while no view is held
+-- where a refresh is in a held view alone, there is none while no view is held
 pub none_refreshed : (x : SiteState) → ((r : Refreshing) → Has x.refresh r → (v : View) × (x.held ≡ Some v)) → x.held ≡ None → (r : Refreshing) → Has x.refresh r → ⊥
 none_refreshed x held_then e r h = let q = held_then r h in let z = q.1 in cc
 

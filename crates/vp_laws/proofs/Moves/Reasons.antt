@@ -60,7 +60,7 @@ pub data Why (catalogue : Catalogue) (x : SiteState) (given : Input) (after : Si
   left : Has x.live t → after.held ≡ None → Why catalogue x given after t (ViewChanged x.id t.view None)
   timed_out : (missing : ℕ) → Has x.live t → Why catalogue x given after t (TimedOut missing)
 
--- an answer that tells of no operation, of no end and of no weights
+-- an answer that speaks of no operation, of no end and of no weights
 abbrev pub is_plain : Answer → Bool
 is_plain (answer.Inviting view) = true
 is_plain (answer.NoView promise) = true

@@ -147,7 +147,7 @@ pub record Closed (x : SiteState) (l : Lent) : Type 0 where
   pub commits : l.effects.commits ≡ []
   pub messages : (m : Sent) → Has l.effects.messages m → (txn : TxnId) × (m.message ≡ message.Outcome txn false)
 
--- an answer that tells how a transaction ended
+-- an answer that says how a transaction ended
 abbrev pub is_end : Answer → Bool
 is_end (answer.Committed txn number) = true
 is_end (answer.Aborted txn number) = true
@@ -215,7 +215,7 @@ pub record OfCoordinator (catalogue : Catalogue) (x : SiteState) (given : Input)
   pub mark_calls : (l : Lent) → given ≡ input.Tick → Closed x l → Q l → Q (mark_calls l)
   pub acknowledge : (from : ℕ) (txn : TxnId) → Comes given from (message.Ack txn) → waits_for txn from x.decisions ≡ true → Q (lent_coordinator (with_acknowledged txn from) (lent_force (log_record.Acked txn from) (lent_at x)))
 
--- a message that goes back to the site that sent one and tells how things stand here: nothing else is done
+-- a message that goes back to the site that sent one and says how things stand here: nothing else is done
 pub data SendsBack (x : SiteState) (given : Input) (from : ℕ) : Message → Type 0 where
   stale : (id : ViewId) → Comes given from (message.Invite id) → view_before id x.promise ≡ true → SendsBack x given from (message.Stale id x.promise)
   accept_again : (id : ViewId) → Comes given from (message.Invite id) → is_view x.waiting id ≡ true → SendsBack x given from (message.Accept id)

@@ -72,7 +72,7 @@ agrees_abort by last txn number (LockHeld name at owner) e none = rw none refl
 agrees_abort by last txn number (ViewChanged at held now) e none = rw none refl
 agrees_abort by last txn number (TimedOut at) e none = rw none refl
 
--- a reply that says that a transaction was refused tells its end
+-- a reply that says that a transaction was refused says its end
 refused_ends : (txn : TxnId) (a : Answer) (j : ℕ) → refused_number txn a ≡ Some j → is_end a ≡ false → ⊥
 refused_ends txn (answer.LockHeld t number name at holder) j e f = cc
 refused_ends txn (answer.ViewChanged t number at held now) j e f = cc

@@ -57,7 +57,7 @@ abbrev pub Untold : List Line → Answer → Type 0
 Untold lines (answer.ViewChanged txn number at held now) = told_from lines txn number ≡ false
 Untold lines a = Unit {0}
 
--- where the answer names a lock or a view, the moment tells the end of its transaction to a call of this number
+-- where the answer names a lock or a view, the moment says the end of its transaction to a call of this number
 abbrev pub TellsEnd : Moment → Answer → Type 0
 TellsEnd m (answer.LockHeld txn number name at holder) = tells_end txn number m ≡ true
 TellsEnd m (answer.ViewChanged txn number at held now) = tells_end txn number m ≡ true

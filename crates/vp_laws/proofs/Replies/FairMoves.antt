@@ -174,7 +174,7 @@ module _ (catalogue : Catalogue) (world : WorldState) (past : List Moment) (m0 :
       refused_last t.txn past m0 (never_told t.txn at.was at.live (ap (λ (t : Live). t.txn) (sym at.same)))
       ∙ first_told t.txn (answers_in m0.line) p.number (λ b q n e. number_in t at b q n e ∙ sym number) a h own
 
-  -- a transaction that the step tells was refused is over
+  -- a transaction that the step says was refused is over
   ended_told : (a : Answer) → Has (answers_in m0.line) a → (txn : TxnId) (n : ℕ) → refused_number txn a ≡ Some n → EndedAt (acted w s x o) txn
   ended_told a h txn n e =
       let r = map_has (λ (r : Reply). r.answer) o.effects.replies a (rw is.shown at h) in
@@ -193,7 +193,7 @@ module _ (catalogue : Catalogue) (world : WorldState) (past : List Moment) (m0 :
   handled_site : (t : Live) → Handled x t → t.txn.site ≡ s
   handled_site t at = ap (λ (t : Live). t.txn.site) at.same ∙ own_site at.was at.live
 
-  -- the step closes a live transaction of which it tells a refusal
+  -- the step closes a live transaction whose refusal it reports
   closed_here : (t : Live) (a : Answer) (n : ℕ) → Handled x t → Has (answers_in m0.line) a → refused_number t.txn a ≡ Some n → closed_then t.txn m0 ≡ true
   closed_here t a n at h e =
       let was : at.was.txn ≡ t.txn = ap (λ (t : Live). t.txn) (sym at.same) in
@@ -526,7 +526,7 @@ module _ (catalogue : Catalogue) (world : WorldState) (past : List Moment) (m0 :
       finished_at {k} y f g (NowIs.other n old) = end_more catalogue past (m0 ∷ []) f (fair.finished k y f old g)
       finished_at y f g (NowIs.here e same) = finished_now f (c.finished f (subst (λ (y : SiteState). Has y.finished f) (sym same) g))
 
--- no moment tells an answer
+-- no moment says an answer
 abbrev pub Silent : List Moment → Type 0
 Silent more = (m : Moment) → Has more m → (a : Answer) → Has (answers_in m.line) a → ⊥
 

@@ -44,7 +44,7 @@ refused_last txn moments m e =
     ∙ first_right (numbers txn moments) (numbers txn (m ∷ [])) e
     ∙ ap (λ (answers : List Answer). first (filter_map (refused_number txn) answers)) (append-nil (answers_in m.line))
 
--- no reply tells of it
+-- no reply speaks of it
 none_told : (txn : TxnId) (answers : List Answer) → ((a : Answer) → Has answers a → (n : ℕ) → refused_number txn a ≡ Some n → ⊥) → filter_map (refused_number txn) answers ≡ []
 none_told txn [] none = refl
 none_told txn (a ∷ answers) none = go (refused_number txn a) refl (none_told txn answers (λ b h. none b (has_more a answers b h)))
@@ -86,7 +86,7 @@ refusal_more moments more txn number Closed Later lasts r = record {
   closed = lasts r.refused r.closed;
 }
 
--- a reply that tells of the transaction is its own, with its number
+-- a reply that speaks of the transaction is its own, with its number
 its_own : (t txn : TxnId) (number n : ℕ) → cond (same_txn t txn) (Some number) None ≡ Some n → t ≡ txn
 its_own t txn number n e = go (same_txn t txn) refl e
   where
@@ -98,7 +98,7 @@ its_number : (b : Bool) (number n : ℕ) → cond b (Some number) None ≡ Some 
 its_number true number n e = cc
 its_number false number n e = cc
 
--- an end that tells of a refused call
+-- an end that speaks of a refused call
 pub refused_of : (u txn : TxnId) (number : ℕ) (why : Ending) (n : ℕ) → refused_number txn (answer_of u number why) ≡ Some n → (u ≡ txn) × (number ≡ n)
 refused_of u txn number Committed n e = cc
 refused_of u txn number Aborted n e = cc
@@ -106,7 +106,7 @@ refused_of u txn number (LockHeld name at holder) n e = (its_own u txn number n 
 refused_of u txn number (ViewChanged at held now) n e = (its_own u txn number n e, its_number (same_txn u txn) number n e)
 refused_of u txn number (TimedOut at) n e = cc
 
--- where each reply that tells of it has this number, so has the first
+-- where each reply that speaks of it has this number, so has the first
 pub first_told : (txn : TxnId) (answers : List Answer) (n : ℕ) → ((a : Answer) → Has answers a → (k : ℕ) → refused_number txn a ≡ Some k → k ≡ n) → (a : Answer) → Has answers a → refused_number txn a ≡ Some n → first (filter_map (refused_number txn) answers) ≡ Some n
 first_told txn [] n same a h e = absurd (has_none a h)
 first_told txn (b ∷ answers) n same a h e = go (refused_number txn b) refl (λ more. first_told txn answers n (λ c k. same c (has_more b answers c k)) a more e)

@@ -73,7 +73,7 @@ pub record Endings (x : SiteState) (given : Input) (c : CoordinatorState) (ms : 
   pub decided : (d : Decision) → Has c.decisions d → WasDecided x.decisions d.txn ⊎ IsEntered cs d.txn
   pub finished : (f : Finished) → Has c.finished f → FinishedFrom x cs f
 
--- a message that tells no end
+-- a message that says no end
 abbrev pub tells_none : Message → Bool
 tells_none (message.Outcome txn commit) = false
 tells_none m = true

@@ -31,7 +31,7 @@ use Rattle.vp_laws.proofs.Moves.FrontSteps.{step-front}
 use Rattle.vp_laws.proofs.Table.ToldCalls.{SameCall}
 use Rattle.vp_laws.proofs.Moves.Calls.{done, waiting}
 
--- what an operation that is done is told: its report, which with the call tells the operation
+-- what an operation that is done is told: its report, which with the call says the operation
 pub record SaysDone (catalogue : Catalogue) (txn : TxnId) (p : Pending) (operation : Op) (words : Answer) : Type 0 where
   pub report : Option (List ℕ)
   pub reports : reported txn words ≡ Some (p.number, report)

@@ -113,7 +113,7 @@ pub record IsDoneNow (catalogue : Catalogue) (lines : List Line) (l : Line) (u :
   pub taken : taken_call (lines ++ l ∷ []) u number ≡ Some words
   -- and none a later one
   pub untaken : (k : ℕ) → number < k → find (takes u k) (lines ++ l ∷ []) ≡ None
-  -- with the call it tells the operation
+  -- with the call it says the operation
   pub tells : told_by catalogue report words ≡ Some operation
 
 module _ (catalogue : Catalogue) (lines : List Line) (l : Line) (u : TxnId) where

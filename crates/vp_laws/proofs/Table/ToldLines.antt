@@ -103,7 +103,7 @@ pub record IsUnheard (lines : List Line) (u : TxnId) : Type 0 where
   -- no call of it was taken
   pub untaken : (k : ℕ) → find (takes u k) lines ≡ None
 
--- the operation that a report tells, with the call that took its number
+-- the operation that a report says, with the call that took its number
 unfoldable pub tell : Catalogue → List Line → TxnId → Report → Option Op
 tell catalogue lines u report = option_and_then (told_by catalogue report.1) (taken_call lines u report.0)
 

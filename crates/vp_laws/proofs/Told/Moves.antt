@@ -326,7 +326,7 @@ module _ (catalogue : Catalogue) (world : WorldState) (lines : List Line) (m0 : 
           let now : reports more u.txn ≡ put_first v (reports lines u.txn) = reports_now u.txn ∙ ap (λ (z : List Report). for_each z put_first (reports lines u.txn)) (one ∙ one_report) in
           rw now (put_there v (reports lines u.txn))
 
-  -- what holds of the answers that were kept, of what tells of no operation and of an operation that is done now, holds of all that are kept
+  -- what holds of the answers that were kept, of what speaks of no operation and of an operation that is done now, holds of all that are kept
   module _ (R : Answer → Type 0) (old : (a : Answer) → IsKept x a → R a) (none : (a : Answer) → ((u : TxnId) → reported u a ≡ None) → R a) (doing : (u : Live) (p : Pending) (operation : Op) (words : Answer) (l : Lent) → Has x.live u → IsDone x given u p → Completes catalogue x given u p operation words l → told_of u.txn o.effects.replies ≡ told_of u.txn (told_to p.port words ∷ []) → AreLate o.effects.replies → R words) where
     live_kept : (v : Live) → LiveTold catalogue x given o.effects.replies v → (a : Answer) → Has v.answers a → R a
     live_kept v (LiveTold.was u h named did same pending repeats) a there = old a (IsKept.live u h (rw same there))

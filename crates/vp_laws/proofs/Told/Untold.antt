@@ -39,7 +39,7 @@ use Rattle.vp_laws.proofs.Told.Moves.{repeats_now}
 use Rattle.vp_laws.proofs.Keeping.Does.{Does, does}
 use Rattle.vp_laws.proofs.Invariant.Known.{Known}
 
--- the ends that a finished transaction tells: that of its pending call, and under each larger number
+-- the ends that a finished transaction says: that of its pending call, and under each larger number
 pub record UntoldEnd (lines : List Line) (f : Finished) : Type 0 where
   pub answers : (n : ℕ) → Has f.answers (answer_of f.txn n f.ending) → Untold lines (answer_of f.txn n f.ending)
   pub later : (n : ℕ) → length f.answers < n → Untold lines (answer_of f.txn n f.ending)

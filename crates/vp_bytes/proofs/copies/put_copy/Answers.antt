@@ -1,7 +1,7 @@
 use Rattle.std.proofs.Common.{[], ◌∷◌, ◌++◌, refl}
 use Rattle.vp_text.proofs.Printing.{begun_err, begun_none}
 use Rattle.vp_bytes.specs.Fields.{counted_bytes, view_bytes}
-use Rattle.vp_bytes.proofs.Writing.{behind, begun_part}
+use Rattle.vp_bytes.proofs.Writing.{following, begun_part}
 use Rattle.vp_bytes.proofs.copies.put_copy.Goals as goal
 
 pub returns-in_err-put_value : goal.returns-in_err-put_value
@@ -20,4 +20,4 @@ returns g c =
     let result = c.put_view.result in
     let stored = c.args.stored.now in
     let date = rw (c.in_ok-put_value.ensures.whole, c.in_ok-put_byte.ensures.ok, c.get.ensures.value) at c.put_view.ensures in
-    behind result old (c.args.rec ∷ []) (counted_bytes stored.value ++ view_bytes stored.date) _ _ refl (behind result (old ++ c.args.rec ∷ []) (counted_bytes stored.value) (view_bytes stored.date) _ _ refl date)
+    following result old (c.args.rec ∷ []) (counted_bytes stored.value ++ view_bytes stored.date) _ _ refl (following result (old ++ c.args.rec ∷ []) (counted_bytes stored.value) (view_bytes stored.date) _ _ refl date)

@@ -1,7 +1,7 @@
 use Rattle.std.proofs.Common.{◌++◌, refl}
 use Rattle.vp_text.proofs.Printing.{begun_err, begun_first}
 use Rattle.vp_bytes.specs.Fields.{txn_bytes, view_bytes, writes_bytes}
-use Rattle.vp_bytes.proofs.Writing.{behind, begun_part}
+use Rattle.vp_bytes.proofs.Writing.{following, begun_part}
 use Rattle.vp_bytes.proofs.doubts.put_doubt.Goals as goal
 
 pub returns-in_err-put_txn : goal.returns-in_err-put_txn
@@ -23,4 +23,4 @@ returns g c =
     let view = view_bytes a.view.now in
     let writes = writes_bytes a.writes.now in
     let last = rw (c.as_slice.ensures, c.in_ok-put_view.ensures.whole, c.in_ok-put_txn.ensures.whole) at c.put_writes.ensures in
-    behind c.put_writes.result old txn (view ++ writes) _ _ refl (behind c.put_writes.result (old ++ txn) view writes _ _ refl last)
+    following c.put_writes.result old txn (view ++ writes) _ _ refl (following c.put_writes.result (old ++ txn) view writes _ _ refl last)

@@ -1,7 +1,7 @@
 use Rattle.std.proofs.Common.{◌++◌, refl}
 use Rattle.vp_text.proofs.Printing.{all_or_none, begun_err, begun_first}
 use Rattle.vp_bytes.specs.Fields.{number_bytes, txn_bytes}
-use Rattle.vp_bytes.proofs.Writing.{behind}
+use Rattle.vp_bytes.proofs.Writing.{following}
 use Rattle.vp_bytes.proofs.fields.put_numbered.Goals as goal
 
 pub returns-in_err-put_txn : goal.returns-in_err-put_txn
@@ -14,4 +14,4 @@ returns g c =
     let txn = txn_bytes c.args.txn.now in
     let ok = rw (c.get.ensures.value, c.in_ok-put_txn.ensures.whole) at c.put_u32.ensures.ok in
     let err = rw c.in_ok-put_txn.ensures.whole at c.put_u32.ensures.err in
-    behind c.put_u32.result old txn (number_bytes 4 c.args.number) _ _ refl (all_or_none c.put_u32.result (old ++ txn) (number_bytes 4 c.args.number) _ ok err)
+    following c.put_u32.result old txn (number_bytes 4 c.args.number) _ _ refl (all_or_none c.put_u32.result (old ++ txn) (number_bytes 4 c.args.number) _ ok err)

@@ -1,7 +1,7 @@
 use Rattle.std.proofs.Common.{◌++◌, refl}
 use Rattle.vp_text.proofs.Printing.{all_or_none, begun_err, begun_first}
 use Rattle.vp_bytes.specs.Fields.{number_bytes, txn_bytes, view_bytes}
-use Rattle.vp_bytes.proofs.Writing.{behind, begun_part}
+use Rattle.vp_bytes.proofs.Writing.{following, begun_part}
 use Rattle.vp_bytes.proofs.fields.put_request.Goals as goal
 
 pub returns-in_err-put_txn : goal.returns-in_err-put_txn
@@ -25,4 +25,4 @@ returns g c =
     let number = number_bytes 4 a.number in
     let ok = rw (c.get.ensures.value, c.in_ok-put_view.ensures.whole, c.in_ok-put_txn.ensures.whole) at c.put_u32.ensures.ok in
     let err = rw (c.in_ok-put_view.ensures.whole, c.in_ok-put_txn.ensures.whole) at c.put_u32.ensures.err in
-    behind result old txn (view ++ number) _ _ refl (behind result (old ++ txn) view number _ _ refl (all_or_none result ((old ++ txn) ++ view) number _ ok err))
+    following result old txn (view ++ number) _ _ refl (following result (old ++ txn) view number _ _ refl (all_or_none result ((old ++ txn) ++ view) number _ ok err))

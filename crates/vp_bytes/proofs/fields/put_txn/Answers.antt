@@ -1,7 +1,7 @@
 use Rattle.std.proofs.Common.{[], ◌∷◌, ◌++◌, refl, ◌∙◌}
 use Rattle.vp_text.proofs.Printing.{all_or_none, begun_err, begun_none}
 use Rattle.vp_bytes.specs.Fields.{number_bytes, txn_bytes}
-use Rattle.vp_bytes.proofs.Writing.{behind, begun_front}
+use Rattle.vp_bytes.proofs.Writing.{following, begun_front}
 use Rattle.vp_bytes.proofs.fields.put_txn.Goals as goal
 
 pub returns-in_err-put_byte : goal.returns-in_err-put_byte
@@ -24,4 +24,4 @@ returns g c =
     let ok = rw (c.in_ok-put_u32.ensures.ok, site) at c.put_u32-2.ensures.ok in
     let err = rw (c.in_ok-put_u32.ensures.ok, site) at c.put_u32-2.ensures.err in
     let seq = all_or_none result ((old ++ txn.site ∷ []) ++ number_bytes 4 txn.life) (number_bytes 4 txn.seq) _ ok err in
-    behind result old (txn.site ∷ []) (number_bytes 4 txn.life ++ number_bytes 4 txn.seq) _ _ refl (behind result (old ++ txn.site ∷ []) (number_bytes 4 txn.life) (number_bytes 4 txn.seq) _ _ refl seq)
+    following result old (txn.site ∷ []) (number_bytes 4 txn.life ++ number_bytes 4 txn.seq) _ _ refl (following result (old ++ txn.site ∷ []) (number_bytes 4 txn.life) (number_bytes 4 txn.seq) _ _ refl seq)

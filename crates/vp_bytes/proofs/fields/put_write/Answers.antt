@@ -1,7 +1,7 @@
 use Rattle.std.proofs.Common.{[], ◌∷◌, refl}
 use Rattle.vp_text.proofs.Printing.{begun_err, begun_none}
 use Rattle.vp_bytes.specs.Fields.{counted_bytes}
-use Rattle.vp_bytes.proofs.Writing.{behind}
+use Rattle.vp_bytes.proofs.Writing.{following}
 use Rattle.vp_bytes.proofs.fields.put_write.Goals as goal
 
 pub returns-in_err-put_byte : goal.returns-in_err-put_byte
@@ -10,4 +10,4 @@ returns-in_err-put_byte g c = begun_err _ _ _ _ c.from_residual.ensures.0 (begun
 pub returns : goal.returns
 returns g c =
     let value = rw (c.in_ok-put_byte.ensures.ok, c.get.ensures.value) at c.put_value.ensures in
-    behind c.put_value.result (g.B.BufMut.written c.args.out.now) (c.args.rec ∷ []) (counted_bytes c.args.value.now) _ _ refl value
+    following c.put_value.result (g.B.BufMut.written c.args.out.now) (c.args.rec ∷ []) (counted_bytes c.args.value.now) _ _ refl value

@@ -7,9 +7,9 @@ use Rattle.vp_bytes.proofs.txn_ranges.txn_below.Goals as goal
 
 pub returns : goal.returns
 returns c =
-    let b = c.args.behind in
+    let b = c.args.following in
     let most = 2 ^ 32 - 1 in
     let t = txn_of (16 - b / most / most) (most - b / most % most) (most - b % most) in
-    let fits = c.ranges.behind.fits in
+    let fits = c.ranges.following.fits in
     let h : IsTxn t = record { site_some = omega arith; site_fits = omega arith; life_some = omega arith; life_fits = omega arith; seq_some = omega arith; seq_fits = omega arith } in
     rw (c.of.ensures, c.from-most.ensures) (of_rank t h (last_rank - b) (omega (arith, rank_sum t h)))

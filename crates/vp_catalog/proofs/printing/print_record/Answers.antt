@@ -1,16 +1,16 @@
 use Rattle.std.proofs.Common.{[], ◌∷◌}
 use Rattle.std.specs.Prelude.{codes}
-use Rattle.vp_catalog.proofs.Printed.{behind, none_of}
+use Rattle.vp_catalog.proofs.Printed.{following, none_of}
 use Rattle.vp_catalog.proofs.printing.print_record.Goals as goal
 
 pub returns-in_err-extend_from_slice : goal.returns-in_err-extend_from_slice
 returns-in_err-extend_from_slice c = none_of _ _ _ _ c.from_residual.ensures.0 c.in_err-extend_from_slice.ensures.items
 
 pub returns-in_err-print : goal.returns-in_err-print
-returns-in_err-print c = behind _ _ (codes "record ") _ _ _ c.in_ok-extend_from_slice.ensures.items (none_of _ _ _ _ c.from_residual-in_err-print.ensures.0 c.in_err-print.ensures.err)
+returns-in_err-print c = following _ _ (codes "record ") _ _ _ c.in_ok-extend_from_slice.ensures.items (none_of _ _ _ _ c.from_residual-in_err-print.ensures.0 c.in_err-print.ensures.err)
 
 pub returns-in_err-push : goal.returns-in_err-push
-returns-in_err-push c = behind _ _ (codes "record ") _ _ _ c.in_ok-extend_from_slice.ensures.items (behind _ _ c.args.placed.now.name _ _ _ (rw c.name.ensures at c.in_ok-print.ensures.ok) (none_of _ _ _ _ c.from_residual-in_err-push.ensures.0 c.in_err-push.ensures.items))
+returns-in_err-push c = following _ _ (codes "record ") _ _ _ c.in_ok-extend_from_slice.ensures.items (following _ _ c.args.placed.now.name _ _ _ (rw c.name.ensures at c.in_ok-print.ensures.ok) (none_of _ _ _ _ c.from_residual-in_err-push.ensures.0 c.in_err-push.ensures.items))
 
 pub returns : goal.returns
-returns c = behind _ _ (codes "record ") _ _ _ c.in_ok-extend_from_slice.ensures.items (behind _ _ c.args.placed.now.name _ _ _ (rw c.name.ensures at c.in_ok-print.ensures.ok) (behind _ _ (32 ∷ []) _ _ _ c.in_ok-push.ensures.items c.print_copies.ensures))
+returns c = following _ _ (codes "record ") _ _ _ c.in_ok-extend_from_slice.ensures.items (following _ _ c.args.placed.now.name _ _ _ (rw c.name.ensures at c.in_ok-print.ensures.ok) (following _ _ (32 ∷ []) _ _ _ c.in_ok-push.ensures.items c.print_copies.ensures))

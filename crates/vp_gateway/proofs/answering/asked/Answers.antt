@@ -1,6 +1,6 @@
 use Rattle.std.proofs.Common.{List, [], ◌∷◌, ℕ, refl, subst, sym}
 use Rattle.std.specs.Prelude.{None}
-use Rattle.vp_gateway.specs.declared.asked.Asked.TheVariants as asked
+use Rattle.vp_gateway.specs.declared.asked.LineRequest.TheVariants as asked
 use Rattle.vp_gateway.specs.Sessions.{IsSession}
 use Rattle.vp_gateway.proofs.Talking.{asked_one}
 use Rattle.vp_gateway.proofs.answering.asked.Goals as goal

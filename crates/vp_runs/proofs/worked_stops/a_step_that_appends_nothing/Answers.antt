@@ -7,9 +7,9 @@ pub returns-clause-none : goal.returns-clause-none
 unfolding computes stopped
 returns-clause-none c = refl
 
-pub returns-clause-behind : goal.returns-clause-behind
+pub returns-clause-following : goal.returns-clause-following
 unfolding computes stopped
-returns-clause-behind c = refl
+returns-clause-following c = refl
 
 pub returns-clause-unforced : goal.returns-clause-unforced
 unfolding computes stopped

@@ -1,10 +1,10 @@
 use Rattle.std.specs.Prelude.{codes}
 use Rattle.vp_model.specs.Texts.Answers.{numbered_text}
-use Rattle.vp_catalog.proofs.Printed.{behind, within}
+use Rattle.vp_catalog.proofs.Printed.{following, within}
 use Rattle.vp_trace.proofs.answers.print_view_changed.Goals as goal
 
 pub returns-in_err-print_numbered : goal.returns-in_err-print_numbered
 returns-in_err-print_numbered c = within _ _ (numbered_text (codes "viewchanged ") c.args.txn.now c.args.number) _ _ c.from_residual.ensures.0 c.print_numbered.ensures.begun
 
 pub returns : goal.returns
-returns c = behind _ _ (numbered_text (codes "viewchanged ") c.args.txn.now c.args.number) _ _ _ c.in_ok-print_numbered.ensures.whole c.print_change.ensures
+returns c = following _ _ (numbered_text (codes "viewchanged ") c.args.txn.now c.args.number) _ _ _ c.in_ok-print_numbered.ensures.whole c.print_change.ensures

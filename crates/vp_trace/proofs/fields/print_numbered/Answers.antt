@@ -1,8 +1,8 @@
-use Rattle.vp_catalog.proofs.Printed.{behind, none_of}
+use Rattle.vp_catalog.proofs.Printed.{following, none_of}
 use Rattle.vp_trace.proofs.fields.print_numbered.Goals as goal
 
 pub returns-in_err-print_word : goal.returns-in_err-print_word
 returns-in_err-print_word c = none_of _ _ _ _ c.from_residual.ensures.0 c.in_err-print_word.ensures.err
 
 pub returns : goal.returns
-returns c = behind _ _ c.args.word.now _ _ _ c.in_ok-print_word.ensures.ok c.print_call_name.ensures
+returns c = following _ _ c.args.word.now _ _ _ c.in_ok-print_word.ensures.ok c.print_call_name.ensures

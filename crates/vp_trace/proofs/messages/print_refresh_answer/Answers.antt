@@ -1,11 +1,11 @@
 use Rattle.std.proofs.Common.{◌++◌}
 use Rattle.std.specs.Prelude.{codes}
 use Rattle.vp_model.specs.Texts.Fields.{view_text}
-use Rattle.vp_catalog.proofs.Printed.{behind, within}
+use Rattle.vp_catalog.proofs.Printed.{following, within}
 use Rattle.vp_trace.proofs.messages.print_refresh_answer.Goals as goal
 
 pub returns-in_err-print_view : goal.returns-in_err-print_view
 returns-in_err-print_view c = within _ _ (codes "refresh-answer " ++ view_text c.args.view.now) _ _ c.from_residual.ensures.0 c.print_view.ensures.begun
 
 pub returns : goal.returns
-returns c = behind _ _ (codes "refresh-answer " ++ view_text c.args.view.now) _ _ _ c.in_ok-print_view.ensures.whole c.print_copy.ensures
+returns c = following _ _ (codes "refresh-answer " ++ view_text c.args.view.now) _ _ _ c.in_ok-print_view.ensures.whole c.print_copy.ensures

@@ -1,14 +1,14 @@
 use Rattle.std.proofs.Common.{[], ◌++◌, ◌∷◌}
 use Rattle.std.specs.Prelude.{codes}
 use Rattle.vp_model.specs.Texts.Fields.{call_name_text}
-use Rattle.vp_catalog.proofs.Printed.{behind, none_of, within}
+use Rattle.vp_catalog.proofs.Printed.{following, none_of, within}
 use Rattle.vp_trace.proofs.messages.print_refuse.Goals as goal
 
 pub returns-in_err-print_numbered : goal.returns-in_err-print_numbered
 returns-in_err-print_numbered c = within _ _ (codes "refuse " ++ call_name_text c.args.txn.now c.args.number) _ _ c.from_residual.ensures.0 c.print_numbered.ensures.begun
 
 pub returns-in_err-push : goal.returns-in_err-push
-returns-in_err-push c = behind _ _ (codes "refuse " ++ call_name_text c.args.txn.now c.args.number) _ _ _ c.in_ok-print_numbered.ensures.whole (none_of _ _ _ _ c.from_residual-in_err-push.ensures.0 c.in_err-push.ensures.items)
+returns-in_err-push c = following _ _ (codes "refuse " ++ call_name_text c.args.txn.now c.args.number) _ _ _ c.in_ok-print_numbered.ensures.whole (none_of _ _ _ _ c.from_residual-in_err-push.ensures.0 c.in_err-push.ensures.items)
 
 pub returns : goal.returns
-returns c = behind _ _ (codes "refuse " ++ call_name_text c.args.txn.now c.args.number) _ _ _ c.in_ok-print_numbered.ensures.whole (behind _ _ (32 ∷ []) _ _ _ c.in_ok-push.ensures.items c.print_obstacle.ensures)
+returns c = following _ _ (codes "refuse " ++ call_name_text c.args.txn.now c.args.number) _ _ _ c.in_ok-print_numbered.ensures.whole (following _ _ (32 ∷ []) _ _ _ c.in_ok-push.ensures.items c.print_obstacle.ensures)

@@ -8,8 +8,8 @@ pub returns-in_default : goal.returns-in_default
 returns-in_default c =
     let some : (c.args.k == 0) ≡ false = search rules in
     let (_, _, _, past, _) = c.in_default.ensures.lookup in
-    let behind : length c.self.inside.filed.items ≤ c.args.k - 1 = rw (← c.deref.ensures.value) past in
-    rw (← c.self.view_is) (sym (none_found c.self.inside.bytes.items c.self.inside.filed.items c.args.k some behind))
+    let following : length c.self.inside.filed.items ≤ c.args.k - 1 = rw (← c.deref.ensures.value) past in
+    rw (← c.self.view_is) (sym (none_found c.self.inside.bytes.items c.self.inside.filed.items c.args.k some following))
 
 pub returns : goal.returns
 returns c =

@@ -10,7 +10,7 @@ pub loop-rec-preserved : goal.loop-rec-preserved
 loop-rec-preserved c =
     let site = c.args.self.now.site in
     let same : c.as_slice-rec-items.result.now ≡ site.copies =
-    c.as_slice-rec-items.ensures ∙ ap (λ (i : Inside). i.here.copies) c.site-2.view_is ∙ ap (λ (s : SiteState). s.copies) (c.behind-self.view_is ∙ c.site.ensures) in
+    c.as_slice-rec-items.ensures ∙ ap (λ (i : Inside). i.here.copies) c.site-2.view_is ∙ ap (λ (s : SiteState). s.copies) (c.after-self.view_is ∙ c.site.ensures) in
     elim c.if-is_open.branch [
       | then-is_open+in_ok-push w ↦
           let yes : is_open c.args.catalog.now site c.loop-rec-item.result.0 ≡ true = sym c.is_open.ensures ∙ w.if-is_open.true in

@@ -4,14 +4,14 @@ use Rattle.vp_node.proofs.Faults.{gave_err}
 use Rattle.vp_world.specs.Known.{Known}
 use Rattle.vp_stopping.specs.AfterStop.{IsAfterStop}
 use Rattle.vp_stopping.proofs.Going.{going_ends, going_first, going_on, going_over, left_falls, most_left, none_left}
-use Rattle.vp_stopping.proofs.Waiting.{behind_on, behind_ready}
+use Rattle.vp_stopping.proofs.Waiting.{after_on, after_ready}
 use Rattle.vp_stopping.proofs.stopped.Steps.go_on.Goals as goal
 
 pub loop-steps-init : goal.loop-steps-init
 loop-steps-init c = record { going = going_first c.args.self c.args.left; waits = c.requires }
 
 pub step_by-requires : goal.step_by-requires
-step_by-requires c = behind_ready c.loop-steps.steps.world.catalogue c.loop-steps.steps.world.world c.loop-steps.behind c.loop-steps.invariant.waits c.in-Some.event
+step_by-requires c = after_ready c.loop-steps.steps.world.catalogue c.loop-steps.steps.world.world c.loop-steps.following c.loop-steps.invariant.waits c.in-Some.event
 
 pub returns-in_err-steps-clause-end : goal.returns-in_err-steps-clause-end
 returns-in_err-steps-clause-end c =
@@ -31,7 +31,7 @@ loop-steps-preserved c = record {
       c.in_ok-steps.steps c.next.new.self c.in_ok-steps.ensures.done c.in_ok-steps.ensures.end c.in_ok-event.ensures.left;
   waits =
       subst (λ (k : Known). IsAfterStop k.catalogue k.world c.step_by.new.stepper) (sym c.in_ok-steps.ensures.done.0)
-      (behind_on c.loop-steps.steps.world.catalogue c.loop-steps.steps.world.world c.loop-steps.behind c.step_by.new.stepper c.in-Some.event c.in_ok-steps.ensures.did c.loop-steps.invariant.waits);
+      (after_on c.loop-steps.steps.world.catalogue c.loop-steps.steps.world.world c.loop-steps.following c.step_by.new.stepper c.in-Some.event c.in_ok-steps.ensures.did c.loop-steps.invariant.waits);
 }
 
 pub returns-clause-done : goal.returns-clause-done

@@ -1,9 +1,0 @@
-use Rattle.std.proofs.Common.{[], ◌∷◌}
-use Rattle.vp_catalog.proofs.Printed.{behind, none_of}
-use Rattle.vp_trace.proofs.fields.print_record_behind.Goals as goal
-
-pub returns-in_err-push : goal.returns-in_err-push
-returns-in_err-push c = none_of _ _ _ _ c.from_residual.ensures.0 c.in_err-push.ensures.items
-
-pub returns : goal.returns
-returns c = behind _ _ (32 ∷ []) _ _ _ c.in_ok-push.ensures.items c.print_record.ensures
