@@ -17,8 +17,8 @@ mod keeps;
 mod places;
 mod slots;
 
-pub use keeps::Keeps;
 use keeps::KeepRule;
+pub use keeps::Keeps;
 use places::{OwnerKey, Places, RecPlaces, owner_key};
 use slots::{exclusive_or_own, lock_at, raise, sweep, sweep_all};
 use std::alloc::Global;

@@ -1,7 +1,7 @@
 //! Recordings that are read, and refused.
 
 use std::alloc::Global;
-use vp_recording::{RecordingSet, RecordingFault, parse};
+use vp_recording::{RecordingFault, RecordingSet, parse};
 
 /// A catalogue and the line `recordings`, with more lines after them.
 fn parse_after(alloc: Global, lines: &[u8]) -> Result<RecordingSet, RecordingFault> {

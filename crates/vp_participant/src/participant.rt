@@ -27,7 +27,7 @@ use vp_base::{
 use vp_lists::copy_all;
 use vp_locks::{Keeps, Locks};
 use vp_records::Durable;
-use vp_tables::{TxnSet, Table};
+use vp_tables::{Table, TxnSet};
 
 /// How a part votes.
 #[derive(Drop)]

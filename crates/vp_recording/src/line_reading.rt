@@ -169,7 +169,11 @@ fn parse_after_turn(
 
 /// A line where no `start` has to come.
 #[tactic(auto, unfolding(crate::specs::LineReading::free_at))]
-fn parse_free(alloc: Global, cursor: &mut Cursor, draft: &RecordingDraft) -> Result<RecordingLine, LineFault>
+fn parse_free(
+    alloc: Global,
+    cursor: &mut Cursor,
+    draft: &RecordingDraft,
+) -> Result<RecordingLine, LineFault>
     ensures { Tries (λ line. line) line_left result cursor.new (reading.free_at draft.now cursor.old) }
 {
     let sites = draft.head.catalog.sites().as_slice();

@@ -123,7 +123,12 @@ impl Refresh {
 }
 
 /// Keeps the copy of the site with each item of the record.
-fn keep(listed: &mut [RefreshEntry], from: SiteId, rec: RecId, stored: &Stored) -> Result<(), NoMemory>
+fn keep(
+    listed: &mut [RefreshEntry],
+    from: SiteId,
+    rec: RecId,
+    stored: &Stored,
+) -> Result<(), NoMemory>
     ensures { OnOk result (listed.new ≡ map (with_answer rec from stored.now) listed.old) }
 {
     for asked in listed.iter_mut() {

@@ -20,5 +20,5 @@ pub use worked_logs::{
     a_checkpoint_after_a_restart, a_decision_of_two_sites, lives_begin, nothing_is_forced,
 };
 pub use worked_stops::{
-    a_step_that_appends_nothing, a_stop_before_the_decision, a_stop_after_the_decision,
+    a_step_that_appends_nothing, a_stop_after_the_decision, a_stop_before_the_decision,
 };
