@@ -1,4 +1,4 @@
--- Every number in a world is at most the count of the steps so far: a step begins one life or one view at most.
+-- Every number in a world is at most the count of the steps so far: a step begins one life, one view or one transaction at most.
 use Rattle.std.proofs.Common.{◌≡◌, ◌≢◌, ◌∙◌, ap, sym, subst, ℕ, ◌+◌, ◌-◌, ◌^◌, ◌<◌, ◌≤◌, List, [], ◌∷◌, length, refl, arith, ⊎_elim}
 use Rattle.std.proofs.Common.{length-append}
 use Rattle.std.specs.Prelude.{Option, Some, None, map, option_map}
@@ -25,9 +25,11 @@ use Rattle.vp_laws.proofs.Invariant.Known.{Known}
 use Rattle.vp_laws.proofs.Keeping.Known.{known_last}
 use Rattle.vp_progress.specs.Whole.{AreUnspent, life_in, promised_number}
 use Rattle.vp_progress.specs.Progress.{world_of}
+use Rattle.vp_progress.specs.NeverStuck.{HasNameLeft}
 use Rattle.vp_progress.proofs.Invited.{promised_is}
 use Rattle.vp_progress.proofs.Refreshed.{ends}
 use Rattle.vp_progress.proofs.Certain.{ended_front}
+use Rattle.vp_progress.proofs.Named.{named-step}
 
 -- ---- a step
 
@@ -94,6 +96,7 @@ record Counted (n : ℕ) (w : Scene) : Type 0 where
   promised : (s : ℕ) → (kept_at w s).promise.number ≤ n
   life : (s : ℕ) → (kept_at w s).life ≤ n + 1
   seen : (s : ℕ) (x : SiteState) → plain_at w s ≡ Some x → x.seen ≤ n
+  named : (s : ℕ) (x : SiteState) → plain_at w s ≡ Some x → x.seq ≤ n
 
 one_more : (a b n : ℕ) → a ≡ b → b ≤ n → a ≤ n + 1
 one_more a b n e h = omega (arith, e, h)
@@ -103,6 +106,7 @@ counted_more n w c = record {
   promised = λ s. one_more _ _ n refl (c.promised s);
   life = λ s. one_more _ _ (n + 1) refl (c.life s);
   seen = λ s x up. one_more _ _ n refl (c.seen s x up);
+  named = λ s x up. one_more _ _ n refl (c.named s x up);
 }
 
 counted_acts : (catalogue : Catalogue) (w : Scene) (s : ℕ) (x : SiteState) (given : Input) (n : ℕ) → plain_at w s ≡ Some x → Arrives w s given → Known catalogue w → Counted n w → Counted (n + 1) (acted w s x (step catalogue x given))
@@ -120,6 +124,7 @@ counted_acts catalogue w s x given n up r k c =
       promised = λ q. kept_low new o low.1 q (kept_is w new s x o st q);
       life = λ q. life_low new o life q (kept_is w new s x o st q);
       seen = λ q y there. seen_low o low.0 q y (now_is w new s x o st q y there);
+      named = λ q y there. named_low o (named-step catalogue x given (n + 1) (one_more _ _ n refl (c.named s x up)) (λ port begins. let low = c.named s x up in omega (arith, low))) q y (now_is w new s x o st q y there);
     }
   where
     within : (i : ViewId) → AtMost i (kept_at w i.site).promise → i.number ≤ n
@@ -137,9 +142,17 @@ counted_acts catalogue w s x given n up r k c =
     seen_low o low q y (NowIs.here e same) = one_more _ _ n (ap (λ (y : SiteState). y.seen) (sym same)) low
     seen_low o low q y (NowIs.other e old) = one_more _ _ n refl (c.seen q y old)
 
+    named_low : (o : Stepped) → o.site.seq ≤ n + 1 → (q : ℕ) (y : SiteState) → NowIs w s o.site q y → y.seq ≤ n + 1
+    named_low o low q y (NowIs.here e same) = subst (λ (y : SiteState). y.seq ≤ n + 1) same low
+    named_low o low q y (NowIs.other e old) = one_more _ _ n refl (c.named q y old)
+
 start_seen : (catalogue : Catalogue) (s : ℕ) (d : DurableState) → (start catalogue s d).seen ≡ 0
 unfolding start
 start_seen catalogue s d = refl
+
+pub start_seq : (catalogue : Catalogue) (s : ℕ) (d : DurableState) → (start catalogue s d).seq ≡ 0
+unfolding start
+start_seq catalogue s d = refl
 
 counted_quiet : (catalogue : Catalogue) (w new : Scene) (s n : ℕ) → Quiet catalogue w new s → (kept_at new s).life ≤ (kept_at w s).life + 1 → Counted n w → Counted (n + 1) new
 counted_quiet catalogue w new s n q lived c = record {
@@ -149,11 +162,16 @@ counted_quiet catalogue w new s n q lived c = record {
       (λ (e : k ≢ s). one_more _ _ (n + 1) (ap (λ o. (kept_in o).life) (q.moved.others k e)) (c.life k))
       (same_site k s);
   seen = λ k y there. seen_low k y (quiet_is catalogue w new s q k y there);
+  named = λ k y there. named_low k y (quiet_is catalogue w new s q k y there);
 }
   where
     seen_low : (k : ℕ) (y : SiteState) → QuietIs catalogue w s k y → y.seen ≤ n + 1
     seen_low k y (QuietIs.here e now) = let z = ap (λ (y : SiteState). y.seen) (sym now) ∙ start_seen catalogue s (kept_at w s) in omega (arith, z)
     seen_low k y (QuietIs.other e old) = one_more _ _ n refl (c.seen k y old)
+
+    named_low : (k : ℕ) (y : SiteState) → QuietIs catalogue w s k y → y.seq ≤ n + 1
+    named_low k y (QuietIs.here e now) = let z = ap (λ (y : SiteState). y.seq) (sym now) ∙ start_seq catalogue s (kept_at w s) in omega (arith, z)
+    named_low k y (QuietIs.other e old) = one_more _ _ n refl (c.named k y old)
 
 crash_lives : (o : Option Place) → (kept_in (option_map (λ (p : Place). record p { up = None }) o)).life ≤ (kept_in o).life + 1
 crash_lives None = omega arith
@@ -170,6 +188,7 @@ counted_starts catalogue = record {
   promised = λ s. promised s (place_of s (map (start_place catalogue) (sites_of catalogue))) refl;
   life = λ s. life s (place_of s (map (start_place catalogue) (sites_of catalogue))) refl;
   seen = λ s x up. let z = ap (λ (y : SiteState). y.seen) (sym (started catalogue s x up)) ∙ start_seen catalogue s (empty_durable (start_copies catalogue s)) in omega (arith, z);
+  named = λ s x up. let z = ap (λ (y : SiteState). y.seq) (sym (started catalogue s x up)) ∙ start_seq catalogue s (empty_durable (start_copies catalogue s)) in omega (arith, z);
 }
   where
     first : (s : ℕ) (p : Place) → place_of s (map (start_place catalogue) (sites_of catalogue)) ≡ Some p → p.durable ≡ apply (start_record (empty_durable (start_copies catalogue s))) (empty_durable (start_copies catalogue s))
@@ -243,3 +262,7 @@ unspent s ns few =
       promised = λ q here. number_left n (promised_number (place_of q (world_of s).places)) (2 ^ 32) (2 ^ 64) most few (rw (promised_is (place_of q (world_of s).places)) (c.promised q));
       seen = λ q x here up. number_left n x.seen (2 ^ 32) (2 ^ 64) most few (c.seen q x up);
     }
+
+-- and each site has a name left
+pub names_left : (s : Schedule) (q : ℕ) → length (moments_of s) < 2 ^ 32 - 2 → HasNameLeft q (world_of s)
+names_left s q few x up = let low = (counted_last s).named q x up in omega (arith, few, low)

@@ -13,6 +13,7 @@ pub mod Certain
 pub mod OneDoubt
 pub mod Current
 pub mod Mended
+pub mod Named
 pub mod Counted
 pub mod Asked
 pub mod Doubts
@@ -22,3 +23,4 @@ pub mod Marks
 pub mod Marked
 pub mod Elsewhere
 pub mod Meetings
+pub mod Returned

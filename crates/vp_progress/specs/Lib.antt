@@ -2,6 +2,7 @@ pub mod Going
 pub mod Whole
 pub mod Progress
 pub mod Clients
+pub mod NeverStuck
 pub mod Doubts
 pub mod Together
 pub mod Meeting

@@ -2,6 +2,7 @@
 
 ghost use Rattle.vp_progress.specs.Progress.{SchedulesCanMend, ShortSchedulesCanMend};
 ghost use Rattle.vp_progress.specs.Clients.{WholeWorldsServe};
+ghost use Rattle.vp_progress.specs.NeverStuck.{ClientsCanBeServed, ShortSchedulesServe};
 ghost use Rattle.vp_progress.specs.Doubts.{DoubtsStay};
 ghost use Rattle.vp_progress.specs.Meeting.{SitesCanMeet};
 ghost use Rattle.vp_progress.specs.Together.{SitesServe};
@@ -20,6 +21,14 @@ pub fn schedules_can_mend()
 pub fn clients_are_served()
     ensures whole { WholeWorldsServe }
     ensures together { SitesServe }
+{}
+
+/// Whatever has happened, a client at any site that has a name left for a transaction gets any list of at most 64 reads and writes committed:
+/// by events that mend all sites and commit nothing, and then by its own calls and messages alone. A run of fewer than 2^32 - 2 steps leaves each
+/// site a name.
+pub fn clients_can_be_served()
+    ensures unspent { ClientsCanBeServed }
+    ensures short { ShortSchedulesServe }
 {}
 
 /// What mends some sites ends no doubt of a coordinator outside: its records stay locked there until that site is heard.

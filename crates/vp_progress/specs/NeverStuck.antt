@@ -1,0 +1,49 @@
+-- Whatever has happened, each client can be served: by what mends all sites, and then by what serves the client.
+use Rattle.std.specs.Prelude.{◌≡◌, ℕ, ◌<◌, ◌≤◌, ◌^◌, ◌-◌, true, is_some, List, length, Some}
+use Rattle.std.specs.List.{AllByRecursion}
+use Rattle.vp_catalog.specs.Document.{IsCatalogue}
+use Rattle.vp_model.specs.Types.{Event}
+use Rattle.vp_model.specs.Words.{has}
+use Rattle.vp_model.specs.Catalogue.{sites_of, find_record}
+use Rattle.vp_model.specs.Site.{SiteState}
+use Rattle.vp_model.specs.World.{WorldState, Schedule, site_of, moments_of, journal_of}
+use Rattle.vp_progress.specs.Going.{goes_on, EachPasses, mends}
+use Rattle.vp_progress.specs.Whole.{AreUnspent, IsWhole}
+use Rattle.vp_progress.specs.Progress.{world_of}
+use Rattle.vp_progress.specs.Clients.{Wish, name_in, IsServed}
+
+-- The site is down, or has a name left for a transaction. (A site that starts again has all of them.)
+abbrev pub HasNameLeft : ℕ → WorldState → Type 0
+HasNameLeft q w = (x : SiteState) → site_of w q ≡ Some x → x.seq < 2 ^ 32 - 1
+
+-- Events that mend all sites commit nothing; those that serve the client put one entry more into the journal, with just what it asked for,
+-- and leave a whole world.
+pub record CanBeServed (s : Schedule) (q : ℕ) (wishes : List Wish) : Type 0 where
+  pub more : List Event
+  pub mending : EachPasses s.catalogue (mends (sites_of s.catalogue)) (world_of s) more
+  pub journal : journal_of (goes_on s more) ≡ journal_of s
+  pub served : IsServed (goes_on s more) (sites_of s.catalogue) q wishes (IsWhole s.catalogue)
+
+-- A client at any site gets any list of at most 64 reads and writes of records of the catalogue committed, after every schedule that spends no
+-- number, and leaves the site a name.
+abbrev pub ClientsCanBeServed : Type 0
+ClientsCanBeServed =
+    (s : Schedule) (q : ℕ) (wishes : List Wish)
+    → IsCatalogue s.catalogue
+    → AreUnspent (sites_of s.catalogue) (world_of s)
+    → has (sites_of s.catalogue) q ≡ true
+    → HasNameLeft q (world_of s)
+    → length wishes ≤ 64
+    → AllByRecursion (λ wish. is_some (find_record s.catalogue (name_in wish)) ≡ true) wishes
+    → CanBeServed s q wishes
+
+-- A run of fewer steps than there are lives spends none, and takes no last name.
+abbrev pub ShortSchedulesServe : Type 0
+ShortSchedulesServe =
+    (s : Schedule) (q : ℕ) (wishes : List Wish)
+    → IsCatalogue s.catalogue
+    → length (moments_of s) < 2 ^ 32 - 2
+    → has (sites_of s.catalogue) q ≡ true
+    → length wishes ≤ 64
+    → AllByRecursion (λ wish. is_some (find_record s.catalogue (name_in wish)) ≡ true) wishes
+    → CanBeServed s q wishes
