@@ -4,6 +4,9 @@
 Each wrong row is put into a copy of the repository, whose worked schedules are taken out so that they don't refuse it
 first; then the laws are checked there. What is printed is the row, and the first declarations that are refused.
 
+Some rows keep one copy: over these the laws of `vp_laws` are proved, by a line of their proofs that is as wrong as the row, and what refuses
+them is a law that no schedule is stuck, of `vp_progress`.
+
     bench/wrong_rows.py [WORD..]      only the rows whose name has one of the words
 """
 import pathlib
@@ -15,7 +18,7 @@ import tempfile
 
 TOP = pathlib.Path(__file__).resolve().parent.parent
 SPECS = "crates/vp_model/specs/"
-CRATES = ["vp_text", "vp_base", "vp_model", "vp_catalog", "vp_laws"]
+CRATES = ["vp_text", "vp_base", "vp_model", "vp_catalog", "vp_laws", "vp_progress"]
 
 # name, file, the line as it stands, the wrong line
 ROWS = [
@@ -54,6 +57,39 @@ ROWS = [
     ("a vote is sent and not forced to the log", "Messages.antt",
      "    |> force (log_record.Yes part.txn part.view writes)\n", ""),
 ]
+# Rows that keep one copy, with the lines of proofs of vp_laws that go with them: file, the line as it stands, the other line.
+STUCK = [
+    ("stuck: no wrong row", "OneCopy.antt", "order journal = ", "order journal = ", []),
+    ("stuck: a tick doesn't inquire", "Step.antt",
+     "effects = with_sent (map (inquiry o.site.id) txns) o.effects", "effects = with_sent [] o.effects",
+     [("Moves/Rows.antt", "inquire-kept c o p = k.asks_again o _ asked p", "inquire-kept c o p = k.asks_again o [] (λ m g. absurd (has_none m g)) p"),
+      ("Moves/Rows.antt", "Members.{Has, filter_has,", "Members.{Has, has_none, filter_has,")]),
+    ("stuck: a tick doesn't ask for a copy again", "Step.antt",
+     "ask_again catalogue view r o = send_all (message.RefreshRequest view r.rec) (unanswered catalogue o.site r) o", "ask_again catalogue view r o = o",
+     [("Moves/Rows.antt", "ask_again-kept view r o e h v p = k.asks_again o _ asked p", "ask_again-kept view r o e h v p = p")]),
+    ("stuck: an inquiry without a decision isn't answered", "Answers.antt",
+     "if (txn.site == id) && not (is_live txn l.live)", "if (txn.site == id) && (not (is_live txn l.live) && is_decided txn l.decisions)", []),
+    ("stuck: an outcome ends no refresh", "Messages.antt",
+     "settle_all catalogue (doubted_records doubt)", "settle_all catalogue []",
+     [("Moves/Rows.antt", "settle_all-kept (doubted_records (doubt_of txn x.doubts)) _ (k.end_here", "settle_all-kept [] _ (k.end_here"),
+      ("Moves/FrontSteps.antt", "settle_all-seen catalogue (doubted_records doubt)", "settle_all-seen catalogue []"),
+      ("Table/CopiesForced.antt", "(log_record.Outcome txn commit) (doubted_records (Some u)) _", "(log_record.Outcome txn commit) [] _")]),
+    ("stuck: a promise that is heard of isn't noted", "Messages.antt",
+     "with_seen promise v = record v { seen = max v.seen promise.number }", "with_seen promise v = v", []),
+    ("stuck: a site in doubt accepts no invitation", "Messages.antt",
+     "if view_before o.site.promise id", "if view_before o.site.promise id && is_empty o.site.doubts", []),
+    ("stuck: a doubt ends in its own view alone", "Messages.antt",
+     "on_outcome catalogue from txn commit o = end_part catalogue from txn commit (doubt_of txn o.site.doubts) o",
+     "on_outcome catalogue from txn commit o = if list_all (λ (d : Doubt). not (same_txn d.txn txn) || holds_view o.site d.view) o.site.doubts"
+     " then end_part catalogue from txn commit (doubt_of txn o.site.doubts) o else o",
+     [("Moves/Rows.antt", "on_outcome-kept from txn commit c = settle_all-kept (doubted_records (doubt_of txn x.doubts)) _ (k.end_here from txn commit c)",
+       "on_outcome-kept from txn commit c = by_test P _ _ _ (λ e. settle_all-kept (doubted_records (doubt_of txn x.doubts)) _ (k.end_here from txn commit c)) (λ e. h)"),
+      ("Moves/FrontSteps.antt", "    let doubt = doubt_of txn o.site.doubts in unseen_then", "    let doubt = doubt_of txn o.site.doubts in by_test (Unseen o) _ _ _ (λ e. unseen_then"),
+      ("Moves/FrontSteps.antt", "(settle_all-seen catalogue (doubted_records doubt) (end_here from txn commit doubt o))",
+       "(settle_all-seen catalogue (doubted_records doubt) (end_here from txn commit doubt o))) (λ e. nothing o)")]),
+]
+# that it says of each outcome that it is taken is what this law is for
+NOT_OF_EACH_OUTCOME = "stuck: a doubt ends in its own view alone"
 IMPORTS = {"Catalogue.antt": ("Prelude.{ℕ, ◌*◌, Bool, nat_lt,", "Prelude.{ℕ, ◌*◌, Bool, not, nat_lt,")}
 
 
@@ -77,9 +113,14 @@ def without_worked_schedules(copy):
     shutil.rmtree(crate / "must-fail", ignore_errors=True)
 
 
-def without_claim(laws, name):
-    claims = laws / "src/claims.rt"
+def without_claim(claims, name):
     claims.write_text(re.sub(r"(///.*\n)+pub fn %s\(\)\n(    .*\n)+\{\}\n" % name, "", claims.read_text()))
+    shutil.rmtree(claims.parent.parent / "proofs" / claims.stem / name)
+
+
+def without_lines(path, words):
+    """Takes out the lines in which the words are found."""
+    path.write_text("".join(line + "\n" for line in path.read_text().splitlines() if not re.search(words, line)))
 
 
 def without_shapes(copy):
@@ -89,14 +130,13 @@ def without_shapes(copy):
         path.unlink()
     for name in ("Shapes", "Routes"):
         (crate / f"proofs/{name}.antt").unlink()
-    for name in ("Shapes", "shaped", "Routes", "claims/messages_go_between_sites"):
+    for name in ("Shapes", "shaped", "Routes"):
         shutil.rmtree(crate / "proofs" / name)
-    without_claim(crate, "messages_go_between_sites")
+    without_claim(crate / "src/claims.rt", "messages_go_between_sites")
     replaced(crate / "src/claims.rt", "ghost use Rattle.vp_laws.specs.Routes.{MessagesGoBetweenSites};\n", "")
     shutil.rmtree(crate / "must-fail", ignore_errors=True)
     for path in ("proofs/Lib.antt", "specs/Lib.antt", "src/lib.rt"):
-        kept = [line for line in (crate / path).read_text().splitlines() if not re.search(r"mod (Shape|Route|shaped)", line)]
-        (crate / path).write_text("\n".join(kept) + "\n")
+        without_lines(crate / path, r"mod (Shape|Route|shaped)")
     # of the items of lists what doesn't speak of shapes, and of log records which copies they leave
     items = crate / "proofs/Lists/Items.antt"
     kept = items.read_text().split("\n  pub all_append")[0].splitlines()
@@ -123,10 +163,36 @@ def without_catalogues(copy):
         lib.write_text("".join(line + "\n" for line in lib.read_text().splitlines() if not gone.match(line)))
     shutil.rmtree(crate / "must-fail", ignore_errors=True)
     laws = copy / "crates/vp_laws"
-    without_claim(laws, "sites_are_apart")
-    shutil.rmtree(laws / "proofs/claims/sites_are_apart")
+    without_claim(laws / "src/claims.rt", "sites_are_apart")
     (laws / "proofs/Lists/Catalogues.antt").unlink()
     replaced(laws / "proofs/Lists.antt", "pub mod Catalogues\n", "")
+
+
+def with_mending(copy):
+    """Leaves of the laws that no schedule is stuck those of mending, which stand on no catalogue in the grammar."""
+    crate = copy / "crates/vp_progress"
+    for name in ("clients_are_served", "clients_can_be_served", "doubts_stay", "sites_can_meet"):
+        without_claim(crate / "src/laws.rt", name)
+    without_lines(crate / "src/laws.rt", r"specs\.(Clients|NeverStuck|Doubts|Meeting|Together)\b")
+    (crate / "src/worked.rt").unlink()
+    (crate / "src/lib.rt").write_text("//! What can be mended.\n#![tactic(auto)]\n\npub mod laws;\n")
+    shutil.rmtree(crate / "proofs/worked")
+    shutil.rmtree(crate / "proofs/Serving")
+    for part, names in (("specs", "Clients NeverStuck Doubts Together Meeting Recovery Worked"), ("proofs", "Serving Returned Asked Doubts Passing Marks Marked Elsewhere Meetings")):
+        for name in names.split():
+            (crate / part / f"{name}.antt").unlink()
+        without_lines(crate / part / "Lib.antt", r"mod (%s)$" % names.replace(" ", "|"))
+    replaced(crate / "proofs/Certain.antt", "Rattle.vp_records.proofs.Held", "Rattle.vp_laws.proofs.Lists.Held")
+    shutil.rmtree(crate / "must-fail", ignore_errors=True)
+
+
+def without_each_outcome(copy):
+    """Takes out the law that says of each outcome that its site takes it."""
+    crate = copy / "crates/vp_laws"
+    without_claim(crate / "src/claims.rt", "decisions_agree")
+    for folder, name in (("Words", "Decisions"), ("Table", "CopiesForced")):
+        (crate / f"proofs/{folder}/{name}.antt").unlink()
+        without_lines(crate / f"proofs/{folder}.antt", f"mod {name}$")
 
 
 def left_out(folder, names):
@@ -136,15 +202,15 @@ def left_out(folder, names):
     return [name for name in names if name == ".git"]
 
 
-def refusals(copy):
-    done = subprocess.run(["rt", "check", "vp_laws", "--jobs", "1"], cwd=copy / "crates/vp_laws",
+def refusals(copy, crate):
+    done = subprocess.run(["rt", "check", crate, "--jobs", "1"], cwd=copy / "crates" / crate,
                           stdout=subprocess.PIPE, stderr=subprocess.STDOUT, text=True)
     lines = [line for line in done.stdout.splitlines() if re.search(r": error: (in )?`", line)]
     return lines or [done.stdout.splitlines()[-1]]
 
 
 def main(words):
-    for name, file, old, new in ROWS:
+    for name, file, old, new, *proofs in ROWS + STUCK:
         if words and not any(word in name for word in words):
             continue
         with tempfile.TemporaryDirectory() as folder:
@@ -153,11 +219,16 @@ def main(words):
             without_worked_schedules(copy)
             without_shapes(copy)
             without_catalogues(copy)
+            with_mending(copy)
             replaced(copy / SPECS / file, old, new)
-            if file in IMPORTS:
+            if file in IMPORTS and not proofs:
                 replaced(copy / SPECS / file, *IMPORTS[file])
+            for line in proofs[0] if proofs else []:
+                replaced(copy / "crates/vp_laws/proofs" / line[0], *line[1:])
+            if name == NOT_OF_EACH_OUTCOME:
+                without_each_outcome(copy)
             print(name, flush=True)
-            for line in refusals(copy)[:4]:
+            for line in refusals(copy, "vp_progress" if proofs else "vp_laws")[:4]:
                 print("   ", line[:160], flush=True)
 
 

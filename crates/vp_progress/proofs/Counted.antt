@@ -23,9 +23,9 @@ use Rattle.vp_laws.proofs.Worlds.Events.{Arrives, came_in, crashed, restarted, h
 use Rattle.vp_laws.proofs.Worlds.Occurs.{Occurs, occurs, counted, RunLasts, run-keeps}
 use Rattle.vp_laws.proofs.Invariant.Known.{Known}
 use Rattle.vp_laws.proofs.Keeping.Known.{known_last}
-use Rattle.vp_progress.specs.Whole.{AreUnspent, life_in, promised_number}
+use Rattle.vp_progress.specs.Whole.{AreUnspent, HasNameLeft, life_in, promised_number}
+use Rattle.vp_progress.specs.Gathering.{HaveViewsLeft}
 use Rattle.vp_progress.specs.Progress.{world_of}
-use Rattle.vp_progress.specs.NeverStuck.{HasNameLeft}
 use Rattle.vp_progress.proofs.Invited.{promised_is}
 use Rattle.vp_progress.proofs.Refreshed.{ends}
 use Rattle.vp_progress.proofs.Certain.{ended_front}
@@ -146,7 +146,7 @@ counted_acts catalogue w s x given n up r k c =
     named_low o low q y (NowIs.here e same) = subst (λ (y : SiteState). y.seq ≤ n + 1) same low
     named_low o low q y (NowIs.other e old) = one_more _ _ n refl (c.named q y old)
 
-start_seen : (catalogue : Catalogue) (s : ℕ) (d : DurableState) → (start catalogue s d).seen ≡ 0
+pub start_seen : (catalogue : Catalogue) (s : ℕ) (d : DurableState) → (start catalogue s d).seen ≡ 0
 unfolding start
 start_seen catalogue s d = refl
 
@@ -266,3 +266,13 @@ unspent s ns few =
 -- and each site has a name left
 pub names_left : (s : Schedule) (q : ℕ) → length (moments_of s) < 2 ^ 32 - 2 → HasNameLeft q (world_of s)
 names_left s q few x up = let low = (counted_last s).named q x up in omega (arith, few, low)
+
+-- and each site two numbers of views
+pub views_left : (s : Schedule) (ns : List ℕ) → length (moments_of s) < 2 ^ 32 - 2 → HaveViewsLeft ns (world_of s)
+views_left s ns few =
+    let c = counted_last s in
+    record {
+      unspent = unspent s ns few;
+      promised = λ q here. let low = c.promised q in let is = promised_is (place_of q (world_of s).places) in omega (arith, few, low, is);
+      seen = λ q x here up. let low = c.seen q x up in omega (arith, few, low);
+    }

@@ -10,7 +10,7 @@ use Rattle.vp_model.specs.Words.{view_before, put_number}
 use Rattle.vp_model.specs.Catalogue.{Catalogue, sites_of}
 use Rattle.vp_model.specs.Durable.{DurableState}
 use Rattle.vp_model.specs.Site.{ViewState, SiteState}
-use Rattle.vp_model.specs.Views.{is_spent}
+use Rattle.vp_model.specs.Views.{highest, is_spent}
 use Rattle.vp_model.specs.Step.{step}
 use Rattle.vp_model.specs.World.{Place, WorldState, place_of, site_of}
 use Rattle.vp_laws.proofs.Lists.Members.{Has, has_none, has_one_is, has_one, has_cons, has_test, filter_keeps}
@@ -19,11 +19,12 @@ use Rattle.vp_laws.proofs.Lists.Views.{same_site, put_keeps, put_only}
 use Rattle.vp_laws.proofs.Moves.Table.{next_view}
 use Rattle.vp_laws.proofs.Moves.LocalViews.{letter}
 use Rattle.vp_laws.proofs.Worlds.Scenes.{scene_of, kept_in, promise_at}
+use Rattle.vp_laws.proofs.Invariant.Known.{Known}
 use Rattle.vp_progress.specs.Whole.{promised_number}
-use Rattle.vp_progress.proofs.Calm.{calms}
+use Rattle.vp_progress.proofs.Calm.{calms, carries}
 use Rattle.vp_progress.proofs.Can.{Can, can_now, can_then, Each, one_by_one}
-use Rattle.vp_progress.proofs.Acts.{by_regroup, by_letter}
-use Rattle.vp_progress.proofs.Started.{Started}
+use Rattle.vp_progress.proofs.Acts.{Did, by_regroup, by_carried}
+use Rattle.vp_progress.proofs.Started.{IsUp, Started}
 use Rattle.vp_progress.proofs.Based.{Based, moves_on, other_as, greatest}
 use Rattle.vp_progress.proofs.Rows.{invites, awaits, accepts, regroup_commits, regroup_sends, awaits_commits, counts, counts_commits}
 
@@ -31,13 +32,16 @@ pub promised_is : (o : Option Place) → promised_number o ≡ (kept_in o).promi
 promised_is None = refl
 promised_is (Some p) = refl
 
-not_spent : (a b n : ℕ) → a < n → b < n → (max a b == n) ≡ false
+pub not_spent : (a b n : ℕ) → a < n → b < n → (max a b == n) ≡ false
 not_spent a b n p q = grind (arith, nat_tests)
 
-above_all : (p g s : ℕ) → p ≤ g → p < max g s + 1
-above_all p g s h = omega arith
+one_above : (a b : ℕ) → a ≤ b → a < b + 1
+one_above a b h = omega (arith, h)
 
-below : (a b : ViewId) → a.number < b.number → view_before a b ≡ true
+below_highest : (a promise seen : ℕ) → a ≤ promise → a ≤ max promise seen
+below_highest a promise seen h = omega (arith, h)
+
+pub below : (a b : ViewId) → a.number < b.number → view_before a b ≡ true
 below a b h = grind (arith, nat_tests)
 
 unlike : (q r : ℕ) → q ≢ r → not (q == r) ≡ true
@@ -75,43 +79,47 @@ module _ (catalogue : Catalogue) (ns : List ℕ) (journal : List Commit) where
 
   -- ---- the invitation
 
-  regroups : (w : WorldState) (r : ℕ) → ((q : ℕ) → Has ns q → Has (sites_of catalogue) q) → Started catalogue ns journal w → Has ns r → ((q : ℕ) → Has ns q → (promise_at (scene_of w) q).number ≤ (promise_at (scene_of w) r).number) → Can catalogue (calms ns) w (λ new. (id : ViewId) × Invited id r new)
-  regroups w r sub f here top =
+  -- the site r has invited above each promise
+  pub regrouped : (w new : WorldState) (r : ℕ) (x : SiteState) → ((q : ℕ) → Has ns q → Has (sites_of catalogue) q) → Based catalogue ns journal w → ((q : ℕ) → Has ns q → IsUp q w) → Has ns r → site_of w r ≡ Some x → is_spent x.views ≡ false → ((q : ℕ) → Has ns q → (promise_at (scene_of w) q).number ≤ highest x.views)
+      → Known catalogue (scene_of new) → Did w new r x (step catalogue x (input.Call 0 call.Regroup)) → Invited (next_view x) r new
+  regrouped w new r x sub base up here mine free top k d =
+      let ok = base.known.views.site r x mine in
+      record {
+        base = moves_on catalogue ns journal w new r x _ base k d (regroup_commits catalogue x 0 free);
+        sent = λ q h n. d.acted.sends _ (subst (λ (s : ℕ). Has (step catalogue x (input.Call 0 call.Regroup)).effects.messages (letter s q (message.Invite (next_view x)))) ok.id (regroup_sends catalogue x 0 q free (filter_keeps (λ q. not (q == x.id)) (sites_of catalogue) q (sub q h) (unlike q x.id (rw ok.id n)))));
+        leader = (step catalogue x (input.Call 0 call.Regroup)).site;
+        up = d.acted.now;
+        accepted = x.id ∷ [];
+        inviting = ap (λ (v : ViewState). v.inviting) (invites catalogue x 0 free);
+        own = rw ok.id (has_one r);
+        among = λ q h. subst (Has ns) (sym ok.id ∙ has_one_is x.id q h) here;
+        site = λ q h n.
+            let y = up q h in
+            inl (record {
+              at = y.0;
+              up = other_as d q n ∙ y.1;
+              low = rw (ap (λ (i : DurableState). i.promise.number) (base.known.views.site q y.0 y.1).kept) (one_above _ (highest x.views) (top q h));
+            });
+      }
+
+  pub invites_all : (w : WorldState) (first : ℕ) (rest : List ℕ) → ns ≡ first ∷ rest → ((q : ℕ) → Has ns q → Has (sites_of catalogue) q) → Started catalogue ns journal w → Can catalogue (calms ns) w (λ new. (id : ViewId) × (r : ℕ) × Has ns r × Invited id r new)
+  invites_all w first rest is sub f =
       let known = f.fit.known in
+      let g = greatest (λ q. (promise_at (scene_of w) q).number) first rest in
+      let r = g.0 in
+      let here : Has ns r = subst (λ (l : List ℕ). Has l r) (sym is) g.1 in
       let u = f.up r here in
       let x = u.0 in
-      let ok = known.views.site r x u.1 in
-      let mine : x.promise ≡ promise_at (scene_of w) r = ap (λ (d : DurableState). d.promise) ok.kept in
+      let mine : x.promise ≡ promise_at (scene_of w) r = ap (λ (d : DurableState). d.promise) (known.views.site r x u.1).kept in
       let low : x.promise.number < 2 ^ 64 - 1 = rw (ap (λ (i : ViewId). i.number) mine, ← (promised_is (place_of r w.places))) (f.fit.unspent.promised r (has_test ns r here)) in
       let free : is_spent x.views ≡ false = not_spent x.promise.number x.seen (2 ^ 64 - 1) low (f.fit.unspent.seen r x (has_test ns r here) u.1) in
       by_regroup catalogue ns _ w r x known here u.1
       λ new k d. can_now catalogue (calms ns) _ new (
         next_view x,
-        record {
-          base = moves_on catalogue ns journal w new r x _ (record { known = known; joined = f.joined; same = f.fit.same }) k d (regroup_commits catalogue x 0 free);
-          sent = λ q h n. d.acted.sends _ (subst (λ (s : ℕ). Has (step catalogue x (input.Call 0 call.Regroup)).effects.messages (letter s q (message.Invite (next_view x)))) ok.id (regroup_sends catalogue x 0 q free (filter_keeps (λ q. not (q == x.id)) (sites_of catalogue) q (sub q h) (unlike q x.id (rw ok.id n)))));
-          leader = (step catalogue x (input.Call 0 call.Regroup)).site;
-          up = d.acted.now;
-          accepted = x.id ∷ [];
-          inviting = ap (λ (v : ViewState). v.inviting) (invites catalogue x 0 free);
-          own = rw ok.id (has_one r);
-          among = λ q h. subst (Has ns) (sym ok.id ∙ has_one_is x.id q h) here;
-          site = λ q h n.
-              let y = f.up q h in
-              inl (record {
-                at = y.0;
-                up = other_as d q n ∙ y.1;
-                low = rw (ap (λ (i : DurableState). i.promise.number) (known.views.site q y.0 y.1).kept) (above_all _ x.promise.number x.seen (rw (ap (λ (i : ViewId). i.number) mine) (top q h)));
-              });
-        },
+        r,
+        here,
+        regrouped w new r x sub (record { known = known; joined = f.joined; same = f.fit.same }) f.up here u.1 free (λ q h. below_highest _ x.promise.number x.seen (rw (ap (λ (i : ViewId). i.number) mine) (g.2 q (subst (λ (l : List ℕ). Has l q) is h)))) k d,
       )
-
-  pub invites_all : (w : WorldState) (first : ℕ) (rest : List ℕ) → ns ≡ first ∷ rest → ((q : ℕ) → Has ns q → Has (sites_of catalogue) q) → Started catalogue ns journal w → Can catalogue (calms ns) w (λ new. (id : ViewId) × (r : ℕ) × Has ns r × Invited id r new)
-  invites_all w first rest is sub f =
-      let g = greatest (λ q. (promise_at (scene_of w) q).number) first rest in
-      let here : Has ns g.0 = subst (λ (l : List ℕ). Has l g.0) (sym is) g.1 in
-      can_then catalogue (calms ns) (λ new. (id : ViewId) × Invited id g.0 new) _ w (regroups w g.0 sub f here (λ q h. g.2 q (subst (λ (l : List ℕ). Has l q) is h)))
-      λ new n. can_now catalogue (calms ns) _ new (n.0, g.0, here, n.1)
 
   -- ---- the acceptances
 
@@ -120,17 +128,17 @@ module _ (catalogue : Catalogue) (ns : List ℕ) (journal : List Commit) where
     Has_accepted q w = q ≢ r → Accepted id r q w
 
     -- the invitation comes to a site that may accept, and its acceptance comes back
-    takes : (q : ℕ) (w : WorldState) → Has ns q → q ≢ r → (f : Invited id r w) → Ready id q w → Can catalogue (calms ns) w (Each (Invited id r) Has_accepted (q ∷ []) w)
+    takes : (q : ℕ) (w : WorldState) → Has ns q → q ≢ r → (f : Invited id r w) → Ready id q w → Can catalogue (carries ns) w (Each (Invited id r) Has_accepted (q ∷ []) w)
     takes q w here n f a =
         let ok = f.base.known.views.site q a.at a.up in
         let b = below a.at.promise id a.low in
         let turned : r ≢ q = λ (same : r ≡ q). n (sym same) in
-        by_letter catalogue ns _ w q a.at f.base.known here a.up r (message.Invite id) refl (f.sent q here n) lead (f.base.joined r q lead here)
+        by_carried catalogue ns _ w q a.at f.base.known here a.up r (message.Invite id) refl (f.sent q here n) lead (f.base.joined r q lead here)
         λ mid k d.
         let base = moves_on catalogue ns journal w mid q a.at _ f.base k d (awaits_commits catalogue a.at r id b) in
         let up_r = other_as d r turned ∙ f.up in
         let answer = d.acted.sends _ (subst (λ (s : ℕ). Has (step catalogue a.at (input.Message r (message.Invite id))).effects.messages (letter s r (message.Accept id))) ok.id (accepts catalogue a.at r id b)) in
-        by_letter catalogue ns _ mid r f.leader k lead up_r q (message.Accept id) refl answer here (base.joined q r here lead)
+        by_carried catalogue ns _ mid r f.leader k lead up_r q (message.Accept id) refl answer here (base.joined q r here lead)
         λ new k2 e.
         let now : (step catalogue f.leader (input.Message q (message.Accept id))).site.inviting ≡ Some (id, put_number q f.accepted) = counts catalogue f.leader q id f.accepted f.inviting in
         let grown : (c : ℕ) → Has f.accepted c → (x : SiteState) → site_of new r ≡ Some x → Has (acceptors x.inviting) c = λ c h x u. let same : (step catalogue f.leader (input.Message q (message.Accept id))).site ≡ x = (let z = sym e.acted.now ∙ u in grind (arith, z)) in rw (← same, now) (put_keeps q f.accepted c h) in
@@ -146,7 +154,7 @@ module _ (catalogue : Catalogue) (ns : List ℕ) (journal : List Commit) where
           waiting = g.waiting;
           counted = grown c (rw f.inviting at (g.counted f.leader f.up));
         } in
-        can_now catalogue (calms ns) _ new (record {
+        can_now catalogue (carries ns) _ new (record {
           still = record {
             base = moves_on catalogue ns journal mid new r f.leader _ base k2 e (counts_commits catalogue f.leader q id);
             sent = λ c h p. e.acted.moved.sent _ (d.acted.moved.sent _ (f.sent c h p));
@@ -162,12 +170,12 @@ module _ (catalogue : Catalogue) (ns : List ℕ) (journal : List Commit) where
           stays = λ c g p. ⊎_elim (λ (same : c ≡ q). rw same mine) (λ (other : c ≢ q). old c other p (g p)) (same_site c q);
         })
 
-    accepts_one : (q : ℕ) (w : WorldState) → Has ns q → Invited id r w → Can catalogue (calms ns) w (Each (Invited id r) Has_accepted (q ∷ []) w)
+    accepts_one : (q : ℕ) (w : WorldState) → Has ns q → Invited id r w → Can catalogue (carries ns) w (Each (Invited id r) Has_accepted (q ∷ []) w)
     accepts_one q w here f =
         ⊎_elim
-        (λ (same : q ≡ r). can_now catalogue (calms ns) _ w (record { still = f; done = λ c h p. ⊎_elim (λ (one : q ≡ c). absurd (p (sym one ∙ same))) (λ more. absurd (has_none c more)) (has_cons q [] c h); stays = λ c g. g }))
-        (λ (n : q ≢ r). ⊎_elim (λ (a : Ready id q w). takes q w here n f a) (λ (a : Accepted id r q w). can_now catalogue (calms ns) _ w (record { still = f; done = λ c h p. ⊎_elim (λ (one : q ≡ c). subst (λ (c : ℕ). Accepted id r c w) one a) (λ more. absurd (has_none c more)) (has_cons q [] c h); stays = λ c g. g })) (f.site q here n))
+        (λ (same : q ≡ r). can_now catalogue (carries ns) _ w (record { still = f; done = λ c h p. ⊎_elim (λ (one : q ≡ c). absurd (p (sym one ∙ same))) (λ more. absurd (has_none c more)) (has_cons q [] c h); stays = λ c g. g }))
+        (λ (n : q ≢ r). ⊎_elim (λ (a : Ready id q w). takes q w here n f a) (λ (a : Accepted id r q w). can_now catalogue (carries ns) _ w (record { still = f; done = λ c h p. ⊎_elim (λ (one : q ≡ c). subst (λ (c : ℕ). Accepted id r c w) one a) (λ more. absurd (has_none c more)) (has_cons q [] c h); stays = λ c g. g })) (f.site q here n))
         (same_site q r)
 
-    pub accepts_all : (w : WorldState) → Invited id r w → Can catalogue (calms ns) w (Each (Invited id r) Has_accepted ns w)
-    accepts_all w f = one_by_one catalogue (calms ns) (Invited id r) Has_accepted ns accepts_one ns (λ a h. h) w f
+    pub accepts_all : (w : WorldState) → Invited id r w → Can catalogue (carries ns) w (Each (Invited id r) Has_accepted ns w)
+    accepts_all w f = one_by_one catalogue (carries ns) (Invited id r) Has_accepted ns accepts_one ns (λ a h. h) w f

@@ -15,6 +15,8 @@ pub mod Current
 pub mod Mended
 pub mod Named
 pub mod Counted
+pub mod Opened
+pub mod Gathered
 pub mod Asked
 pub mod Doubts
 pub mod Passing

@@ -21,8 +21,8 @@ use Rattle.vp_laws.proofs.Invariant.Known.{Known}
 use Rattle.vp_progress.specs.Whole.{AreUnspent, IsWhole}
 use Rattle.vp_progress.specs.Progress.{world_of, CanBeWhole}
 use Rattle.vp_progress.proofs.Going.{world_goes_on, passing_flows_not}
-use Rattle.vp_progress.proofs.Calm.{calms, each_mends}
-use Rattle.vp_progress.proofs.Can.{Can, can_now, can_then}
+use Rattle.vp_progress.proofs.Calm.{opens, carries, calms, open_carries, carry_calm, each_mends}
+use Rattle.vp_progress.proofs.Can.{Can, can_now, can_then, can_by}
 use Rattle.vp_progress.proofs.Started.{Fit, Started, starts_all}
 use Rattle.vp_progress.proofs.Based.{Based, OneEach}
 use Rattle.vp_progress.proofs.Invited.{Invited, invites_all, accepts_all}
@@ -73,9 +73,9 @@ module _ (catalogue : Catalogue) (ns : List ℕ) (journal : List Commit) where
 
   pub joins : (first : ℕ) (rest : List ℕ) → ns ≡ first ∷ rest → ((q : ℕ) → Has ns q → Has (sites_of catalogue) q) → (w : WorldState) → Fit catalogue ns journal w → Can catalogue (calms ns) w Joined
   joins first rest is sub w f =
-      can_then catalogue (calms ns) (Started catalogue ns journal) Joined w (starts_all catalogue ns journal w f)
+      can_then catalogue (calms ns) (Started catalogue ns journal) Joined w (can_by catalogue (opens ns) (calms ns) (λ w e p. carry_calm ns w e (open_carries ns w e p)) _ w (starts_all catalogue ns journal w f))
       λ w1 s. can_then catalogue (calms ns) (λ new. (id : ViewId) × (r : ℕ) × Has ns r × Invited catalogue ns journal id r new) Joined w1 (invites_all catalogue ns journal w1 first rest is sub s)
-      λ w2 i. can_then catalogue (calms ns) _ Joined w2 (accepts_all catalogue ns journal i.0 i.1 i.2 w2 i.3)
+      λ w2 i. can_then catalogue (calms ns) _ Joined w2 (can_by catalogue (carries ns) (calms ns) (carry_calm ns) _ w2 (accepts_all catalogue ns journal i.0 i.1 i.2 w2 i.3))
       λ w3 a. can_then catalogue (calms ns) (λ new. (v : View) × Fixed catalogue ns journal v i.1 new) Joined w3 (fixes_view catalogue ns journal i.0 i.1 w3 i.2 a.still (λ q h n. a.done q h n))
       λ w4 v. can_then catalogue (calms ns) _ Joined w4 (joins_all catalogue ns journal v.0 i.1 i.2 w4 v.1)
       λ w5 h. can_now catalogue (calms ns) Joined w5 (record { view = v.0; base = h.still.base; all = h.still.all; among = h.still.among; holds = h.done })

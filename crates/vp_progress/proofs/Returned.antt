@@ -21,10 +21,10 @@ use Rattle.vp_laws.proofs.Worlds.Occurs.{Gives, Occurs, occurs}
 use Rattle.vp_laws.proofs.Invariant.Known.{Known}
 use Rattle.vp_laws.proofs.Keeping.Known.{known_last}
 use Rattle.vp_progress.specs.Going.{goes_on, world_after, EachPasses, is_regroup, mends}
-use Rattle.vp_progress.specs.Whole.{AreUnspent}
+use Rattle.vp_progress.specs.Whole.{AreUnspent, HasNameLeft}
 use Rattle.vp_progress.specs.Progress.{world_of}
 use Rattle.vp_progress.specs.Clients.{Wish, name_in}
-use Rattle.vp_progress.specs.NeverStuck.{HasNameLeft, CanBeServed}
+use Rattle.vp_progress.specs.NeverStuck.{CanBeServed}
 use Rattle.vp_progress.proofs.Going.{world_goes_on, passing_flows_not}
 use Rattle.vp_progress.proofs.Acts.{stays_known}
 use Rattle.vp_progress.proofs.Named.{named-step}

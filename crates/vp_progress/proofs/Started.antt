@@ -17,7 +17,7 @@ use Rattle.vp_laws.proofs.Worlds.Scenes.{scene_of, up_in, place-same, place-othe
 use Rattle.vp_laws.proofs.Worlds.Events.{restarted}
 use Rattle.vp_laws.proofs.Invariant.Known.{Known}
 use Rattle.vp_progress.specs.Whole.{life_in, promised_number, AreUnspent}
-use Rattle.vp_progress.proofs.Calm.{calms}
+use Rattle.vp_progress.proofs.Calm.{opens}
 use Rattle.vp_progress.proofs.Can.{Can, can_now, can_then, can_event, Each, one_by_one}
 use Rattle.vp_progress.proofs.Acts.{stays_known}
 
@@ -72,11 +72,11 @@ module _ (catalogue : Catalogue) (ns : List ℕ) (journal : List Commit) where
   abbrev NotCut : ℕ × ℕ → WorldState → Type 0
   NotCut pair w = is_cut w pair.0 pair.1 ≡ false
 
-  heals : (pair : ℕ × ℕ) (w : WorldState) → Has ns pair.0 → Has ns pair.1 → F w → Can catalogue (calms ns) w (Each F NotCut (pair ∷ []) w)
+  heals : (pair : ℕ × ℕ) (w : WorldState) → Has ns pair.0 → Has ns pair.1 → F w → Can catalogue (opens ns) w (Each F NotCut (pair ∷ []) w)
   unfolding happens
   heals pair w a b f =
-      can_event catalogue (calms ns) _ w (event.Heal pair.0 pair.1) (rw (has_test ns pair.0 a, has_test ns pair.1 b) refl)
-      (can_now catalogue (calms ns) _ _ (record {
+      can_event catalogue (opens ns) _ w (event.Heal pair.0 pair.1) (rw (has_test ns pair.0 a, has_test ns pair.1 b) refl)
+      (can_now catalogue (opens ns) _ _ (record {
         still = record { known = stays_known catalogue (event.Heal pair.0 pair.1) w f.known; unspent = record { lives = f.unspent.lives; promised = f.unspent.promised; seen = f.unspent.seen }; there = f.there; same = f.same };
         done = λ p h. ⊎_elim (λ (one : pair ≡ p). rw (← one) (healed pair.0 pair.1 w.cuts)) (λ more. absurd (has_none p more)) (has_cons pair [] p h);
         stays = λ p e. cut_less pair.0 pair.1 p.0 p.1 w.cuts e;
@@ -123,13 +123,13 @@ module _ (catalogue : Catalogue) (ns : List ℕ) (journal : List Commit) where
   abbrev Joined : WorldState → Type 0
   Joined w = F w × AreJoined ns w
 
-  begins : (q : ℕ) (p : Place) (w : WorldState) → Has ns q → place_of q w.places ≡ Some p → p.up ≡ None → Joined w → Can catalogue (calms ns) w (Each Joined IsUp (q ∷ []) w)
+  begins : (q : ℕ) (p : Place) (w : WorldState) → Has ns q → place_of q w.places ≡ Some p → p.up ≡ None → Joined w → Can catalogue (opens ns) w (Each Joined IsUp (q ∷ []) w)
   unfolding happens
   begins q p w here e down f =
       let life : p.durable.life ≢ 2 ^ 32 - 1 = subst (λ (o : Option Place). life_in o ≢ 2 ^ 32 - 1) e (f.0.unspent.lives q (has_test ns q here) (ap up_in e ∙ down)) in
       let is : (next catalogue (event.Restart q) w).world ≡ begun q w = start_world_of q p (record w { steps = w.steps + 1 }) e down life in
-      can_event catalogue (calms ns) _ w (event.Restart q) (has_test ns q here)
-      (can_now catalogue (calms ns) _ _ (subst (λ (new : WorldState). Each Joined IsUp (q ∷ []) w new) (sym is) (record {
+      can_event catalogue (opens ns) _ w (event.Restart q) (has_test ns q here)
+      (can_now catalogue (opens ns) _ _ (subst (λ (new : WorldState). Each Joined IsUp (q ∷ []) w new) (sym is) (record {
         still = (
           record {
             known = subst (λ (new : WorldState). Known catalogue (scene_of new)) is (stays_known catalogue (event.Restart q) w f.0.known);
@@ -144,29 +144,29 @@ module _ (catalogue : Catalogue) (ns : List ℕ) (journal : List Commit) where
       })))
 
   -- it is up, or starts
-  raises : (q : ℕ) (w : WorldState) → Has ns q → Joined w → Can catalogue (calms ns) w (Each Joined IsUp (q ∷ []) w)
+  raises : (q : ℕ) (w : WorldState) → Has ns q → Joined w → Can catalogue (opens ns) w (Each Joined IsUp (q ∷ []) w)
   raises q w here f = go (site_of w q) refl
     where
-      go : (o : Option SiteState) → site_of w q ≡ o → Can catalogue (calms ns) w (Each Joined IsUp (q ∷ []) w)
-      go (Some x) e = can_now catalogue (calms ns) _ w (record { still = f; done = λ k h. ⊎_elim (λ (one : q ≡ k). rw (← one) (x, e)) (λ more. absurd (has_none k more)) (has_cons q [] k h); stays = λ k u. u })
+      go : (o : Option SiteState) → site_of w q ≡ o → Can catalogue (opens ns) w (Each Joined IsUp (q ∷ []) w)
+      go (Some x) e = can_now catalogue (opens ns) _ w (record { still = f; done = λ k h. ⊎_elim (λ (one : q ≡ k). rw (← one) (x, e)) (λ more. absurd (has_none k more)) (has_cons q [] k h); stays = λ k u. u })
       go None e = let t = f.0.there q here in begins q t.0 w here t.1 (down_place (place_of q w.places) t.0 t.1 e) f
 
   -- one site with each of these
-  joins_one : (a : ℕ) (w : WorldState) → Has ns a → F w → Can catalogue (calms ns) w (Each F NotCut (map (λ (b : ℕ). (a, b)) ns) w)
+  joins_one : (a : ℕ) (w : WorldState) → Has ns a → F w → Can catalogue (opens ns) w (Each F NotCut (map (λ (b : ℕ). (a, b)) ns) w)
   joins_one a w here f =
-      one_by_one catalogue (calms ns) F NotCut (map (λ (b : ℕ). (a, b)) ns)
+      one_by_one catalogue (opens ns) F NotCut (map (λ (b : ℕ). (a, b)) ns)
       (λ pair w h f. let p = map_has (λ (b : ℕ). (a, b)) ns pair h in heals pair w (rw (← (ap (λ (z : ℕ × ℕ). z.0) p.2)) here) (rw (← (ap (λ (z : ℕ × ℕ). z.1) p.2)) p.1) f)
       (map (λ (b : ℕ). (a, b)) ns) (λ p h. h) w f
 
   abbrev JoinedOf : List ℕ → WorldState → Type 0
   JoinedOf qs w = (a b : ℕ) → Has qs a → Has ns b → is_cut w a b ≡ false
 
-  joins_all : (qs : List ℕ) → ((a : ℕ) → Has qs a → Has ns a) → (w : WorldState) → F w → Can catalogue (calms ns) w (λ new. F new × JoinedOf qs new × ((p : ℕ × ℕ) → NotCut p w → NotCut p new))
-  joins_all [] sub w f = can_now catalogue (calms ns) _ w (f, (λ a b h. absurd (has_none a h)), (λ p e. e))
+  joins_all : (qs : List ℕ) → ((a : ℕ) → Has qs a → Has ns a) → (w : WorldState) → F w → Can catalogue (opens ns) w (λ new. F new × JoinedOf qs new × ((p : ℕ × ℕ) → NotCut p w → NotCut p new))
+  joins_all [] sub w f = can_now catalogue (opens ns) _ w (f, (λ a b h. absurd (has_none a h)), (λ p e. e))
   joins_all (a ∷ qs) sub w f =
-      can_then catalogue (calms ns) (Each F NotCut (map (λ (b : ℕ). (a, b)) ns) w) _ w (joins_one a w (sub a (has_first a qs)) f)
-      λ mid m. can_then catalogue (calms ns) (λ new. F new × JoinedOf qs new × ((p : ℕ × ℕ) → NotCut p mid → NotCut p new)) _ mid (joins_all qs (λ b h. sub b (has_more a qs b h)) mid m.still)
-      λ new n. can_now catalogue (calms ns) _ new (n.0, (λ c b h k. ⊎_elim (λ (one : a ≡ c). rw (← one) (n.2 (a, b) (m.done (a, b) (mapped_has (λ (b : ℕ). (a, b)) ns b k)))) (λ more. n.1 c b more k) (has_cons a qs c h)), (λ p e. n.2 p (m.stays p e)))
+      can_then catalogue (opens ns) (Each F NotCut (map (λ (b : ℕ). (a, b)) ns) w) _ w (joins_one a w (sub a (has_first a qs)) f)
+      λ mid m. can_then catalogue (opens ns) (λ new. F new × JoinedOf qs new × ((p : ℕ × ℕ) → NotCut p mid → NotCut p new)) _ mid (joins_all qs (λ b h. sub b (has_more a qs b h)) mid m.still)
+      λ new n. can_now catalogue (opens ns) _ new (n.0, (λ c b h k. ⊎_elim (λ (one : a ≡ c). rw (← one) (n.2 (a, b) (m.done (a, b) (mapped_has (λ (b : ℕ). (a, b)) ns b k)))) (λ more. n.1 c b more k) (has_cons a qs c h)), (λ p e. n.2 p (m.stays p e)))
 
   -- all are up, and no pair is cut
   pub record Started (w : WorldState) : Type 0 where
@@ -174,8 +174,8 @@ module _ (catalogue : Catalogue) (ns : List ℕ) (journal : List Commit) where
     pub joined : AreJoined ns w
     pub up : (q : ℕ) → Has ns q → IsUp q w
 
-  pub starts_all : (w : WorldState) → Fit catalogue ns journal w → Can catalogue (calms ns) w Started
+  pub starts_all : (w : WorldState) → Fit catalogue ns journal w → Can catalogue (opens ns) w Started
   starts_all w f =
-      can_then catalogue (calms ns) (λ new. F new × JoinedOf ns new × ((p : ℕ × ℕ) → NotCut p w → NotCut p new)) Started w (joins_all ns (λ a h. h) w f)
-      λ mid m. can_then catalogue (calms ns) (Each Joined IsUp ns mid) Started mid (one_by_one catalogue (calms ns) Joined IsUp ns raises ns (λ a h. h) mid (m.0, m.1))
-      λ new n. can_now catalogue (calms ns) Started new (record { fit = n.still.0; joined = n.still.1; up = n.done })
+      can_then catalogue (opens ns) (λ new. F new × JoinedOf ns new × ((p : ℕ × ℕ) → NotCut p w → NotCut p new)) Started w (joins_all ns (λ a h. h) w f)
+      λ mid m. can_then catalogue (opens ns) (Each Joined IsUp ns mid) Started mid (one_by_one catalogue (opens ns) Joined IsUp ns raises ns (λ a h. h) mid (m.0, m.1))
+      λ new n. can_now catalogue (opens ns) Started new (record { fit = n.still.0; joined = n.still.1; up = n.done })

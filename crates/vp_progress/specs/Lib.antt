@@ -6,5 +6,6 @@ pub mod NeverStuck
 pub mod Doubts
 pub mod Together
 pub mod Meeting
+pub mod Gathering
 pub mod Recovery
 pub mod Worked

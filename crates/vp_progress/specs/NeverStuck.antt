@@ -1,20 +1,15 @@
 -- Whatever has happened, each client can be served: by what mends all sites, and then by what serves the client.
-use Rattle.std.specs.Prelude.{◌≡◌, ℕ, ◌<◌, ◌≤◌, ◌^◌, ◌-◌, true, is_some, List, length, Some}
+use Rattle.std.specs.Prelude.{◌≡◌, ℕ, ◌<◌, ◌≤◌, ◌^◌, ◌-◌, true, is_some, List, length}
 use Rattle.std.specs.List.{AllByRecursion}
 use Rattle.vp_catalog.specs.Document.{IsCatalogue}
 use Rattle.vp_model.specs.Types.{Event}
 use Rattle.vp_model.specs.Words.{has}
 use Rattle.vp_model.specs.Catalogue.{sites_of, find_record}
-use Rattle.vp_model.specs.Site.{SiteState}
-use Rattle.vp_model.specs.World.{WorldState, Schedule, site_of, moments_of, journal_of}
+use Rattle.vp_model.specs.World.{Schedule, moments_of, journal_of}
 use Rattle.vp_progress.specs.Going.{goes_on, EachPasses, mends}
-use Rattle.vp_progress.specs.Whole.{AreUnspent, IsWhole}
+use Rattle.vp_progress.specs.Whole.{AreUnspent, HasNameLeft, IsWhole}
 use Rattle.vp_progress.specs.Progress.{world_of}
 use Rattle.vp_progress.specs.Clients.{Wish, name_in, IsServed}
-
--- The site is down, or has a name left for a transaction. (A site that starts again has all of them.)
-abbrev pub HasNameLeft : ℕ → WorldState → Type 0
-HasNameLeft q w = (x : SiteState) → site_of w q ≡ Some x → x.seq < 2 ^ 32 - 1
 
 -- Events that mend all sites commit nothing; those that serve the client put one entry more into the journal, with just what it asked for,
 -- and leave a whole world.

@@ -20,6 +20,10 @@ pub record AreUnspent (ns : List ℕ) (w : WorldState) : Type 0 where
   pub promised : (q : ℕ) → has ns q ≡ true → promised_number (place_of q w.places) < 2 ^ 64 - 1
   pub seen : (q : ℕ) (x : SiteState) → has ns q ≡ true → site_of w q ≡ Some x → x.seen < 2 ^ 64 - 1
 
+-- The site is down, or has a name left for a transaction. (One that starts again has all of them.)
+abbrev pub HasNameLeft : ℕ → WorldState → Type 0
+HasNameLeft q w = (x : SiteState) → site_of w q ≡ Some x → x.seq < 2 ^ 32 - 1
+
 -- It holds the view, and nothing is left: no lock, no refresh, no live transaction, no part, no doubt.
 pub record IsAtRest (v : View) (x : SiteState) : Type 0 where
   pub held : x.held ≡ Some v

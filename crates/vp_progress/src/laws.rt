@@ -3,6 +3,7 @@
 ghost use Rattle.vp_progress.specs.Progress.{SchedulesCanMend, ShortSchedulesCanMend};
 ghost use Rattle.vp_progress.specs.Clients.{WholeWorldsServe};
 ghost use Rattle.vp_progress.specs.NeverStuck.{ClientsCanBeServed, ShortSchedulesServe};
+ghost use Rattle.vp_progress.specs.Gathering.{AnyoneCanLead, AnyoneCanLeadShortly};
 ghost use Rattle.vp_progress.specs.Doubts.{DoubtsStay};
 ghost use Rattle.vp_progress.specs.Meeting.{SitesCanMeet};
 ghost use Rattle.vp_progress.specs.Together.{SitesServe};
@@ -34,6 +35,13 @@ pub fn clients_can_be_served()
 /// What mends some sites ends no doubt of a coordinator outside: its records stay locked there until that site is heard.
 pub fn doubts_stay()
     ensures { DoubtsStay }
+{}
+
+/// Any one site can lead: by two calls to regroup there, what is sent among these sites in between, and no tick, each of them accepts its
+/// invitation, and the others wait for its view. Two numbers of views have to be left, as a run of fewer than 2^32 - 2 steps leaves them.
+pub fn anyone_can_lead()
+    ensures room { AnyoneCanLead }
+    ensures short { AnyoneCanLeadShortly }
 {}
 
 /// Any sites at which no number is spent can be brought together, by events that mend them alone, whatever the others do: nothing happens at
