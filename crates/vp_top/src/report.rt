@@ -4,12 +4,13 @@ ghost use Rattle.std.specs.Prelude.{◌≡◌, ◌++◌, ◌∷◌, OnOk, codes,
 ghost use Rattle.std.specs.Fmt.{decimal};
 ghost use Rattle.vp_audit.specs.Lines.{can_text, doubt_line, found_text, newest_line, report_text};
 ghost use Rattle.vp_model.specs.Catalogue.{name_of};
-ghost use Rattle.vp_model.specs.Texts.Fields.{later_site_text, sites_text, txn_text, view_text};
+ghost use Rattle.vp_model.specs.Texts.Fields.{sites_text, txn_text, view_text};
 
 use vp_audit::{Can, DoubtAt, Found, Report};
 use vp_base::{NoMemory, RecId, SiteId, Stored};
 use vp_catalog::Catalog;
 use vp_text::print_number;
+use vp_trace::print_sites;
 
 /// Appends the lines of each record.
 pub fn print_report(catalog: &Catalog, report: &Report, out: &mut Vec<u8>) -> Result<(), NoMemory>
@@ -59,7 +60,7 @@ fn print_copy(copy: &Stored, sites: &[SiteId], out: &mut Vec<u8>) -> Result<(), 
     out.push(b' ')?;
     copy.date.print(out)?;
     out.extend_from_slice(b" at ")?;
-    print_sites(sites, out)
+    print_sites(out, sites)
 }
 
 fn print_doubts(
@@ -120,27 +121,6 @@ fn print_can(can: &Can, out: &mut Vec<u8>) -> Result<(), NoMemory>
             txn.print(out)?;
         }
         Can::Yes => out.extend_from_slice(b" yes")?,
-    }
-    Ok(())
-}
-
-/// Appends the sites with commas between them.
-fn print_sites(sites: &[SiteId], out: &mut Vec<u8>) -> Result<(), NoMemory>
-    ensures { OnOk result (out.new.items ≡ out.old.items ++ sites_text sites.now) }
-{
-    let Some((first, others)) = sites.split_first() else {
-        return Ok(());
-    };
-    first.print(out)?;
-    print_later_sites(others, out)
-}
-
-fn print_later_sites(sites: &[SiteId], out: &mut Vec<u8>) -> Result<(), NoMemory>
-    ensures { OnOk result (out.new.items ≡ out.old.items ++ flat_map later_site_text sites.now) }
-{
-    for site in sites {
-        out.push(b',')?;
-        site.print(out)?;
     }
     Ok(())
 }
