@@ -61,7 +61,8 @@ fn begin<L: Link, K: Sink>(
     requires fresh { (L.state link.old).asked ≡ None }
     requires id { has (sites_of catalog.now) id ≡ true }
     ensures asked { AsksPort catalog.now id (L.state link.old) (L.state link.new) }
-    ensures begins { Begins life (L.state link.old) (L.state link.new) (K.state sink.old) (K.state sink.new) result }
+    ensures begins { Begins life (L.state link.old) (L.state link.new) (K.state sink.old) (K.state sink.new)
+        result }
     ensures later { (K.state sink.old).faults ≤ (K.state sink.new).faults }
 {
     let Some(port) = catalog.port(id) else {

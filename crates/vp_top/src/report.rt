@@ -36,7 +36,9 @@ fn print_found(catalog: &Catalog, found: &Found, out: &mut Vec<u8>) -> Result<()
 
 /// Appends the line of the newest settled copy, or the line that there is none.
 fn print_newest(catalog: &Catalog, found: &Found, out: &mut Vec<u8>) -> Result<(), NoMemory>
-    ensures { OnOk result (out.new.items ≡ out.old.items ++ newest_line (name_of catalog.now found.now.rec) found.now.newest found.now.sites) }
+    ensures { OnOk result
+        (out.new.items ≡ out.old.items ++
+        newest_line (name_of catalog.now found.now.rec) found.now.newest found.now.sites) }
 {
     let Some(copy) = &found.newest else {
         out.extend_from_slice(b"unsettled ")?;
@@ -53,7 +55,9 @@ fn print_newest(catalog: &Catalog, found: &Found, out: &mut Vec<u8>) -> Result<(
 
 /// Appends the value and the date of a copy, and the sites that have one of that date.
 fn print_copy(copy: &Stored, sites: &[SiteId], out: &mut Vec<u8>) -> Result<(), NoMemory>
-    ensures { OnOk result (out.new.items ≡ out.old.items ++ 32 ∷ (copy.now.value ++ 32 ∷ (view_text copy.now.date ++ (codes " at " ++ sites_text sites.now)))) }
+    ensures { OnOk result
+        (out.new.items ≡ out.old.items ++ 32 ∷
+        (copy.now.value ++ 32 ∷ (view_text copy.now.date ++ (codes " at " ++ sites_text sites.now)))) }
 {
     out.push(b' ')?;
     copy.value.print(out)?;
@@ -69,7 +73,8 @@ fn print_doubts(
     doubts: &[DoubtAt],
     out: &mut Vec<u8>,
 ) -> Result<(), NoMemory>
-    ensures { OnOk result (out.new.items ≡ out.old.items ++ flat_map (doubt_line (name_of catalog.now rec)) doubts.now) }
+    ensures { OnOk result
+        (out.new.items ≡ out.old.items ++ flat_map (doubt_line (name_of catalog.now rec)) doubts.now) }
 {
     for doubt in doubts {
         print_doubt(catalog, rec, doubt, out)?;
@@ -95,7 +100,10 @@ fn print_doubt(
 
 /// Appends the transaction, its view and the site.
 fn print_doubt_at(doubt: &DoubtAt, out: &mut Vec<u8>) -> Result<(), NoMemory>
-    ensures { OnOk result (out.new.items ≡ out.old.items ++ 32 ∷ (txn_text doubt.now.txn ++ 32 ∷ (view_text doubt.now.view ++ (codes " at " ++ decimal doubt.now.site)))) }
+    ensures { OnOk result
+        (out.new.items ≡ out.old.items ++ 32 ∷
+        (txn_text doubt.now.txn ++ 32 ∷
+        (view_text doubt.now.view ++ (codes " at " ++ decimal doubt.now.site)))) }
 {
     out.push(b' ')?;
     doubt.txn.print(out)?;

@@ -82,7 +82,8 @@ fn answer_to(txn: &TxnId, number: CallNo, why: &Ending) -> Result<Answer, NoMemo
 /// Answers the pending call, if there is one, by how the transaction has ended.
 fn answer_pending(t: &mut Live, why: &Ending, effects: &mut Effects) -> Result<(), NoMemory>
     ensures answers { OnOk result (t.new ≡ record t.old { answers = answers_after t.old why.now }) }
-    ensures effects { OnOk result (effects.new ≡ with_pending_reply t.old.txn why.now t.old.pending effects.old) }
+    ensures effects { OnOk result
+        (effects.new ≡ with_pending_reply t.old.txn why.now t.old.pending effects.old) }
 {
     if let Some(pending) = &t.pending {
         let number = pending.as_ref().number;
@@ -153,9 +154,11 @@ impl Transactions {
     /// Takes out the transaction and its pending call, where that call waits for the site.
     pub fn take_waiting(&mut self, txn: &TxnId, from: SiteId) -> Result<Option<Handled>, NoMemory>
         ensures taken { IfOk result (λ taken. taken ≡ waiting_call txn.now from self.old.live) }
-        ensures back { IfOk result (λ taken. option_map_or (λ h. put_live h.live self.new) taken self.new ≡ self.old) }
+        ensures back { IfOk result
+            (λ taken. option_map_or (λ h. put_live h.live self.new) taken self.new ≡ self.old) }
         ensures waiting { IfOk result (λ taken. IfSome taken (λ h. waits h.live ≡ true)) }
-        ensures emptied { IfOk result (λ taken. IfSome taken (λ h. self.new ≡ put_live (begun txn.now opening) self.old)) }
+        ensures emptied { IfOk result
+            (λ taken. IfSome taken (λ h. self.new ≡ put_live (begun txn.now opening) self.old)) }
     {
         match self.take_up(txn) {
             None => Ok(None),
@@ -217,7 +220,8 @@ impl Transactions {
 
     /// Copies the live transactions whose calls were pending at the tick before.
     pub fn late(&self) -> Result<Vec<Live>, NoMemory>
-        ensures late { IfOk result (λ late. late.items ≡ filter (λ t. is_marked_call t.pending) self.now.live) }
+        ensures late { IfOk result
+            (λ late. late.items ≡ filter (λ t. is_marked_call t.pending) self.now.live) }
         ensures waiting { all_wait self.now.live ≡ true }
     {
         self.live.late()
@@ -247,7 +251,8 @@ impl Transactions {
         effects: &mut Effects,
     ) -> Result<(), NoMemory>
         ensures kept { OnOk result (self.new ≡ with_finished t.old why self.old) }
-        ensures effects { OnOk result (effects.new ≡ with_pending_reply t.old.txn why t.old.pending effects.old) }
+        ensures effects { OnOk result
+            (effects.new ≡ with_pending_reply t.old.txn why t.old.pending effects.old) }
         ensures left { OnOk result (t.new ≡ record t.old { answers = [] }) }
     {
         answer_pending(t, &why, effects)?;
@@ -271,7 +276,8 @@ impl Transactions {
     /// The answer to a call of a transaction that is not live: the one given before, the end of the transaction, or that it is
     /// unknown.
     pub fn told_after(&self, txn: &TxnId, number: CallNo) -> Result<Option<Answer>, NoMemory>
-        ensures { IfOk result (λ told. told ≡ told_after txn.now number (finished_of txn.now self.now.finished)) }
+        ensures { IfOk result
+            (λ told. told ≡ told_after txn.now number (finished_of txn.now self.now.finished)) }
     {
         told_in(&self.finished, txn, number)
     }
@@ -285,7 +291,8 @@ pub fn tell_outcome(
     parts: &[SiteId],
     effects: &mut Effects,
 ) -> Result<(), NoMemory>
-    ensures { OnOk result (effects.new ≡ with_messages id (message.Outcome txn.now commit) parts.now effects.old) }
+    ensures { OnOk result
+        (effects.new ≡ with_messages id (message.Outcome txn.now commit) parts.now effects.old) }
 {
     let outcome = Message::Outcome { txn: *txn, commit };
     effects.send_all(id, parts, &outcome)
@@ -348,7 +355,8 @@ fn told_in(
     txn: &TxnId,
     number: CallNo,
 ) -> Result<Option<Answer>, NoMemory>
-    ensures { IfOk result (λ told. told ≡ told_after txn.now number (finished_of txn.now finished.now.items)) }
+    ensures { IfOk result
+        (λ told. told ≡ told_after txn.now number (finished_of txn.now finished.now.items)) }
 {
     match find_finished(finished, txn) {
         None => Ok(Some(Answer::Unknown { txn: *txn })),
