@@ -10,7 +10,7 @@ ghost use Rattle.vp_model.specs.Transactions.{live_of, finished_of, put_live, an
 ghost use Rattle.vp_model.specs.Calls.{kept_answer, begun, with_begun};
 ghost use Rattle.vp_model.specs.Answers.{waits_for, with_acknowledged, is_live, is_decided};
 ghost use Rattle.vp_model.specs.Step.{is_marked_call, with_marks};
-ghost use Rattle.vp_transactions.specs.Ended.{told_by, told_after};
+ghost use Rattle.vp_transactions.specs.Ended.{answer_of_finished, answer_after};
 ghost use Rattle.vp_transactions.specs.Waiting.{waits, all_wait, standing_for, pending_for, waiting_call, with_outcomes};
 
 use crate::handled::Handled;
@@ -101,7 +101,7 @@ fn kept_answer(answers: &[Answer], number: CallNo) -> Option<&Answer>
 }
 
 /// Copies the answer that was given to the call of this number.
-pub fn told_again(answers: &[Answer], number: CallNo) -> Result<Option<Answer>, NoMemory>
+pub fn answered_again(answers: &[Answer], number: CallNo) -> Result<Option<Answer>, NoMemory>
     ensures { IfOk result (λ told. told ≡ kept_answer number answers.now) }
 {
     match kept_answer(answers, number) {
@@ -275,16 +275,16 @@ impl Transactions {
 
     /// The answer to a call of a transaction that is not live: the one given before, the end of the transaction, or that it is
     /// unknown.
-    pub fn told_after(&self, txn: &TxnId, number: CallNo) -> Result<Option<Answer>, NoMemory>
+    pub fn answer_after(&self, txn: &TxnId, number: CallNo) -> Result<Option<Answer>, NoMemory>
         ensures { IfOk result
-            (λ told. told ≡ told_after txn.now number (finished_of txn.now self.now.finished)) }
+            (λ told. told ≡ answer_after txn.now number (finished_of txn.now self.now.finished)) }
     {
-        told_in(&self.finished, txn, number)
+        answer_in(&self.finished, txn, number)
     }
 }
 
 /// Sends the outcome of the transaction to each of its parts.
-pub fn tell_outcome(
+pub fn send_outcome(
     id: SiteId,
     txn: &TxnId,
     commit: bool,
@@ -302,7 +302,7 @@ fn resend(id: SiteId, decisions: &[Decision], effects: &mut Effects) -> Result<(
     ensures { OnOk result (effects.new ≡ with_outcomes id decisions.now effects.old) }
 {
     for decision in decisions {
-        tell_outcome(
+        send_outcome(
             id,
             &decision.txn,
             true,
@@ -350,26 +350,26 @@ fn find_finished<'a>(finished: &'a VecDeque<Finished>, txn: &TxnId) -> Option<&'
     finished.iter().find(|f| f.is_of(txn))
 }
 
-fn told_in(
+fn answer_in(
     finished: &VecDeque<Finished>,
     txn: &TxnId,
     number: CallNo,
 ) -> Result<Option<Answer>, NoMemory>
     ensures { IfOk result
-        (λ told. told ≡ told_after txn.now number (finished_of txn.now finished.now.items)) }
+        (λ told. told ≡ answer_after txn.now number (finished_of txn.now finished.now.items)) }
 {
     match find_finished(finished, txn) {
         None => Ok(Some(Answer::Unknown { txn: *txn })),
-        Some(f) => told_by(f, number),
+        Some(f) => answer_of_finished(f, number),
     }
 }
 
-fn told_by(f: &Finished, number: CallNo) -> Result<Option<Answer>, NoMemory>
-    ensures { IfOk result (λ told. told ≡ told_by number f.now) }
+fn answer_of_finished(f: &Finished, number: CallNo) -> Result<Option<Answer>, NoMemory>
+    ensures { IfOk result (λ told. told ≡ answer_of_finished number f.now) }
 {
     let answers = f.answers.as_slice();
     if number.get() as usize > answers.len() {
         return Ok(Some(answer_to(&f.txn, number, &f.ending)?));
     }
-    told_again(answers, number)
+    answered_again(answers, number)
 }

@@ -158,7 +158,7 @@ impl Views {
         let id = self.invitable()?;
         let accepted = alone(catalog.sites().allocator(), self.id)?;
         effects.force(LogRecord::Promise { view: id })?;
-        self.tell_others(catalog, &Message::Invite { id }, effects)?;
+        self.send_to_others(catalog, &Message::Invite { id }, effects)?;
         self.promise = id;
         self.standing = Standing::Inviting { accepted };
         Ok(id)
@@ -355,12 +355,12 @@ impl Views {
     {
         match self.standing.listen() {
             None => Ok(()),
-            Some(view) => self.tell_others(catalog, &Message::Probe { view }, effects),
+            Some(view) => self.send_to_others(catalog, &Message::Probe { view }, effects),
         }
     }
 
     /// Sends the message to every other site of the catalogue.
-    fn tell_others(
+    fn send_to_others(
         &self,
         catalog: &Catalog,
         message: &Message,
