@@ -218,7 +218,8 @@ impl<R: Files<File = File>> Disk for LogFiles<R> {
 
     fn write_at(&mut self, half: u8, at: u64, piece: &[u8]) -> Result<(), OutFault>
         requires attached { IsSome self.old.halves }
-        ensures written { Changes half (Written at piece.now) (Torn at (length piece.now)) (⟦<LogFiles<R> as Disk>⟧.state self.old) (⟦<LogFiles<R> as Disk>⟧.state self.new) result }
+        ensures written { Changes half (Written at piece.now) (Torn at (length piece.now))
+            (⟦<LogFiles<R> as Disk>⟧.state self.old) (⟦<LogFiles<R> as Disk>⟧.state self.new) result }
         ensures fits { OnOk result (at + length piece.now ≤ 2 ^ 62) }
         ensures no_memory { IsErrOf result OutOfMemory → ⊥ }
     {
@@ -229,7 +230,8 @@ impl<R: Files<File = File>> Disk for LogFiles<R> {
 
     fn cut(&mut self, half: u8, length: u64) -> Result<(), OutFault>
         requires attached { IsSome self.old.halves }
-        ensures cut { Changes half (CutTo length) (MaybeCut length) (⟦<LogFiles<R> as Disk>⟧.state self.old) (⟦<LogFiles<R> as Disk>⟧.state self.new) result }
+        ensures cut { Changes half (CutTo length) (MaybeCut length) (⟦<LogFiles<R> as Disk>⟧.state self.old)
+            (⟦<LogFiles<R> as Disk>⟧.state self.new) result }
         ensures no_memory { IsErrOf result OutOfMemory → ⊥ }
     {
         self.unsynced.mark(half);
@@ -239,7 +241,8 @@ impl<R: Files<File = File>> Disk for LogFiles<R> {
 
     fn sync(&mut self) -> Result<(), OutFault>
         requires attached { IsSome self.old.halves }
-        ensures synced { Syncs (⟦<LogFiles<R> as Disk>⟧.state self.old) (⟦<LogFiles<R> as Disk>⟧.state self.new) result }
+        ensures synced { Syncs (⟦<LogFiles<R> as Disk>⟧.state self.old)
+            (⟦<LogFiles<R> as Disk>⟧.state self.new) result }
         ensures no_memory { IsErrOf result OutOfMemory → ⊥ }
     {
         let synced = self.halves.as_ref().unwrap().sync(&mut self.unsynced);

@@ -21,7 +21,16 @@ pub struct Socket<N> {
 impl<N: Net> Socket<N> {
     /// Makes a link that is not bound to a port yet.
     pub fn new(net: N) -> Socket<N>
-        ensures { ⟦<Socket<N> as Link>⟧.state result ≡ record { left = None; given = 0; handed = None; asked = None; bound = false; faults = 0; losses = 0 } }
+        ensures { ⟦<Socket<N> as Link>⟧.state result ≡
+            record {
+              left = None;
+              given = 0;
+              handed = None;
+              asked = None;
+              bound = false;
+              faults = 0;
+              losses = 0;
+            } }
     {
         Socket {
             net,
@@ -92,7 +101,8 @@ impl<N: Net> Link for Socket<N> {
     /// Sends the datagram. It never runs out of memory.
     fn send(&mut self, port: u16, piece: &[u8]) -> Result<(), OutFault>
         requires bound { IsSome self.old.socket }
-        ensures sends { Sends port piece.now (⟦<Socket<N> as Link>⟧.state self.old) (⟦<Socket<N> as Link>⟧.state self.new) result }
+        ensures sends { Sends port piece.now (⟦<Socket<N> as Link>⟧.state self.old)
+            (⟦<Socket<N> as Link>⟧.state self.new) result }
         ensures no_memory { IsErrOf result OutOfMemory → ⊥ }
     {
         let Some(socket) = &self.socket else {

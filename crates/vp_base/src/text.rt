@@ -75,7 +75,8 @@ impl Name {
 
     /// Reads a name from the front of what is left, as long as it goes. It takes no memory.
     pub fn parse(_alloc: Global, cursor: &mut Cursor) -> Result<Name, LineFault>
-        ensures taken { Tries (λ a. a) line_left result cursor.new (word_at (has classes.Name) (most classes.Name) cursor.old) }
+        ensures taken { Tries (λ a. a) line_left result cursor.new
+            (word_at (has classes.Name) (most classes.Name) cursor.old) }
         ensures allowed { IfOk result (λ a. IsName a a) }
     {
         let word = cursor.word(Class::Name)?;
@@ -121,7 +122,8 @@ pub(crate) fn whole_word(class: Class, text: &[u8]) -> Result<&[u8], BadName>
 }
 
 fn parse_whole<'a>(class: Class, cursor: &mut Cursor<'a>) -> Result<&'a [u8], Unexpected>
-    ensures { Reads (λ w. w.now) (λ e. e.left) result cursor.new (whole (word_at (has class) (most class)) cursor.old) }
+    ensures { Reads (λ w. w.now) (λ e. e.left) result cursor.new
+        (whole (word_at (has class) (most class)) cursor.old) }
 {
     let word = cursor.word(class)?;
     cursor.end()?;

@@ -94,7 +94,8 @@ impl Value {
 
     /// Reads a value from the front of what is left, as long as it goes.
     pub fn parse(alloc: Global, cursor: &mut Cursor) -> Result<Value, LineFault>
-        ensures taken { Tries (λ a. a) line_left result cursor.new (word_at (has classes.Value) (most classes.Value) cursor.old) }
+        ensures taken { Tries (λ a. a) line_left result cursor.new
+            (word_at (has classes.Value) (most classes.Value) cursor.old) }
         ensures allowed { IfOk result (λ a. IsValue a a) }
     {
         let word = cursor.word(Class::Value)?;

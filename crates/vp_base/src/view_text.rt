@@ -71,7 +71,8 @@ impl ViewId {
 
 /// Reads the site of a view with this number.
 fn parse_site(cursor: &mut Cursor, number: u64) -> Result<u8, Unexpected>
-    ensures { Reads (λ x. x) (λ e. e.left) result cursor.new (number_at (least_site number) (most_site number) cursor.old) }
+    ensures { Reads (λ x. x) (λ e. e.left) result cursor.new
+        (number_at (least_site number) (most_site number) cursor.old) }
 {
     if number == 0 {
         cursor.number_u8(0, 0)

@@ -28,7 +28,8 @@ pub fn read_copies(alloc: Global, cursor: &mut Cursor) -> Result<Copies, LineFau
 /// Reads `count` copies, ascending by record.
 fn read_some_copies(alloc: Global, cursor: &mut Cursor, count: u16) -> Result<Copies, LineFault>
     requires { count ≤ 256 }
-    ensures { Tries (λ c. c) line_left result cursor.new (run_at (λ copy. copy.0) copy_at count 0 cursor.old) }
+    ensures { Tries (λ c. c) line_left result cursor.new
+        (run_at (λ copy. copy.0) copy_at count 0 cursor.old) }
 {
     let mut copies = Copies::new(alloc);
     let mut left = count;

@@ -33,7 +33,8 @@ fn read_some_decisions(
     cursor: &mut Cursor,
     count: u64,
 ) -> Result<Decisions, LineFault>
-    ensures { Tries (λ d. d) line_left result cursor.new (run_at (λ decision. rank decision.txn) decision_at count 0 cursor.old) }
+    ensures { Tries (λ d. d) line_left result cursor.new
+        (run_at (λ decision. rank decision.txn) decision_at count 0 cursor.old) }
 {
     let mut decisions = Decisions::new(alloc);
     let mut left = count;
@@ -57,7 +58,8 @@ fn read_decision(
 ) -> Result<Decision, LineFault>
     requires last { IfSome last IsTxn }
     requires room { next_rank last + following ≤ last_rank }
-    ensures read { Tries (λ d. d) line_left result cursor.new (decision_at following (next_rank last) cursor.old) }
+    ensures read { Tries (λ d. d) line_left result cursor.new
+        (decision_at following (next_rank last) cursor.old) }
     ensures txn { IfOk result (λ d. IsTxn d.txn) }
     ensures range { IfOk result (λ d. (next_rank last ≤ rank d.txn) × (rank d.txn + following ≤ last_rank)) }
 {

@@ -29,7 +29,8 @@ pub fn read_doubts(alloc: Global, cursor: &mut Cursor) -> Result<InDoubt, LineFa
 
 /// Reads `count` transactions in doubt, ascending.
 fn read_some_doubts(alloc: Global, cursor: &mut Cursor, count: u64) -> Result<InDoubt, LineFault>
-    ensures { Tries (λ d. d) line_left result cursor.new (run_at (λ doubt. rank doubt.txn) doubt_at count 0 cursor.old) }
+    ensures { Tries (λ d. d) line_left result cursor.new
+        (run_at (λ doubt. rank doubt.txn) doubt_at count 0 cursor.old) }
 {
     let mut doubts = InDoubt::new(alloc);
     let mut left = count;
@@ -53,7 +54,8 @@ fn read_doubt(
 ) -> Result<Doubt, LineFault>
     requires last { IfSome last IsTxn }
     requires room { next_rank last + following ≤ last_rank }
-    ensures read { Tries (λ d. d) line_left result cursor.new (doubt_at following (next_rank last) cursor.old) }
+    ensures read { Tries (λ d. d) line_left result cursor.new
+        (doubt_at following (next_rank last) cursor.old) }
     ensures txn { IfOk result (λ d. IsTxn d.txn) }
     ensures range { IfOk result (λ d. (next_rank last ≤ rank d.txn) × (rank d.txn + following ≤ last_rank)) }
 {
@@ -85,7 +87,8 @@ pub fn put_doubt<B: BufMut>(
     writes: &Writes,
 ) -> Result<(), NoMemory>
     requires { length writes.now ≤ 64 }
-    ensures { Appends result (B.written out.old) (doubt_bytes (record { txn = txn.now; view = view.now; writes = writes.now })) (B.written out.new) }
+    ensures { Appends result (B.written out.old)
+        (doubt_bytes (record { txn = txn.now; view = view.now; writes = writes.now })) (B.written out.new) }
 {
     put_txn(out, txn)?;
     put_view(out, view)?;

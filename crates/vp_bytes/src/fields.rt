@@ -113,7 +113,8 @@ pub fn put_owner<B: BufMut>(out: &mut B, owner: &Owner) -> Result<(), NoMemory>
 /// Appends a transaction and its outcome: 1 for commit, 0 for abort.
 #[tactic(auto, using(vp_text::proofs::Printing::printing))]
 pub fn put_outcome<B: BufMut>(out: &mut B, txn: &TxnId, commit: bool) -> Result<(), NoMemory>
-    ensures { Appends result (B.written out.old) (txn_bytes txn.now ++ outcome_byte commit ∷ []) (B.written out.new) }
+    ensures { Appends result (B.written out.old) (txn_bytes txn.now ++ outcome_byte commit ∷ [])
+        (B.written out.new) }
 {
     put_txn(out, txn)?;
     if commit {

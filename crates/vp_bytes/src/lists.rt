@@ -23,7 +23,8 @@ pub fn read_sites(alloc: Global, cursor: &mut Cursor, few: u8) -> Result<Sites, 
 /// Reads `count` sites, ascending.
 fn read_some_sites(alloc: Global, cursor: &mut Cursor, count: u8) -> Result<Sites, LineFault>
     requires { count ≤ 16 }
-    ensures { Tries (λ s. s) line_left result cursor.new (run_at (λ c. c) (ascending_at 16) count 1 cursor.old) }
+    ensures { Tries (λ s. s) line_left result cursor.new
+        (run_at (λ c. c) (ascending_at 16) count 1 cursor.old) }
 {
     let mut sites = Sites::new(alloc);
     let mut left = count;
@@ -49,7 +50,8 @@ pub fn read_recs(alloc: Global, cursor: &mut Cursor) -> Result<Recs, LineFault>
 /// Reads `count` records, ascending.
 fn read_some_recs(alloc: Global, cursor: &mut Cursor, count: u8) -> Result<Recs, LineFault>
     requires { count ≤ 64 }
-    ensures { Tries (λ r. r) line_left result cursor.new (run_at (λ c. c) (ascending_at 255) count 0 cursor.old) }
+    ensures { Tries (λ r. r) line_left result cursor.new
+        (run_at (λ c. c) (ascending_at 255) count 0 cursor.old) }
 {
     let mut recs = Recs::new(alloc);
     let mut left = count;
@@ -66,7 +68,8 @@ fn read_some_recs(alloc: Global, cursor: &mut Cursor, count: u8) -> Result<Recs,
 /// Reads a record from `least` on that leaves room for the others after it.
 fn read_rec_from(cursor: &mut Cursor, least: u16, following: u8) -> Result<u8, Unexpected>
     requires { least + following ≤ 255 }
-    ensures read { Reads (λ x. x) (λ e. e.left) result cursor.new (ascending_at 255 following least cursor.old) }
+    ensures read { Reads (λ x. x) (λ e. e.left) result cursor.new
+        (ascending_at 255 following least cursor.old) }
     ensures range { IfOk result (λ x. (least ≤ x) × (x ≤ 255 - following)) }
 {
     read_byte(cursor, least as u8, 255 - following)
@@ -84,7 +87,8 @@ pub fn read_writes(alloc: Global, cursor: &mut Cursor) -> Result<Writes, LineFau
 /// Reads `count` writes, ascending by record.
 fn read_some_writes(alloc: Global, cursor: &mut Cursor, count: u8) -> Result<Writes, LineFault>
     requires { count ≤ 64 }
-    ensures { Tries (λ w. w) line_left result cursor.new (run_at (λ write. write.0) write_at count 0 cursor.old) }
+    ensures { Tries (λ w. w) line_left result cursor.new
+        (run_at (λ write. write.0) write_at count 0 cursor.old) }
 {
     let mut writes = Writes::new(alloc);
     let mut left = count;

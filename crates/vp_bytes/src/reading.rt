@@ -62,7 +62,8 @@ pub fn read_view(cursor: &mut Cursor) -> Result<ViewId, Unexpected>
 
 /// Reads the site of a view with this number.
 fn read_view_site(cursor: &mut Cursor, number: u64) -> Result<u8, Unexpected>
-    ensures { Reads (λ x. x) (λ e. e.left) result cursor.new (byte_at (within (least_site number) (most_site number)) cursor.old) }
+    ensures { Reads (λ x. x) (λ e. e.left) result cursor.new
+        (byte_at (within (least_site number) (most_site number)) cursor.old) }
 {
     if number == 0 {
         read_byte(cursor, 0, 0)

@@ -14,7 +14,8 @@ use vp_text::{Cursor, Unexpected};
 #[tactic(auto, unfolding(crate::specs::Ranges::txn_between_at))]
 pub fn read_txn_between(cursor: &mut Cursor, low: &TxnId, high: &TxnId) -> Result<TxnId, Unexpected>
     requires { IsTxnRange low.now high.now }
-    ensures read { Reads (λ t. t) (λ e. e.left) result cursor.new (txn_between_at low.now high.now cursor.old) }
+    ensures read { Reads (λ t. t) (λ e. e.left) result cursor.new
+        (txn_between_at low.now high.now cursor.old) }
     ensures range { IfOk result (λ t. IsTxnBetween low.now high.now t) }
 {
     let site = read_byte(cursor, low.site.get(), high.site.get())?;
@@ -75,7 +76,8 @@ pub fn read_ascending_txn(
 ) -> Result<TxnId, Unexpected>
     requires last { IfSome last IsTxn }
     requires room { next_rank last + following ≤ last_rank }
-    ensures read { Reads (λ t. t) (λ e. e.left) result cursor.new (ascending_txn_at following (next_rank last) cursor.old) }
+    ensures read { Reads (λ t. t) (λ e. e.left) result cursor.new
+        (ascending_txn_at following (next_rank last) cursor.old) }
     ensures txn { IfOk result IsTxn }
     ensures range { IfOk result (λ t. (next_rank last ≤ rank t) × (rank t + following ≤ last_rank)) }
 {

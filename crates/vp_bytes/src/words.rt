@@ -53,7 +53,8 @@ fn read_word<'a>(cursor: &mut Cursor<'a>, class: Class) -> Result<&'a [u8], Unex
 
 /// Whether the first `count` bytes are all of the class. The error names the first that isn't.
 fn check_word(bytes: &[u8], class: Class, count: usize) -> Result<(), Unexpected>
-    ensures read { Reads (λ _. take count bytes.now) (λ e. e.left) result (drop count bytes.now) (word_run_at class count bytes.now) }
+    ensures read { Reads (λ _. take count bytes.now) (λ e. e.left) result (drop count bytes.now)
+        (word_run_at class count bytes.now) }
     ensures enough { IfOk result (λ _. count ≤ length bytes.now) }
 {
     let mut good = 0;

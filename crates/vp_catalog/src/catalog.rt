@@ -83,7 +83,9 @@ impl Catalog {
         requires first { length self.old.records ≡ 0 }
         requires allowed { IsSite (last_site self.old) (site, port) }
         requires fresh { has_port self.old port ≡ false }
-        ensures { self.new ≡ (if is_ok result then record self.old { sites = self.old.sites ++ (site, port) ∷ [] } else self.old) }
+        ensures { self.new ≡
+            (if is_ok result then record self.old { sites = self.old.sites ++ (site, port) ∷ [] }
+            else self.old) }
     {
         self.ports.reserve(1)?;
         self.sites.push(site)?;
@@ -96,7 +98,9 @@ impl Catalog {
         requires room { length self.old.records < 256 }
         requires allowed { IsRecord (sites_of self.old) placed }
         requires fresh { has_name self.old placed.name ≡ false }
-        ensures { self.new ≡ (if is_ok result then record self.old { records = self.old.records ++ placed ∷ [] } else self.old) }
+        ensures { self.new ≡
+            (if is_ok result then record self.old { records = self.old.records ++ placed ∷ [] }
+            else self.old) }
     {
         self.records.reserve(1)?;
         let name = Vec::from_slice(*self.records.allocator(), placed.name().as_bytes())?;
@@ -238,7 +242,8 @@ impl Catalog {
 
     /// The sites with a copy of the record, ascending, or `None` where its place is not below the count.
     pub fn holders(&self, rec: RecId) -> Option<&Sites>
-        ensures { option_copied result ≡ option_map (λ entry. keys entry.weights) (slice_get self.now.records rec) }
+        ensures { option_copied result ≡
+            option_map (λ entry. keys entry.weights) (slice_get self.now.records rec) }
     {
         match self.placed(rec) {
             Some(placed) => Some(placed.holders()),
@@ -263,7 +268,8 @@ impl Catalog {
         held: Option<&View>,
         rec: RecId,
     ) -> Result<Sites, NoMemory>
-        ensures { IfOk result (λ others. others ≡ other_holders_in self.now id (option_copied held.entry) rec) }
+        ensures { IfOk result
+            (λ others. others ≡ other_holders_in self.now id (option_copied held.entry) rec) }
     {
         let alloc = *self.records.allocator();
         match held {

@@ -61,7 +61,8 @@ impl CatalogRecord {
         weights: Vec<(SiteId, u16)>,
     ) -> Result<CatalogRecord, NoMemory>
         requires { length weights.items ≤ 16 }
-        ensures { IfOk result (λ placed. placed ≡ record { name = name; start = start; weights = weights.items }) }
+        ensures { IfOk result
+            (λ placed. placed ≡ record { name = name; start = start; weights = weights.items }) }
     {
         Ok(CatalogRecord {
             name,

@@ -17,7 +17,8 @@ fn print_pair(
     pair: &(SiteId, u16),
     mark: u8,
 ) -> Result<(), NoMemory>
-    ensures { Appends result out.old.items (before.now ++ (decimal pair.now.0 ++ mark ∷ decimal pair.now.1)) out.new.items }
+    ensures { Appends result out.old.items (before.now ++ (decimal pair.now.0 ++ mark ∷ decimal pair.now.1))
+        out.new.items }
 {
     out.extend_from_slice(before)?;
     pair.0.print(out)?;

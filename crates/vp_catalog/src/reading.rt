@@ -57,7 +57,8 @@ fn parse_next(
     sites: &[SiteId],
     above: u8,
 ) -> Result<Option<(SiteId, u16)>, Unexpected>
-    ensures read { Reads (λ w. w) (λ e. e.left) result cursor.new (next_at (some_above sites.now above) (weight_at sites.now above) (10 ∷ []) cursor.old) }
+    ensures read { Reads (λ w. w) (λ e. e.left) result cursor.new
+        (next_at (some_above sites.now above) (weight_at sites.now above) (10 ∷ []) cursor.old) }
     ensures higher { IfOk result (λ next. IfSome next (λ w. above < w.0)) }
 {
     let mut other = cursor.fork();
@@ -128,7 +129,8 @@ fn parse_either(
     last: u8,
 ) -> Result<Entry, LineFault>
     requires { last < 16 }
-    ensures { Tries (λ e. e) line_left result cursor.new (either (port_at last cursor.old) (record_at sites.now cursor.old)) }
+    ensures { Tries (λ e. e) line_left result cursor.new
+        (either (port_at last cursor.old) (record_at sites.now cursor.old)) }
 {
     let mut other = cursor.fork();
     match parse_port(cursor, last) {

@@ -19,7 +19,8 @@ pub fn find_answer(
     call: &Call,
     bytes: &[u8],
 ) -> Result<Option<Answer>, NoMemory>
-    ensures { IfOk result (λ found. found ≡ answer_of port site call.now (record { port = port; bytes = bytes.now })) }
+    ensures { IfOk result
+        (λ found. found ≡ answer_of port site call.now (record { port = port; bytes = bytes.now })) }
 {
     let frame = match decode(alloc, bytes) {
         Ok(frame) => frame,

@@ -93,7 +93,8 @@ fn send_call<L: Link>(
 ) -> Result<(), OutFault>
     requires bound { IsTrue (L.state link.old).bound }
     requires call { IsCall call.now }
-    ensures { Sends port (frame_bytes (call_frame site call.now)) (L.state link.old) (L.state link.new) result }
+    ensures { Sends port (frame_bytes (call_frame site call.now)) (L.state link.old) (L.state link.new)
+        result }
 {
     let frame = Frame {
         from: 0,

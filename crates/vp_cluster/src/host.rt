@@ -117,7 +117,8 @@ impl Host {
     ) -> Result<(Site, TurnEffects), NoMemory>
         requires host { IsHost catalog.now self.old }
         requires lent { Lends catalog.now site self.old }
-        ensures takes { IfOk result (λ it. Takes catalog.now (as_received letter.now) site self.old self.new it.0 it.1) }
+        ensures takes { IfOk result
+            (λ it. Takes catalog.now (as_received letter.now) site self.old self.new it.0 it.1) }
         ensures host { IsHost catalog.now self.new }
         ensures place { address_of self.new ≡ address_of self.old }
     {

@@ -102,7 +102,10 @@ impl Hosts {
     /// Does the turn of the letter at the host of its port, to which the site is lent.
     pub fn handle(&mut self, site: Site, letter: &Letter) -> Result<(Site, TurnEffects), NoMemory>
         requires { LendsAt self.old.catalogue site letter.now.to self.old.hosts }
-        ensures takes { IfOk result (λ it. ChangesAt letter.now.to (λ host after. Takes self.old.catalogue (as_received letter.now) site host after it.0 it.1) self.old.hosts self.new.hosts) }
+        ensures takes { IfOk result
+            (λ it. ChangesAt letter.now.to
+            (λ host after. Takes self.old.catalogue (as_received letter.now) site host after it.0 it.1)
+            self.old.hosts self.new.hosts) }
         ensures same { self.new.catalogue ≡ self.old.catalogue }
         ensures hosts { AreHosts self.new.catalogue self.new.hosts }
     {
@@ -120,7 +123,10 @@ impl Hosts {
         stop: &Stop,
     ) -> Result<Option<StoppedLog>, NoMemory>
         requires { LendsAt self.old.catalogue site letter.now.to self.old.hosts }
-        ensures stops { IfOk result (λ left. ChangesAt letter.now.to (λ host after. Stops self.old.catalogue (as_received letter.now) site host after left) self.old.hosts self.new.hosts) }
+        ensures stops { IfOk result
+            (λ left. ChangesAt letter.now.to
+            (λ host after. Stops self.old.catalogue (as_received letter.now) site host after left)
+            self.old.hosts self.new.hosts) }
         ensures kept { IfOk result (λ left. IfSome left (λ it. it.kept ≡ is_kept stop.now)) }
         ensures same { self.new.catalogue ≡ self.old.catalogue }
         ensures hosts { AreHosts self.new.catalogue self.new.hosts }
@@ -133,7 +139,8 @@ impl Hosts {
 
     /// Crashes the host of the site.
     pub fn crash(&mut self, site: SiteId)
-        ensures crashes { ChangesOf self.old.catalogue site (Crashes self.old.catalogue) self.old.hosts self.new.hosts }
+        ensures crashes { ChangesOf self.old.catalogue site (Crashes self.old.catalogue) self.old.hosts
+            self.new.hosts }
         ensures same { self.new.catalogue ≡ self.old.catalogue }
         ensures hosts { AreHosts self.new.catalogue self.new.hosts }
     {
@@ -148,7 +155,9 @@ impl Hosts {
     /// Starts the site from the log of its host in its next life, and returns it.
     pub fn restart(&mut self, site: SiteId) -> Result<Site, StartFault>
         requires { HasHost self.old.catalogue site self.old.hosts }
-        ensures restarts { IfStarted result (λ it. ChangesOf self.old.catalogue site (Restarts self.old.catalogue it) self.old.hosts self.new.hosts) }
+        ensures restarts { IfStarted result
+            (λ it. ChangesOf self.old.catalogue site (Restarts self.old.catalogue it) self.old.hosts
+            self.new.hosts) }
         ensures same { self.new.catalogue ≡ self.old.catalogue }
         ensures hosts { AreHosts self.new.catalogue self.new.hosts }
     {

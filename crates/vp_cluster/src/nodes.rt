@@ -85,7 +85,9 @@ impl Nodes {
     fn handle(&mut self, site: Site, letter: &Letter) -> Result<(Site, Effects), NoMemory>
         requires { LendsAt self.old.catalogue site letter.now.to self.old.hosts }
         ensures comes { OnOk result (Comes letter.now site self.old self.new) }
-        ensures stepped { IfOk result (λ it. IsStepOf self.old.catalogue site (arrival self.old.catalogue site.id (as_received letter.now)) it.0 it.1) }
+        ensures stepped { IfOk result
+            (λ it. IsStepOf self.old.catalogue site
+            (arrival self.old.catalogue site.id (as_received letter.now)) it.0 it.1) }
         ensures same { OnOk result (self.new.catalogue ≡ self.old.catalogue) }
     {
         let (site, turn_effects) = self.hosts.handle(site, letter)?;
@@ -124,9 +126,15 @@ impl Nodes {
         stop: &Stop,
     ) -> Result<Option<StoppedLog>, NoMemory>
         requires event { IsEvent event.now }
-        requires lent { (letter : Letter) → letter_of self.old.catalogue self.old.letters event.now ≡ Some letter → LendsAt self.old.catalogue site letter.to self.old.hosts }
-        ensures stops { IfOk result (λ left. (letter : Letter) → letter_of self.old.catalogue self.old.letters event.now ≡ Some letter → StopsWith letter site left self.old self.new) }
-        ensures nothing { letter_of self.old.catalogue self.old.letters event.now ≡ None → IfOk result (λ left. (left ≡ None) × (self.new ≡ self.old)) }
+        requires lent { (letter : Letter) →
+            letter_of self.old.catalogue self.old.letters event.now ≡ Some letter →
+            LendsAt self.old.catalogue site letter.to self.old.hosts }
+        ensures stops { IfOk result
+            (λ left. (letter : Letter) →
+            letter_of self.old.catalogue self.old.letters event.now ≡ Some letter →
+            StopsWith letter site left self.old self.new) }
+        ensures nothing { letter_of self.old.catalogue self.old.letters event.now ≡ None →
+            IfOk result (λ left. (left ≡ None) × (self.new ≡ self.old)) }
         ensures kept { IfOk result (λ left. IfSome left (λ it. it.kept ≡ is_kept stop.now)) }
         ensures letters { self.new.letters ≡ self.old.letters }
         ensures same { self.new.catalogue ≡ self.old.catalogue }

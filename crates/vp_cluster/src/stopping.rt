@@ -29,8 +29,12 @@ fn stopping_disk(alloc: Global, disk: &SureDisk, calls: u8) -> Result<MemDisk, N
     ensures attached { IfOk result (λ it. IsTrue (⟦<MemDisk as Disk>⟧.state it).attached) }
     ensures log { IfOk result (λ it. log_of (⟦<MemDisk as Disk>⟧.state it) ≡ Some (log_on disk.now)) }
     ensures stop { IfOk result (λ it. (⟦<MemDisk as Disk>⟧.state it).until_stop ≡ Some calls) }
-    ensures as_synced { IfOk result (λ it. (⟦<MemDisk as Disk>⟧.state it).synced (⟦<MemDisk as Disk>⟧.state it).asked ≡ log_of (⟦<MemDisk as Disk>⟧.state it)) }
-    ensures synced { IfOk result (λ it. Only (log_on disk.now) ((⟦<MemDisk as Disk>⟧.state it).may_leave (⟦<MemDisk as Disk>⟧.state it).asked)) }
+    ensures as_synced { IfOk result
+        (λ it. (⟦<MemDisk as Disk>⟧.state it).synced (⟦<MemDisk as Disk>⟧.state it).asked ≡
+        log_of (⟦<MemDisk as Disk>⟧.state it)) }
+    ensures synced { IfOk result
+        (λ it. Only (log_on disk.now)
+        ((⟦<MemDisk as Disk>⟧.state it).may_leave (⟦<MemDisk as Disk>⟧.state it).asked)) }
 {
     let name = Word::from_vec(Vec::new(alloc));
     let mut stopping = MemDisk::new(alloc, Vec::new(alloc));
@@ -108,7 +112,8 @@ fn left_by(
 ) -> Result<SureDisk, NoMemory>
     requires stands { (batches : List (List LogRecord)) × StandsAt log batches (log_on disk.now) }
     requires batch { IsBatch batch.now }
-    ensures { IfOk result (λ left. GainsWhere batch.now log (is_kept stop.now) (log_on disk.now) (log_on left)) }
+    ensures { IfOk result
+        (λ left. GainsWhere batch.now log (is_kept stop.now) (log_on disk.now) (log_on left)) }
 {
     let mut log = log;
     let mut stopping = stopping_disk(alloc, disk, stop.calls)?;

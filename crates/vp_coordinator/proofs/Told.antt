@@ -7,7 +7,7 @@ use Rattle.vp_transactions.specs.Waiting.{with_outcomes}
 use Rattle.vp_coordinator.specs.Lent.{lent_of}
 
 module _ (id : ℕ) where
-  pub told_again : (decisions : List Decision) (c : CoordinatorState) (here : Here) (e : Effects) → lent_of c here (with_outcomes id decisions e) ≡ resend id decisions (lent_of c here e)
+  pub answered_again : (decisions : List Decision) (c : CoordinatorState) (here : Here) (e : Effects) → lent_of c here (with_outcomes id decisions e) ≡ resend id decisions (lent_of c here e)
   unfolding resend_one
-  told_again [] c here e = refl
-  told_again (d ∷ decisions) c here e = told_again decisions c here _
+  answered_again [] c here e = refl
+  answered_again (d ∷ decisions) c here e = answered_again decisions c here _

@@ -20,7 +20,7 @@ use std::alloc::Global;
 use vp_base::{
     Answer, Call, CallNo, CopyOf, Ending, MOST_LIVE, NoMemory, Pending, Sites, TxnId, View, ViewId,
 };
-use vp_transactions::{Handled, Transactions, told_again};
+use vp_transactions::{Handled, Transactions, answered_again};
 
 /// A call of a transaction: its number, and the port of the client.
 #[derive(Clone, Copy)]
@@ -141,7 +141,7 @@ fn repeat(lent: &mut Lent, handled: &mut Handled) -> Result<(), NoMemory>
     ensures { OnOk result (lent.new ≡
         for_some (kept_answer handled.old.pending.number handled.old.live.answers) (λ answer. lent_reply answer handled.old.pending.port) (in_place handled.old.live lent.old)) }
 {
-    match told_again(handled.live.answers.as_slice(), handled.number())? {
+    match answered_again(handled.live.answers.as_slice(), handled.number())? {
         None => {
             lent.put_back(handled);
             Ok(())
@@ -200,7 +200,7 @@ fn ended_call(lent: &mut Lent, asked: &TxnCall<'_>) -> Result<(), NoMemory>
         option_map_or (λ f. finished_call asked.now.port asked.now.number f lent.old) (finished_of asked.now.txn.now lent.old.finished)
         (lent_reply (answer.Unknown asked.now.txn.now) asked.now.port lent.old)) }
 {
-    match lent.coordinator.told_after(asked.txn, asked.number)? {
+    match lent.coordinator.answer_after(asked.txn, asked.number)? {
         None => Ok(()),
         Some(answer) => lent.effects.reply(asked.port, answer),
     }

@@ -153,7 +153,7 @@ impl Coordinator {
 
     /// Sends each decision again to the sites that have not acknowledged it. After want of memory the effects may be changed in
     /// part: drop them.
-    #[tactic(auto, using(crate::proofs::Told::told_again))]
+    #[tactic(auto, using(crate::proofs::Told::answered_again))]
     pub fn resend(&self, effects: &mut Effects) -> Result<(), NoMemory>
         ensures { OnOk result ((here : HereState) → lent_of self.now.coordinator here effects.new ≡
             resend self.now.id self.now.coordinator.decisions (lent_of self.now.coordinator here effects.old)) }

@@ -18,7 +18,7 @@ use vp_base::{
     RecId, SiteId, Sites, Value, Writes,
 };
 use vp_catalog::Catalog;
-use vp_transactions::{Handled, tell_outcome};
+use vp_transactions::{Handled, send_outcome};
 
 impl Lent {
     /// Puts the transaction back as it was, and leaves in `handled` what was in its place.
@@ -107,7 +107,7 @@ impl Lent {
         ensures row { OnOk result (self.new ≡ close id t.old why self.old) }
         ensures left { OnOk result (t.new ≡ record t.old { answers = [] }) }
     {
-        tell_outcome(id, &t.txn, false, t.parts.as_slice(), &mut self.effects)?;
+        send_outcome(id, &t.txn, false, t.parts.as_slice(), &mut self.effects)?;
         self.here.locks.release(t.txn);
         self.coordinator.finish(t, why, &mut self.effects)
     }
@@ -173,7 +173,7 @@ impl Lent {
         ensures row { OnOk result (self.new ≡ decided id t.old self.old) }
         ensures left { OnOk result (t.new ≡ record t.old { ops = []; answers = [] }) }
     {
-        tell_commit(id, t, &mut self.effects)?;
+        send_commit(id, t, &mut self.effects)?;
         self.here.locks.release(t.txn);
         self.coordinator
             .finish(t, Ending::Committed, &mut self.effects)
@@ -209,7 +209,7 @@ fn add_answer(t: &mut Live, operation: Op, answer: Answer) -> Result<(), NoMemor
 }
 
 /// Gives the transaction to the journal, with its operations, and sends its commit to its parts.
-fn tell_commit(id: SiteId, t: &mut Live, effects: &mut Effects) -> Result<(), NoMemory>
+fn send_commit(id: SiteId, t: &mut Live, effects: &mut Effects) -> Result<(), NoMemory>
     ensures live { OnOk result (t.new ≡ record t.old { ops = [] }) }
     ensures effects { OnOk result (effects.new ≡ with_messages id (message.Outcome t.old.txn true) t.old.parts (with_commit (entry_of t.old) effects.old)) }
 {
@@ -220,5 +220,5 @@ fn tell_commit(id: SiteId, t: &mut Live, effects: &mut Effects) -> Result<(), No
         view: t.view,
         ops,
     })?;
-    tell_outcome(id, &t.txn, true, t.parts.as_slice(), effects)
+    send_outcome(id, &t.txn, true, t.parts.as_slice(), effects)
 }

@@ -24,7 +24,8 @@ impl Images {
     ghost use Rattle.vp_disks.specs.ImagedDisks.{Mirror};
 
     fn laid(late: &SureDisk, synced: &SureDisk) -> Result<Images, NoMemory>
-        ensures { IfOk result (λ images. LeavesImages true late.now images.late × LeavesImages true synced.now images.synced) }
+        ensures { IfOk result
+            (λ images. LeavesImages true late.now images.late × LeavesImages true synced.now images.synced) }
     {
         Ok(Images {
             late: late.laid()?,

@@ -96,7 +96,9 @@ impl NamedLog {
 /// Finds the place of the log of that name; where there is none, appends an empty one. Without memory the list stays as it is.
 pub fn take_place(alloc: Global, logs: &mut Vec<NamedLog>, name: &Word) -> Result<usize, NoMemory>
     ensures place { IfOk result (λ place. position (is_named name.now) logs.new.items ≡ Some place) }
-    ensures ok { OnOk result ((log : Option (List ℕ)) → (unnamed : Halves) → halves_of log unnamed logs.new.items ≡ halves_of log unnamed logs.old.items) }
+    ensures ok { OnOk result
+        ((log : Option (List ℕ)) → (unnamed : Halves) →
+        halves_of log unnamed logs.new.items ≡ halves_of log unnamed logs.old.items) }
     ensures err { OnErr result (logs.new.items ≡ logs.old.items) }
 {
     match place_of(logs, name) {

@@ -55,8 +55,11 @@ impl MemDisk {
     /// Gives the log of a name these halves, as if they had always been there. The plan doesn't count this call, and no log is
     /// attached after it.
     pub fn lay(&mut self, name: &Word, first: Vec<u8>, second: Vec<u8>) -> Result<(), NoMemory>
-        ensures laid { OnOk result (record_of self.new ≡ Laid first.items second.items ∷ Attached name.now ∷ record_of self.old) }
-        ensures not_laid { OnErr result ((record_of self.new ≡ record_of self.old) ⊎ (record_of self.new ≡ Attached name.now ∷ record_of self.old)) }
+        ensures laid { OnOk result
+            (record_of self.new ≡ Laid first.items second.items ∷ Attached name.now ∷ record_of self.old) }
+        ensures not_laid { OnErr result
+            ((record_of self.new ≡ record_of self.old) ⊎
+            (record_of self.new ≡ Attached name.now ∷ record_of self.old)) }
         ensures attached { is_attached self.new ≡ false }
         ensures plan { self.new.plan ≡ self.old.plan }
     {
@@ -85,7 +88,8 @@ impl MemDisk {
     /// synced. The record starts again from that. Takes no memory.
     pub fn leave(&mut self, late: bool)
         ensures images { LeavesImages late (record_of self.old) (record_of self.new) }
-        ensures crash { IsLeftByCrash (⟦<MemDisk as Disk>⟧.state self.old) (⟦<MemDisk as Disk>⟧.state self.new) }
+        ensures crash { IsLeftByCrash (⟦<MemDisk as Disk>⟧.state self.old)
+            (⟦<MemDisk as Disk>⟧.state self.new) }
         ensures attached { is_attached self.new ≡ is_attached self.old }
         ensures plan { self.new.plan ≡ record self.old.plan { until_stop = None } }
     {
@@ -108,9 +112,11 @@ impl Disk for MemDisk {
     }
 
     fn attach(&mut self, name: &Word) -> Result<(), OutFault>
-        ensures asked { ¬ IsErrOf result OutFault.NoMemory → record_of self.new ≡ Attached name.now ∷ record_of self.old }
+        ensures asked { ¬ IsErrOf result OutFault.NoMemory → record_of self.new ≡ Attached name.now ∷
+            record_of self.old }
         ensures attached { ¬ IsErrOf result OutFault.NoMemory → is_attached self.new ≡ is_ok result }
-        ensures none { IsErrOf result OutFault.NoMemory → (record_of self.new ≡ record_of self.old) × (is_attached self.new ≡ is_attached self.old) }
+        ensures none { IsErrOf result OutFault.NoMemory → (record_of self.new ≡ record_of self.old) ×
+            (is_attached self.new ≡ is_attached self.old) }
         ensures plan { GoesByPlan self.old.plan self.new.plan result }
         ensures planned { IsErrOf result OutFault.Failed → FailsNext self.old.plan }
     {
@@ -151,7 +157,8 @@ impl Disk for MemDisk {
     }
 
     fn write_at(&mut self, half: u8, at: u64, piece: &[u8]) -> Result<(), OutFault>
-        ensures written { Changes half (Written at piece.now) (Torn at (length piece.now)) (⟦<MemDisk as Disk>⟧.state self.old) (⟦<MemDisk as Disk>⟧.state self.new) result }
+        ensures written { Changes half (Written at piece.now) (Torn at (length piece.now))
+            (⟦<MemDisk as Disk>⟧.state self.old) (⟦<MemDisk as Disk>⟧.state self.new) result }
         ensures done { OnOk result (record_of self.new ≡ Wrote half at piece.now ∷ record_of self.old) }
         ensures fits { OnOk result (at + length piece.now ≤ 2 ^ 62) }
         ensures not_done { OnErr result (record_of self.new ≡ record_of self.old) }
@@ -190,7 +197,8 @@ impl Disk for MemDisk {
     fn sync(&mut self) -> Result<(), OutFault>
         ensures done { OnOk result (record_of self.new ≡ Synced ∷ record_of self.old) }
         ensures not_done { OnErr result (record_of self.new ≡ record_of self.old) }
-        ensures syncs { Syncs (⟦<MemDisk as Disk>⟧.state self.old) (⟦<MemDisk as Disk>⟧.state self.new) result }
+        ensures syncs { Syncs (⟦<MemDisk as Disk>⟧.state self.old) (⟦<MemDisk as Disk>⟧.state self.new)
+            result }
         ensures attached { is_attached self.new ≡ is_attached self.old }
         ensures plan { GoesByPlan self.old.plan self.new.plan result }
         ensures planned { IsErrOf result OutFault.Failed → FailsNext self.old.plan }

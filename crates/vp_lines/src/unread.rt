@@ -74,7 +74,8 @@ impl ReadBuffer {
         most: usize,
     ) -> Result<LineFound, InputFault>
         requires some { 0 < most }
-        ensures { Finds most self.old self.new line.new.items (S.state source.old) (S.state source.new) result }
+        ensures { Finds most self.old self.new line.new.items (S.state source.old) (S.state source.new)
+            result }
     {
         line.clear();
         loop {

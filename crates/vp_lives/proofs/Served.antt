@@ -155,7 +155,7 @@ module _ (halves_are_one : HalvesAreOneLog) (handed_over : RunsAreHandedOver) (l
   kept_lives : (arrived : List Datagram) (handed : List Dispatch) → HasLifeLeft here life.id had → Gave o.link.left o.link'.left arrived → Hands o.link.handed o.link'.handed handed → datagrams_in handed ≡ (run_on arrived).datagrams → IsKeptAs (run_on arrived) o.disk o.disk' → IsMomentary life o arrived → HasLived life o AllDone
   kept_lives arrived handed lives gave hands is kept moments =
       let run = run_on arrived in
-      let k : HaveBatches run.node.batches on.log' × Only on.log' (o.disk'.may_leave o.disk.asked) = some_log (λ log. HaveBatches run.node.batches log × Only log (o.disk'.may_leave o.disk.asked)) (o.disk'.logs o.disk.asked) on.log' on.told_after (kept on.honest) in
+      let k : HaveBatches run.node.batches on.log' × Only on.log' (o.disk'.may_leave o.disk.asked) = some_log (λ log. HaveBatches run.node.batches log × Only log (o.disk'.may_leave o.disk.asked)) (o.disk'.logs o.disk.asked) on.log' on.log_after (kept on.honest) in
       record {
         arrived = arrived;
         gave = gave;

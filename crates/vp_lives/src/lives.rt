@@ -3,7 +3,7 @@
 ghost use Rattle.std.specs.Prelude.{◌≡◌, true, None, IsTrue};
 ghost use Rattle.vp_model.specs.Words.{has};
 ghost use Rattle.vp_model.specs.Catalogue.{sites_of};
-ghost use Rattle.vp_serving.specs.Serving.{Serves, outside};
+ghost use Rattle.vp_serving.specs.Serving.{Serves, either, outside};
 ghost use Rattle.vp_lives.specs.Served.{LivesIn};
 
 use vp_base::SiteId;
@@ -21,12 +21,12 @@ pub fn serve_a_life<L: Link, D: Disk, K: Sink>(
     disk: &mut D,
     sink: &mut K,
     turns: u64,
-) -> End
+) -> Result<End, End>
     requires fresh { (L.state link.old).asked ≡ None }
     requires attached { IsTrue (D.state disk.old).attached }
     requires id { has (sites_of catalog.now) id ≡ true }
     ensures served { Serves catalog.now id turns
-        (outside (L.state link.old) (L.state link.new) (K.state sink.old) (K.state sink.new) (D.state disk.old) (D.state disk.new)) result }
+        (outside (L.state link.old) (L.state link.new) (K.state sink.old) (K.state sink.new) (D.state disk.old) (D.state disk.new)) (either result) }
     ensures lives { LivesIn catalog.now id
         (outside (L.state link.old) (L.state link.new) (K.state sink.old) (K.state sink.new) (D.state disk.old) (D.state disk.new)) result }
 {

@@ -63,7 +63,10 @@ fn lesser_of(best: Option<Owner>, owner: &Owner) -> Owner
 
 /// The lower of the least owner so far and the lock's owner; the latter is passed over where it is `owner`.
 fn least_with(best: Option<Owner>, lock: Option<&Lock>, owner: &Owner) -> Option<Owner>
-    ensures { result ≡ option_map_or (λ lock. if not (same_owner lock.owner owner.now) then Some (lesser best lock.owner) else best) (option_copied lock.entry) best }
+    ensures { result ≡
+        option_map_or
+        (λ lock. if not (same_owner lock.owner owner.now) then Some (lesser best lock.owner) else best)
+        (option_copied lock.entry) best }
 {
     match lock {
         Some(lock) if !is_same_owner(&lock.owner, owner) => Some(lesser_of(best, &lock.owner)),
@@ -73,7 +76,9 @@ fn least_with(best: Option<Owner>, lock: Option<&Lock>, owner: &Owner) -> Option
 
 /// The least owner of the locks at the places, other than `owner`.
 fn least_other(slots: &[Option<Lock>], places: &[usize], owner: &Owner) -> Option<Owner>
-    ensures { result ≡ least_owner (filter (λ lock. not (same_owner lock.owner owner.now)) (filter_map (lock_at slots.now) places.now)) }
+    ensures { result ≡
+        least_owner
+        (filter (λ lock. not (same_owner lock.owner owner.now)) (filter_map (lock_at slots.now) places.now)) }
 {
     let mut best = None;
     for place in places {
@@ -84,7 +89,9 @@ fn least_other(slots: &[Option<Lock>], places: &[usize], owner: &Owner) -> Optio
 
 /// Whether the lock is the owner's on the record, and exclusive where that is required.
 fn is_held(lock: Option<&Lock>, rec: RecId, exclusive: bool, owner: &Owner) -> bool
-    ensures { result ≡ passes (λ lock. (lock.rec == rec) && (not exclusive || lock.exclusive) && same_owner lock.owner owner.now) (option_copied lock.entry) }
+    ensures { result ≡
+        passes (λ lock. (lock.rec == rec) && (not exclusive || lock.exclusive) &&
+        same_owner lock.owner owner.now) (option_copied lock.entry) }
 {
     match lock {
         Some(lock) => {
@@ -234,7 +241,9 @@ impl Locks {
 
     /// Appends a lock, whoever else has one on the record.
     pub fn add(&mut self, rec: RecId, exclusive: bool, owner: &Owner) -> Result<(), NoMemory>
-        ensures { self.new ≡ (if is_ok result then self.old ++ (record { rec = rec; exclusive = exclusive; owner = owner.now }) ∷ [] else self.old) }
+        ensures { self.new ≡
+            (if is_ok result then self.old ++
+            (record { rec = rec; exclusive = exclusive; owner = owner.now }) ∷ [] else self.old) }
     {
         if self.slots.len() >= self.limit {
             *self = self.copy_of()?;
@@ -244,7 +253,9 @@ impl Locks {
 
     /// Appends a lock, in a slot of its own.
     fn append(&mut self, rec: RecId, exclusive: bool, owner: &Owner) -> Result<(), NoMemory>
-        ensures { self.new ≡ (if is_ok result then self.old ++ (record { rec = rec; exclusive = exclusive; owner = owner.now }) ∷ [] else self.old) }
+        ensures { self.new ≡
+            (if is_ok result then self.old ++
+            (record { rec = rec; exclusive = exclusive; owner = owner.now }) ∷ [] else self.old) }
     {
         let place = self.slots.len();
         let lock = Lock {
@@ -266,7 +277,8 @@ impl Locks {
 
     fn take(&mut self, rec: RecId, exclusive: bool, txn: TxnId) -> Result<(), LockFault>
         ensures held { holder_in result ≡ conflict rec exclusive txn self.old }
-        ensures locks { self.new ≡ (if is_ok result then with_lock rec exclusive (owner.Txn txn) self.old else self.old) }
+        ensures locks { self.new ≡
+            (if is_ok result then with_lock rec exclusive (owner.Txn txn) self.old else self.old) }
     {
         let taker = Owner::Txn(txn);
         match self.blocker(rec, exclusive, &taker) {
@@ -280,7 +292,8 @@ impl Locks {
 
     /// Releases the locks of the owner, except those that are to be kept.
     fn sweep(&mut self, owner: &Owner, staying: KeepRule)
-        ensures { self.new ≡ filter (λ lock. not (same_owner lock.owner owner.now) || stays staying lock) self.old }
+        ensures { self.new ≡
+            filter (λ lock. not (same_owner lock.owner owner.now) || stays staying lock) self.old }
     {
         sweep(
             &mut self.slots,
@@ -308,7 +321,8 @@ impl Locks {
     /// Takes a shared lock for the transaction, or keeps the exclusive one that it has. A conflict leaves the table as it was.
     pub fn take_shared(&mut self, rec: RecId, txn: TxnId) -> Result<(), LockFault>
         ensures held { holder_in result ≡ conflict rec false txn self.old }
-        ensures locks { self.new ≡ (if is_ok result then with_lock rec false (owner.Txn txn) self.old else self.old) }
+        ensures locks { self.new ≡
+            (if is_ok result then with_lock rec false (owner.Txn txn) self.old else self.old) }
     {
         self.take(rec, false, txn)
     }
@@ -317,14 +331,16 @@ impl Locks {
     /// was.
     pub fn take_exclusive(&mut self, rec: RecId, txn: TxnId) -> Result<(), LockFault>
         ensures held { holder_in result ≡ conflict rec true txn self.old }
-        ensures locks { self.new ≡ (if is_ok result then with_lock rec true (owner.Txn txn) self.old else self.old) }
+        ensures locks { self.new ≡
+            (if is_ok result then with_lock rec true (owner.Txn txn) self.old else self.old) }
     {
         self.take(rec, true, txn)
     }
 
     /// Gives the transaction an exclusive lock, whoever else has a lock on the record.
     pub fn hold(&mut self, rec: RecId, txn: TxnId) -> Result<(), NoMemory>
-        ensures { self.new ≡ (if is_ok result then with_lock rec true (owner.Txn txn) self.old else self.old) }
+        ensures { self.new ≡
+            (if is_ok result then with_lock rec true (owner.Txn txn) self.old else self.old) }
     {
         self.put(rec, true, &Owner::Txn(txn))
     }

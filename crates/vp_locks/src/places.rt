@@ -58,8 +58,10 @@ impl<K: Eq + Hash + Drop> Places<K> {
 
     /// Appends a place to the key's list.
     pub(crate) fn note(&mut self, key: K, place: usize) -> Result<(), NoMemory>
-        ensures noted { OnOk result (Changes K.eq (K.eq key) (λ ps. ps ++ place ∷ []) self.old.lists self.new.lists) }
-        ensures err { OnErr result ((q : K) → places_of K.eq self.new.lists q ≡ places_of K.eq self.old.lists q) }
+        ensures noted { OnOk result
+            (Changes K.eq (K.eq key) (λ ps. ps ++ place ∷ []) self.old.lists self.new.lists) }
+        ensures err { OnErr result
+            ((q : K) → places_of K.eq self.new.lists q ≡ places_of K.eq self.old.lists q) }
     {
         self.lists.entry(key)?.or_default().push(place)?;
         Ok(())
@@ -68,7 +70,8 @@ impl<K: Eq + Hash + Drop> Places<K> {
     /// Appends a place to the key's list, unless it is there already.
     pub(crate) fn note_once(&mut self, key: K, place: usize) -> Result<(), NoMemory>
         ensures noted { OnOk result (list_any (λ k. k == place) (places_of K.eq self.new.lists key) ≡ true) }
-        ensures kept { (q : K) (n : ℕ) → list_any (λ k. k == n) (places_of K.eq self.old.lists q) ≡ true → list_any (λ k. k == n) (places_of K.eq self.new.lists q) ≡ true }
+        ensures kept { (q : K) (n : ℕ) → list_any (λ k. k == n) (places_of K.eq self.old.lists q) ≡ true →
+            list_any (λ k. k == n) (places_of K.eq self.new.lists q) ≡ true }
     {
         if self.has(&key, place) {
             return Ok(());
@@ -85,8 +88,10 @@ impl<K: Eq + Hash + Drop> Places<K> {
 
     /// Replaces the list of the key by these places.
     pub(crate) fn set(&mut self, key: K, places: Vec<usize>) -> Result<(), NoMemory>
-        ensures set { OnOk result (Changes K.eq (K.eq key) (λ _. places.items) self.old.lists self.new.lists) }
-        ensures err { OnErr result ((q : K) → places_of K.eq self.new.lists q ≡ places_of K.eq self.old.lists q) }
+        ensures set { OnOk result
+            (Changes K.eq (K.eq key) (λ _. places.items) self.old.lists self.new.lists) }
+        ensures err { OnErr result
+            ((q : K) → places_of K.eq self.new.lists q ≡ places_of K.eq self.old.lists q) }
     {
         self.lists.insert(key, places)?;
         Ok(())
@@ -116,7 +121,8 @@ impl<K: Eq + Hash + Drop> Places<K> {
 
     /// Removes those places of the key at which there is no lock any more. A key without places takes no memory.
     pub(crate) fn keep_taken(&mut self, key: &K, slots: &[Option<Lock>])
-        ensures { Changes K.eq (K.eq key.now) (filter (λ k. is_some (lock_at slots.now k))) self.old.lists self.new.lists }
+        ensures { Changes K.eq (K.eq key.now) (filter (λ k. is_some (lock_at slots.now k))) self.old.lists
+            self.new.lists }
     {
         let Some(list) = self.lists.get_mut(key) else {
             return;

@@ -30,7 +30,8 @@ pub(crate) fn is_taken(slots: &[Option<Lock>], place: usize) -> bool
 
 /// Whether the lock is exclusive, or the owner's.
 fn is_exclusive_or_own(lock: Option<&Lock>, owner: &Owner) -> bool
-    ensures { result ≡ passes (λ lock. lock.exclusive || same_owner lock.owner owner.now) (option_copied lock.entry) }
+    ensures { result ≡
+        passes (λ lock. lock.exclusive || same_owner lock.owner owner.now) (option_copied lock.entry) }
 {
     match lock {
         Some(lock) => lock.exclusive || is_same_owner(&lock.owner, owner),
@@ -45,7 +46,10 @@ pub(crate) fn exclusive_or_own(
     places: &[usize],
     owner: &Owner,
 ) -> Result<Vec<usize>, NoMemory>
-    ensures { IfOk result (λ kept. kept.items ≡ filter (λ k. passes (λ lock. lock.exclusive || same_owner lock.owner owner.now) (lock_at slots.now k)) places.now) }
+    ensures { IfOk result
+        (λ kept. kept.items ≡
+        filter (λ k. passes (λ lock. lock.exclusive || same_owner lock.owner owner.now) (lock_at slots.now k))
+        places.now) }
 {
     let mut kept = Vec::new(alloc);
     for place in places {
@@ -78,7 +82,8 @@ fn raise_at(slots: &mut [Option<Lock>], place: usize, rec: RecId, owner: &Owner)
 
 /// Makes those locks at the places exclusive that are the owner's on the record.
 pub(crate) fn raise(slots: &mut [Option<Lock>], places: &[usize], rec: RecId, owner: &Owner)
-    ensures { slots.new ≡ fold (revised (λ lock. Some (raised rec true owner.now lock))) slots.old places.now }
+    ensures { slots.new ≡
+        fold (revised (λ lock. Some (raised rec true owner.now lock))) slots.old places.now }
 {
     for place in places {
         raise_at(slots, *place, rec, owner);
@@ -95,7 +100,9 @@ fn sweep_at<K: Keeps>(
     requires index { IsRecIndex by_rec.old slots.old }
     ensures slots { slots.new ≡ revised (if_kept (K.keeps kept.now)) slots.old place }
     ensures index { IsRecIndex by_rec.new slots.new }
-    ensures owner { result ≡ option_map_or (λ lock. if K.keeps kept.now lock then None else Some lock.owner) (lock_at slots.old place) None }
+    ensures owner { result ≡
+        option_map_or (λ lock. if K.keeps kept.now lock then None else Some lock.owner)
+        (lock_at slots.old place) None }
 {
     let lock = lock_at(slots, place)?;
     if kept.keeps(lock) {

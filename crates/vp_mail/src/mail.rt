@@ -145,7 +145,8 @@ impl Mail {
     /// is.
     pub fn deliver(&mut self, k: u32, sent: &Sent) -> Result<(), NoMemory>
         requires { message_in k self.old.sent ≡ Some sent.now }
-        ensures delivered { OnOk result (self.new ≡ record self.old { delivered = self.old.delivered ++ k ∷ [] }) }
+        ensures delivered { OnOk result
+            (self.new ≡ record self.old { delivered = self.old.delivered ++ k ∷ [] }) }
         ensures err { OnErr result (self.new ≡ self.old) }
     {
         self.delivered.push(k)?;
@@ -171,7 +172,8 @@ impl Mail {
     pub fn send(&mut self, messages: Messages) -> Result<(), NoMemory>
         requires { length self.old.sent + length messages ≤ 2000000 }
         ensures sent { OnOk result (self.new ≡ posted messages self.old) }
-        ensures err { OnErr result ((n : ℕ) × (n < length messages) × (self.new ≡ posted (take n messages) self.old)) }
+        ensures err { OnErr result
+            ((n : ℕ) × (n < length messages) × (self.new ≡ posted (take n messages) self.old)) }
     {
         for message in messages.into_vec() {
             self.post(message)?;

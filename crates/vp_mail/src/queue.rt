@@ -79,8 +79,10 @@ impl Queue {
 fn place_of(messages: &VecDeque<Numbered>, number: u32) -> Option<usize>
     requires { Rises 0 (map (λ m. m.number) messages.now.items) }
     ensures within { IfSome result (λ place. place < length messages.now.items) }
-    ensures numbered { IfSome result (λ place. slice_index_or (map (λ m. m.number) messages.now.items) place number ≡ number) }
-    ensures absent { result ≡ None → without number (undelivered messages.now.items) ≡ undelivered messages.now.items }
+    ensures numbered { IfSome result
+        (λ place. slice_index_or (map (λ m. m.number) messages.now.items) place number ≡ number) }
+    ensures absent { result ≡ None →
+        without number (undelivered messages.now.items) ≡ undelivered messages.now.items }
 {
     if messages.front().is_some_and(|m| m.number == number) {
         return Some(0);

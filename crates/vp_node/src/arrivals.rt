@@ -83,7 +83,8 @@ pub fn arrival(
     port: u16,
     bytes: &[u8],
 ) -> Result<Arrival, NoMemory>
-    ensures what { IfOk result (λ it. it ≡ arrival catalog.now id (record { port = port; bytes = bytes.now })) }
+    ensures what { IfOk result
+        (λ it. it ≡ arrival catalog.now id (record { port = port; bytes = bytes.now })) }
     ensures form { IfOk result IsArrival }
 {
     frames_are_read();

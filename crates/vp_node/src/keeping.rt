@@ -20,10 +20,12 @@ fn save<D: Disk>(log: &mut Log, disk: &mut D, site: &Site) -> Result<(), AppendF
     requires attached { IsTrue (D.state disk.old).attached }
     requires kept { AreKept log.old (D.state disk.old) }
     requires form { CanBeSaved (durable_of site.now) }
-    ensures saved { OnOk result (Steps (SavesAt (durable_of site.now) log.old log.new) (D.state disk.old) (D.state disk.new)) }
+    ensures saved { OnOk result
+        (Steps (SavesAt (durable_of site.now) log.old log.new) (D.state disk.old) (D.state disk.new)) }
     ensures kept { OnOk result (AreKept log.new (D.state disk.new)) }
     ensures short { OnOk result (IsShort log.new) }
-    ensures fault { OnErr result (Steps (MaySaveAt (durable_of site.now) log.old) (D.state disk.old) (D.state disk.new)) }
+    ensures fault { OnErr result
+        (Steps (MaySaveAt (durable_of site.now) log.old) (D.state disk.old) (D.state disk.new)) }
     ensures any_moment { (D.state disk.old).honest → IfSome (log_of (D.state disk.old)) (λ halves.
         LeavesOnly (D.state disk.old) (D.state disk.new) (MaySaveAt (durable_of site.now) log.old halves)) }
     ensures others { LeavesOthers (D.state disk.old) (D.state disk.new) }
@@ -38,10 +40,12 @@ fn save_if_due<D: Disk>(log: &mut Log, disk: &mut D, site: &Site) -> Result<(), 
     requires attached { IsTrue (D.state disk.old).attached }
     requires kept { AreKept log.old (D.state disk.old) }
     requires form { CanBeSaved (durable_of site.now) }
-    ensures saved { OnOk result (Steps (SavesDueAt (durable_of site.now) log.old log.new) (D.state disk.old) (D.state disk.new)) }
+    ensures saved { OnOk result
+        (Steps (SavesDueAt (durable_of site.now) log.old log.new) (D.state disk.old) (D.state disk.new)) }
     ensures kept { OnOk result (AreKept log.new (D.state disk.new)) }
     ensures short { OnOk result (IsShort log.new) }
-    ensures fault { OnErr result (Steps (MaySaveDueAt (durable_of site.now) log.old) (D.state disk.old) (D.state disk.new)) }
+    ensures fault { OnErr result
+        (Steps (MaySaveDueAt (durable_of site.now) log.old) (D.state disk.old) (D.state disk.new)) }
     ensures any_moment { (D.state disk.old).honest → IfSome (log_of (D.state disk.old)) (λ halves.
         LeavesOnly (D.state disk.old) (D.state disk.new) (MaySaveDueAt (durable_of site.now) log.old halves)) }
     ensures others { LeavesOthers (D.state disk.old) (D.state disk.new) }
@@ -66,10 +70,13 @@ pub fn keep<D: Disk>(
     requires kept { AreKept log.old (D.state disk.old) }
     requires form { CanBeSaved (durable_of site.now) }
     requires batch { IsBatch records.now }
-    ensures kept_at { OnOk result (Steps (KeepsAt (durable_of site.now) records.now log.old log.new) (D.state disk.old) (D.state disk.new)) }
+    ensures kept_at { OnOk result
+        (Steps (KeepsAt (durable_of site.now) records.now log.old log.new) (D.state disk.old)
+        (D.state disk.new)) }
     ensures kept { OnOk result (AreKept log.new (D.state disk.new)) }
     ensures short { OnOk result (KeepsShort records.now log.old log.new) }
-    ensures fault { OnErr result (Steps (MayKeepAt (durable_of site.now) records.now log.old) (D.state disk.old) (D.state disk.new)) }
+    ensures fault { OnErr result
+        (Steps (MayKeepAt (durable_of site.now) records.now log.old) (D.state disk.old) (D.state disk.new)) }
     ensures any_moment { (D.state disk.old).honest → IfSome (log_of (D.state disk.old)) (λ halves.
         LeavesOnly (D.state disk.old) (D.state disk.new) (MayKeepAt (durable_of site.now) records.now log.old halves)) }
     ensures others { LeavesOthers (D.state disk.old) (D.state disk.new) }

@@ -51,14 +51,17 @@ impl Node {
         requires attached { IsTrue (D.state disk.old).attached }
         requires id { has (sites_of catalog.now) id ≡ true }
 
-        ensures started { IfOk result (λ node. Starts catalog.now id node (D.state disk.old) (D.state disk.new)) }
+        ensures started { IfOk result
+            (λ node. Starts catalog.now id node (D.state disk.old) (D.state disk.new)) }
         ensures node { IfOk result (λ node. IsNode catalog.now node) }
         ensures kept { IfOk result (λ node. IsKept catalog.now node (D.state disk.new)) }
         ensures lives { IfOk result (λ node. node.site.life < 2 ^ 32) }
 
         // Each other result has its cause.
-        ensures bad_log { (half at : ℕ) → IsErrOf result (ends.BadLog half at) → IfSome (log_of (D.state disk.old)) (AreBadLog half at) }
-        ensures lives_spent { (life : ℕ) → IsErrOf result (ends.LivesSpent life) → IsSpent catalog.now id life (D.state disk.old) }
+        ensures bad_log { (half at : ℕ) → IsErrOf result (ends.BadLog half at) →
+            IfSome (log_of (D.state disk.old)) (AreBadLog half at) }
+        ensures lives_spent { (life : ℕ) → IsErrOf result (ends.LivesSpent life) →
+            IsSpent catalog.now id life (D.state disk.old) }
         ensures unchanged { (half at life : ℕ) → IsErrOf result (ends.BadLog half at) ⊎ IsErrOf result (ends.LivesSpent life)
             → Steps ReadAlike (D.state disk.old) (D.state disk.new) }
         ensures still { (half at life : ℕ) → IsErrOf result (ends.BadLog half at) ⊎ IsErrOf result (ends.LivesSpent life)
@@ -122,10 +125,13 @@ impl Node {
         ensures saved { IfOk result (λ it. Steps (Saves (turn_on catalog.now self.site what) self.at it.0.at)
             (D.state disk.old) (D.state disk.new)) }
         // Whatever the disk says, after a turn with records no checkpoint is due, unless the generation is the last.
-        ensures short { IfOk result (λ it. KeepsShort (turn_on catalog.now self.site what).batch self.at it.0.at) }
+        ensures short { IfOk result
+            (λ it. KeepsShort (turn_on catalog.now self.site what).batch self.at it.0.at) }
         ensures node { IfOk result (λ it. IsNode catalog.now it.0) }
         ensures kept { IfOk result (λ it. IsKept catalog.now it.0 (D.state disk.new)) }
-        ensures left { (D.state disk.old).honest → Steps (MaySave catalog.now self (turn_on catalog.now self.site what)) (D.state disk.old) (D.state disk.new) }
+        ensures left { (D.state disk.old).honest →
+            Steps (MaySave catalog.now self (turn_on catalog.now self.site what)) (D.state disk.old)
+            (D.state disk.new) }
         ensures ends { EndsInTurn result }
 
         // A crash at any moment of the turn leaves the batches that were there, with or without the turn's, or their checkpoint: they
@@ -156,11 +162,14 @@ impl Node {
         requires node { IsNode catalog.now self }
         requires kept { IsKept catalog.now self (D.state disk.old) }
 
-        ensures turned { IfOk result (λ it. Turns catalog.now self (record { port = port; bytes = bytes.now }) it.0 it.1) }
+        ensures turned { IfOk result
+            (λ it. Turns catalog.now self (record { port = port; bytes = bytes.now }) it.0 it.1) }
         ensures saved { IfOk result (λ it. Steps (Saves (turn_of catalog.now self (record { port = port; bytes = bytes.now })) self.at it.0.at)
             (D.state disk.old) (D.state disk.new)) }
         // Whatever the disk says, after a turn with records no checkpoint is due, unless the generation is the last.
-        ensures short { IfOk result (λ it. KeepsShort (turn_of catalog.now self (record { port = port; bytes = bytes.now })).batch self.at it.0.at) }
+        ensures short { IfOk result
+            (λ it. KeepsShort (turn_of catalog.now self (record { port = port; bytes = bytes.now })).batch
+            self.at it.0.at) }
         ensures node { IfOk result (λ it. IsNode catalog.now it.0) }
         ensures kept { IfOk result (λ it. IsKept catalog.now it.0 (D.state disk.new)) }
         ensures fault { (D.state disk.old).honest → OnErr result (Steps (MaySave catalog.now self (turn_of catalog.now self (record { port = port; bytes = bytes.now })))

@@ -69,7 +69,8 @@ fn put_messages(
 ) -> Result<(), NoMemory>
     requires frames { AllByRecursion (λ sent. IsFrame (message_frame sent)) messages.now }
     requires empty { room.old.items ≡ [] }
-    ensures datagrams { OnOk result (datagrams.new ≡ datagrams.old ++ flat_map (message_datagram catalog.now) messages.now) }
+    ensures datagrams { OnOk result
+        (datagrams.new ≡ datagrams.old ++ flat_map (message_datagram catalog.now) messages.now) }
     ensures empty { OnOk result (room.new.items ≡ []) }
 {
     for sent in messages {
@@ -121,7 +122,9 @@ pub fn datagrams_of(
 ) -> Result<Datagrams, NoMemory>
     requires messages { AllByRecursion (λ sent. IsFrame (message_frame sent)) messages.now }
     requires replies { AllByRecursion (λ reply. IsFrame (reply_frame id reply)) replies.now }
-    ensures { IfOk result (λ it. it ≡ flat_map (message_datagram catalog.now) messages.now ++ map (reply_datagram id) replies.now) }
+    ensures { IfOk result
+        (λ it. it ≡ flat_map (message_datagram catalog.now) messages.now ++
+        map (reply_datagram id) replies.now) }
 {
     let alloc = catalog.sites().allocator();
     let mut datagrams = Datagrams::new(alloc);

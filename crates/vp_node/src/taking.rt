@@ -22,8 +22,10 @@ fn step(site: Site, catalog: &Catalog, input: Input) -> Result<(Site, TurnEffect
     requires catalogue { IsCatalogue catalog.now }
     requires site { IsShaped catalog.now site }
     requires input { IsInput input }
-    ensures does { IfOk result (λ it. Does (step_turn catalog.now site.id (step catalog.now site input)) it.0 it.1) }
-    ensures stepped { IfOk result (λ it. record { site = it.0; effects = it.1.effects } ≡ step catalog.now site input) }
+    ensures does { IfOk result
+        (λ it. Does (step_turn catalog.now site.id (step catalog.now site input)) it.0 it.1) }
+    ensures stepped { IfOk result
+        (λ it. record { site = it.0; effects = it.1.effects } ≡ step catalog.now site input) }
 {
     steps_are_shaped();
     given_are_frames();

@@ -37,7 +37,8 @@ fn next_line(
 ) -> Result<HistoryLine, HistoryFault>
     requires names { AllNames history.now.names }
     requires few { length history.now.names ≤ 256 }
-    requires room { (left : ℕ) → line_at (before history.now) cursor.old ≡ Err left → left ≤ length cursor.old }
+    requires room { (left : ℕ) → line_at (before history.now) cursor.old ≡ Err left →
+        left ≤ length cursor.old }
     requires small { length cursor.old < 2 ^ 63 }
     ensures { NextLine history.now line cursor.old cursor.new result }
 {

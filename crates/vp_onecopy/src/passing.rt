@@ -8,7 +8,8 @@ use vp_text::Cursor;
 
 /// The length of the first line, its newline included, or `None` where there is no newline.
 fn line_size(bytes: &[u8]) -> Option<usize>
-    ensures { MatchOption result (HasNoNewline bytes.now) (λ n. (0 < n) × (n ≤ length bytes.now) × IsLine (take n bytes.now)) }
+    ensures { MatchOption result (HasNoNewline bytes.now)
+        (λ n. (0 < n) × (n ≤ length bytes.now) × IsLine (take n bytes.now)) }
 {
     for (i, byte) in bytes.iter().enumerate() {
         if *byte == b'\n' {
@@ -23,7 +24,8 @@ fn line_size(bytes: &[u8]) -> Option<usize>
 pub fn pass_over(cursor: &mut Cursor) -> Result<usize, usize>
     requires { length cursor.old < 2 ^ 63 }
     ensures passes { Passes cursor.old cursor.new result }
-    ensures bound { MatchResult result (λ n. n + length cursor.new ≤ length cursor.old) (λ n. n + length cursor.new ≤ length cursor.old) }
+    ensures bound { MatchResult result (λ n. n + length cursor.new ≤ length cursor.old)
+        (λ n. n + length cursor.new ≤ length cursor.old) }
 {
     let mut passed = 0;
     loop {

@@ -52,7 +52,8 @@ fn print_access(
     value: &Value,
     out: &mut Vec<u8>,
 ) -> Result<(), NoMemory>
-    ensures { Appends result out.old.items (key.now ++ (slice_index_or names.now rec [] ++ 32 ∷ value.now)) out.new.items }
+    ensures { Appends result out.old.items (key.now ++ (slice_index_or names.now rec [] ++ 32 ∷ value.now))
+        out.new.items }
 {
     out.extend_from_slice(key)?;
     print_name(names, rec, out)?;
@@ -118,7 +119,8 @@ fn print_end(commits: u64, out: &mut Vec<u8>) -> Result<(), NoMemory>
 #[tactic(auto, using(crate::proofs::Whole::read_back, vp_text::proofs::Printing::printing))]
 pub fn print_history(history: &History, out: &mut Vec<u8>) -> Result<(), NoMemory>
     ensures read_back { IsWhole history.now → IsReadBack history.now }
-    ensures text { Appends result out.old.items (history_lines history.now.names history.now.start history.now.commits) out.new.items }
+    ensures text { Appends result out.old.items
+        (history_lines history.now.names history.now.start history.now.commits) out.new.items }
 {
     let names = history.names.as_slice();
     let commits = history.commits.as_slice();

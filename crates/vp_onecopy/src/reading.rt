@@ -72,7 +72,8 @@ fn parse_op(alloc: Global, cursor: &mut Cursor, names: &[Name]) -> Result<Op, Li
 #[tactic(auto, unfolding(vp_text::specs::Reading::next_at))]
 fn parse_next(alloc: Global, cursor: &mut Cursor, names: &[Name]) -> Result<Option<Op>, LineFault>
     requires { length names.now ≤ 256 }
-    ensures { Tries (λ op. op) line_left result cursor.new (next_at (some_names names.now) (op_at names.now) (10 ∷ []) cursor.old) }
+    ensures { Tries (λ op. op) line_left result cursor.new
+        (next_at (some_names names.now) (op_at names.now) (10 ∷ []) cursor.old) }
 {
     let mut other = cursor.fork();
     match cursor.literal(b"\n") {
@@ -93,7 +94,8 @@ fn parse_next(alloc: Global, cursor: &mut Cursor, names: &[Name]) -> Result<Opti
 fn parse_ops(alloc: Global, cursor: &mut Cursor, names: &[Name]) -> Result<Ops, LineFault>
     requires few { length names.now ≤ 256 }
     requires names { AllNames names.now }
-    ensures { Tries (λ ops. ops) line_left result cursor.new (ops_at names.now (suc (length cursor.old)) cursor.old) }
+    ensures { Tries (λ ops. ops) line_left result cursor.new
+        (ops_at names.now (suc (length cursor.old)) cursor.old) }
 {
     let mut ops = Vec::new(alloc);
     while let Some(op) = parse_next(alloc, cursor, names)? {
@@ -153,7 +155,8 @@ fn parse_later(
 ) -> Result<HistoryLine, LineFault>
     requires few { length names.now ≤ 256 }
     requires names { AllNames names.now }
-    ensures { Tries (λ line. line) line_left result cursor.new (later_at (record { names = names.now; last = last; commits = commits }) cursor.old) }
+    ensures { Tries (λ line. line) line_left result cursor.new
+        (later_at (record { names = names.now; last = last; commits = commits }) cursor.old) }
 {
     let mut other = cursor.fork();
     match parse_commit(alloc, cursor, names, last) {
@@ -180,7 +183,8 @@ pub fn parse_line(
 ) -> Result<HistoryLine, LineFault>
     requires few { length names.now ≤ 256 }
     requires names { AllNames names.now }
-    ensures { Tries (λ line. line) line_left result cursor.new (line_at (record { names = names.now; last = last; commits = commits }) cursor.old) }
+    ensures { Tries (λ line. line) line_left result cursor.new
+        (line_at (record { names = names.now; last = last; commits = commits }) cursor.old) }
 {
     if commits > 0 || names.len() >= MOST_RECORDS {
         return parse_later(alloc, cursor, names, last, commits);

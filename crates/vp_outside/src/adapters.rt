@@ -84,7 +84,8 @@ impl<W: Write> Sink for Writing<W> {
 
     /// Want of memory is never its error.
     fn put(&mut self, piece: &[u8]) -> Result<usize, OutFault>
-        ensures puts { Puts piece.now (⟦<Writing<W> as Sink>⟧.state self.old) (⟦<Writing<W> as Sink>⟧.state self.new) result }
+        ensures puts { Puts piece.now (⟦<Writing<W> as Sink>⟧.state self.old)
+            (⟦<Writing<W> as Sink>⟧.state self.new) result }
         ensures no_memory { IsErrOf result OutOfMemory → ⊥ }
     {
         match self.inner.write(piece) {

@@ -43,7 +43,8 @@ pub trait Disk {
     fn write_at(&mut self, half: u8, at: u64, piece: &[u8]) -> Result<(), OutFault>
         requires attached { IsTrue (state self.old).attached }
         requires half { half ≤ 1 }
-        ensures written { Changes half (Written at piece.now) (Torn at (length piece.now)) (state self.old) (state self.new) result }
+        ensures written { Changes half (Written at piece.now) (Torn at (length piece.now)) (state self.old)
+            (state self.new) result }
         ensures fits { OnOk result (at + length piece.now ≤ 2 ^ 62) };
 
     /// Cuts a half to a length; a shorter half stays as it is. Until a sync, a crash may leave it cut or not.

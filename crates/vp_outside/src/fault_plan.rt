@@ -54,7 +54,8 @@ impl FaultPlan {
     /// Counts a call, and returns whether it is to fail, which is counted as a fault.
     pub fn fails_now(&mut self) -> bool
         ensures counted { CountsCall self.old self.new (IsTrue result) }
-        ensures faults { self.new.faults ≡ (if result then count_after self.old.faults 1 else self.old.faults) }
+        ensures faults { self.new.faults ≡
+            (if result then count_after self.old.faults 1 else self.old.faults) }
     {
         let fails = self.fails_next();
         if fails {

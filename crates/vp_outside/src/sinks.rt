@@ -49,8 +49,10 @@ impl Sink for TextSink {
     }
 
     fn put(&mut self, piece: &[u8]) -> Result<usize, OutFault>
-        ensures puts { Puts piece.now (⟦<TextSink as Sink>⟧.state self.old) (⟦<TextSink as Sink>⟧.state self.new) result }
-        ensures plan { ¬ IsErrOf result OutFault.NoMemory → CountsCall self.old.plan self.new.plan (IsErr result) }
+        ensures puts { Puts piece.now (⟦<TextSink as Sink>⟧.state self.old)
+            (⟦<TextSink as Sink>⟧.state self.new) result }
+        ensures plan { ¬ IsErrOf result OutFault.NoMemory →
+            CountsCall self.old.plan self.new.plan (IsErr result) }
         ensures no_memory { IsErrOf result OutFault.NoMemory → self.new.plan ≡ self.old.plan }
         ensures most { self.new.most ≡ self.old.most }
         ensures piece { IfOk result (λ n. n ≡ min (length piece.now) self.old.most) }

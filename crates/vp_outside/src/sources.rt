@@ -88,7 +88,8 @@ impl Source for TextSource {
     }
 
     fn take(&mut self, buf: &mut [u8]) -> Result<usize, Failed>
-        ensures takes { Takes buf.new (⟦<TextSource as Source>⟧.state self.old) (⟦<TextSource as Source>⟧.state self.new) result }
+        ensures takes { Takes buf.new (⟦<TextSource as Source>⟧.state self.old)
+            (⟦<TextSource as Source>⟧.state self.new) result }
         ensures plan { CountsCall self.old.plan self.new.plan (IsErr result) }
         ensures most { self.new.most ≡ self.old.most }
         ensures piece { IfOk result (λ n. IfSome (⟦<TextSource as Source>⟧.state self.old).left (λ left.

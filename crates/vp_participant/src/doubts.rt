@@ -36,7 +36,10 @@ pub fn is_written(doubts: &[Doubt], rec: RecId) -> bool
 
 /// Adds the transaction of the part to those in doubt, with its writes.
 pub fn add_doubt(doubts: &mut Vec<Doubt>, part: &Part, writes: &Writes) -> Result<(), NoMemory>
-    ensures { OnOk result (doubts.new.items ≡ put_doubt (record { txn = part.now.txn; view = part.now.view; writes = writes.now }) doubts.old.items) }
+    ensures { OnOk result
+        (doubts.new.items ≡
+        put_doubt (record { txn = part.now.txn; view = part.now.view; writes = writes.now })
+        doubts.old.items) }
 {
     put(
         doubts,

@@ -78,7 +78,8 @@ impl Participant {
         durable: &Durable,
         locks: &mut Locks,
     ) -> Result<Participant, NoMemory>
-        ensures participant { IfOk result (λ p. p ≡ record { parts = []; doubts = durable.now.doubts; ended = [] }) }
+        ensures participant { IfOk result
+            (λ p. p ≡ record { parts = []; doubts = durable.now.doubts; ended = [] }) }
         ensures locks { OnOk result (locks.new ≡ locks.old ++ flat_map locks_in_doubt durable.now.doubts) }
     {
         let doubts = durable.doubts().as_slice();
@@ -124,10 +125,14 @@ impl Participant {
         held: Option<&View>,
         request: &Request,
     ) -> Result<(), PartFault>
-        ensures told { lock_refused result ≡ lock_refusal (option_copied held.entry) request.now.txn request.now.view request.now.rec false self.old locks.old }
+        ensures told { lock_refused result ≡
+            lock_refusal (option_copied held.entry) request.now.txn request.now.view request.now.rec false
+            self.old locks.old }
         ensures part { OnOk result (self.new ≡ with_part request.now.txn request.now.view self.old) }
-        ensures lock { OnOk result (locks.new ≡ with_lock request.now.rec false (owner.Txn request.now.txn) locks.old) }
-        ensures refused { IfSome (lock_refused result) (λ why. (self.new ≡ self.old) × (locks.new ≡ locks.old)) }
+        ensures lock { OnOk result
+            (locks.new ≡ with_lock request.now.rec false (owner.Txn request.now.txn) locks.old) }
+        ensures refused { IfSome (lock_refused result)
+            (λ why. (self.new ≡ self.old) × (locks.new ≡ locks.old)) }
     {
         if let Some(why) = self.refusal(held, &request.txn, request.view) {
             return Err(why.into());
@@ -144,10 +149,14 @@ impl Participant {
         held: Option<&View>,
         request: &Request,
     ) -> Result<(), PartFault>
-        ensures told { lock_refused result ≡ lock_refusal (option_copied held.entry) request.now.txn request.now.view request.now.rec true self.old locks.old }
+        ensures told { lock_refused result ≡
+            lock_refusal (option_copied held.entry) request.now.txn request.now.view request.now.rec true
+            self.old locks.old }
         ensures part { OnOk result (self.new ≡ with_part request.now.txn request.now.view self.old) }
-        ensures lock { OnOk result (locks.new ≡ with_lock request.now.rec true (owner.Txn request.now.txn) locks.old) }
-        ensures refused { IfSome (lock_refused result) (λ why. (self.new ≡ self.old) × (locks.new ≡ locks.old)) }
+        ensures lock { OnOk result
+            (locks.new ≡ with_lock request.now.rec true (owner.Txn request.now.txn) locks.old) }
+        ensures refused { IfSome (lock_refused result)
+            (λ why. (self.new ≡ self.old) × (locks.new ≡ locks.old)) }
     {
         if let Some(why) = self.refusal(held, &request.txn, request.view) {
             return Err(why.into());
@@ -159,7 +168,8 @@ impl Participant {
 
     /// Puts the transaction in doubt, until its outcome comes, and removes its part. Returns the log record of the vote.
     fn put_in_doubt(&mut self, part: &Part, writes: &Writes) -> Result<LogRecord, NoMemory>
-        ensures forced { IfOk result (λ forced. forced ≡ log_record.Yes part.now.txn part.now.view writes.now) }
+        ensures forced { IfOk result
+            (λ forced. forced ≡ log_record.Yes part.now.txn part.now.view writes.now) }
         ensures doubt { OnOk result (self.new ≡ with_new_doubt part.now writes.now self.old) }
     {
         self.parts.remove(&part.txn);
@@ -178,7 +188,9 @@ impl Participant {
         part: &Part,
         asked: &Prepare<'_>,
     ) -> Result<Voted, NoMemory>
-        ensures { IfOk result (λ voted. (voted, self.new) ≡ first_ballot part.now asked.now.reads.now asked.now.writes.now locks.now self.old) }
+        ensures { IfOk result
+            (λ voted. (voted, self.new) ≡
+            first_ballot part.now asked.now.reads.now asked.now.writes.now locks.now self.old) }
     {
         let (reads, writes) = (asked.reads.as_slice(), asked.writes.as_slice());
         if !has_all_locks(locks, &part.txn, reads, writes) {
@@ -195,7 +207,9 @@ impl Participant {
     }
 
     fn vote(&mut self, locks: &Locks, part: &Part, asked: &Prepare<'_>) -> Result<Voted, NoMemory>
-        ensures { IfOk result (λ voted. (voted, self.new) ≡ ballot_of part.now asked.now.reads.now asked.now.writes.now locks.now self.old) }
+        ensures { IfOk result
+            (λ voted. (voted, self.new) ≡
+            ballot_of part.now asked.now.reads.now asked.now.writes.now locks.now self.old) }
     {
         if part.voted {
             Ok(Voted::Yes { forced: None })
@@ -213,8 +227,11 @@ impl Participant {
         held: Option<&View>,
         asked: &Prepare<'_>,
     ) -> Result<Voted, PrepareFault>
-        ensures told { vote_refused result ≡ vote_refusal (option_copied held.entry) asked.now.txn asked.now.view self.old }
-        ensures voted { IfOk result (λ voted. (voted, self.new) ≡ ballot asked.now.txn asked.now.reads.now asked.now.writes.now locks.now self.old) }
+        ensures told { vote_refused result ≡
+            vote_refusal (option_copied held.entry) asked.now.txn asked.now.view self.old }
+        ensures voted { IfOk result
+            (λ voted. (voted, self.new) ≡
+            ballot asked.now.txn asked.now.reads.now asked.now.writes.now locks.now self.old) }
         ensures refused { IfSome (vote_refused result) (λ why. self.new ≡ self.old) }
     {
         if let Some(why) = self.refusal(held, &asked.txn, asked.view) {

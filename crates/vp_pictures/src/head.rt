@@ -155,7 +155,8 @@ impl Sheet {
     }
 
     fn print_stub(&self, catalog: &Catalog, mark: &Mark, out: &mut Vec<u8>) -> Result<(), NoMemory>
-        ensures { OnOk result (out.new.items ≡ out.old.items ++ stub_text catalog.now self.now.came mark.now) }
+        ensures { OnOk result
+            (out.new.items ≡ out.old.items ++ stub_text catalog.now self.now.came mark.now) }
     {
         match self.stub_of(catalog, mark) {
             None => Ok(()),
@@ -164,7 +165,8 @@ impl Sheet {
     }
 
     fn print_stubs(&self, catalog: &Catalog, out: &mut Vec<u8>) -> Result<(), NoMemory>
-        ensures { OnOk result (out.new.items ≡ out.old.items ++ flat_map (stub_text catalog.now self.now.came) self.now.marks) }
+        ensures { OnOk result
+            (out.new.items ≡ out.old.items ++ flat_map (stub_text catalog.now self.now.came) self.now.marks) }
     {
         for mark in self.marks.as_slice() {
             self.print_stub(catalog, mark, out)?;

@@ -58,7 +58,17 @@ pub struct Sheet {
 impl Sheet {
     /// Makes an empty sheet.
     pub fn new(alloc: Global, part: Part) -> Sheet
-        ensures { result ≡ record { part = part; lines = 0; wide = 400; marks = []; came = []; bars = []; arrows = []; texts = [] } }
+        ensures { result ≡
+            record {
+              part = part;
+              lines = 0;
+              wide = 400;
+              marks = [];
+              came = [];
+              bars = [];
+              arrows = [];
+              texts = [];
+            } }
     {
         Sheet {
             part,
@@ -109,7 +119,8 @@ impl Sheet {
 
     /// Draws an arrow, if there is one.
     pub fn draw_arrow(&mut self, shape: Option<Shape>) -> Result<(), NoMemory>
-        ensures { OnOk result (self.new ≡ record self.old { arrows = self.old.arrows ++ option_to_list shape }) }
+        ensures { OnOk result
+            (self.new ≡ record self.old { arrows = self.old.arrows ++ option_to_list shape }) }
     {
         match shape {
             None => Ok(()),

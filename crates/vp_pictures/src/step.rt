@@ -163,7 +163,8 @@ impl Sheet {
         is_drawn: bool,
         line: &Line,
     ) -> Result<(), NoMemory>
-        ensures { OnOk result (self.new ≡ with_arrow catalog.now is_drawn line.now.event line.now.shown self.old) }
+        ensures { OnOk result
+            (self.new ≡ with_arrow catalog.now is_drawn line.now.event line.now.shown self.old) }
     {
         let Event::Deliver { k } = &line.event else {
             return Ok(());
@@ -393,7 +394,8 @@ impl Sheet {
         y: u64,
         looks: &[(SiteId, Look)],
     ) -> Result<(), NoMemory>
-        ensures { OnOk result (self.new ≡ for_each looks.now (with_look catalog.now y (top self.old.lines)) self.old) }
+        ensures { OnOk result
+            (self.new ≡ for_each looks.now (with_look catalog.now y (top self.old.lines)) self.old) }
     {
         let end = top(self.lines);
         for pair in looks {

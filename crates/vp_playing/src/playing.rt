@@ -20,8 +20,11 @@ fn play_step<S: Stepper, O: Observer>(
     observer: &mut O,
 ) -> Result<World, WorldEnd>
     requires { IsReady S.may world.catalogue event.now world.world stepper.old }
-    ensures seen { Sees O.sees O.begins world.catalogue [] (one_step world.catalogue number event.now (run_in world.world)) result observer.old observer.new }
-    ensures stepped { OnOk result (StepsAll S.did world.catalogue (one_step world.catalogue number event.now (run_in world.world)).moments stepper.old stepper.new) }
+    ensures seen { Sees O.sees O.begins world.catalogue []
+        (one_step world.catalogue number event.now (run_in world.world)) result observer.old observer.new }
+    ensures stepped { OnOk result
+        (StepsAll S.did world.catalogue
+        (one_step world.catalogue number event.now (run_in world.world)).moments stepper.old stepper.new) }
 {
     match world.next_by(event, stepper) {
         Err(end) => Err(end),
@@ -40,9 +43,13 @@ fn play_flow<S: Stepper, O: Observer>(
     stepper: &mut S,
     observer: &mut O,
 ) -> Result<World, WorldEnd>
-    requires { IsReadyFor S.may S.did world.catalogue (flow world.catalogue number count (run_in world.world)).moments stepper.old }
-    ensures stepped { OnOk result (StepsAll S.did world.catalogue (flow world.catalogue number count (run_in world.world)).moments stepper.old stepper.new) }
-    ensures seen { Sees O.sees O.begins world.catalogue [] (flow world.catalogue number count (run_in world.world)) result observer.old observer.new }
+    requires { IsReadyFor S.may S.did world.catalogue
+        (flow world.catalogue number count (run_in world.world)).moments stepper.old }
+    ensures stepped { OnOk result
+        (StepsAll S.did world.catalogue (flow world.catalogue number count (run_in world.world)).moments
+        stepper.old stepper.new) }
+    ensures seen { Sees O.sees O.begins world.catalogue []
+        (flow world.catalogue number count (run_in world.world)) result observer.old observer.new }
 {
     let mut world = world;
     for _ in 0..count {
@@ -61,8 +68,11 @@ fn show_own_line<O: Observer>(
     catalog: &Catalog,
     observer: &mut O,
 ) -> Result<(), NoMemory>
-    ensures seen { OnOk result (SeesAll (O.sees catalog.now) (own_line number event.now) observer.old observer.new) }
-    ensures begun { OnErr result (SeesSome (O.sees catalog.now) (O.begins catalog.now) (own_line number event.now) observer.old observer.new) }
+    ensures seen { OnOk result
+        (SeesAll (O.sees catalog.now) (own_line number event.now) observer.old observer.new) }
+    ensures begun { OnErr result
+        (SeesSome (O.sees catalog.now) (O.begins catalog.now) (own_line number event.now) observer.old
+        observer.new) }
 {
     let Event::Flow { count } = event else {
         return Ok(());
@@ -83,8 +93,11 @@ pub fn play_event<S: Stepper, O: Observer>(
     stepper: &mut S,
     observer: &mut O,
 ) -> Result<World, WorldEnd>
-    requires ready { IsReadyFor S.may S.did world.catalogue (one_event world.catalogue number event.now (run_in world.world)).moments stepper.old }
-    ensures stepped { OnOk result (StepsAll S.did world.catalogue (one_event world.catalogue number event.now (run_in world.world)).moments stepper.old stepper.new) }
+    requires ready { IsReadyFor S.may S.did world.catalogue
+        (one_event world.catalogue number event.now (run_in world.world)).moments stepper.old }
+    ensures stepped { OnOk result
+        (StepsAll S.did world.catalogue
+        (one_event world.catalogue number event.now (run_in world.world)).moments stepper.old stepper.new) }
     ensures seen { Sees O.sees O.begins world.catalogue (own_line number event.now) (one_event world.catalogue number event.now (run_in world.world)) result
         observer.old observer.new }
 {
@@ -104,8 +117,10 @@ pub fn play<S: Stepper, O: Observer>(
     observer: &mut O,
 ) -> Result<World, WorldEnd>
     requires few { length events.now ≤ 100000 }
-    requires ready { IsReadyFor S.may S.did catalog (moments_of (schedule_of catalog events.now)) stepper.old }
-    ensures stepped { OnOk result (StepsAll S.did catalog (moments_of (schedule_of catalog events.now)) stepper.old stepper.new) }
+    requires ready { IsReadyFor S.may S.did catalog (moments_of (schedule_of catalog events.now))
+        stepper.old }
+    ensures stepped { OnOk result
+        (StepsAll S.did catalog (moments_of (schedule_of catalog events.now)) stepper.old stepper.new) }
     ensures played { Plays O.sees O.begins (schedule_of catalog events.now) result observer.old observer.new }
 {
     let mut world = World::new(catalog)?;

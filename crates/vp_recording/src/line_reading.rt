@@ -43,7 +43,8 @@ fn parse_frame(alloc: Global, cursor: &mut Cursor, word: &[u8]) -> Result<Bytes,
 /// A word, a number of the range and the end of the line.
 #[tactic(auto, unfolding(crate::specs::LineReading::count_at))]
 fn parse_count(cursor: &mut Cursor, word: &[u8], least: u32, most: u32) -> Result<u32, Unexpected>
-    ensures { Reads (λ n. n) (λ e. e.left) result cursor.new (reading.count_at word.now least most cursor.old) }
+    ensures { Reads (λ n. n) (λ e. e.left) result cursor.new
+        (reading.count_at word.now least most cursor.old) }
 {
     cursor.literal(word)?;
     let number = cursor.number_u32(least, most)?;

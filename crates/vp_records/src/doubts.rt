@@ -15,7 +15,8 @@ pub fn keep_doubt(
     view: &ViewId,
     writes: &Writes,
 ) -> Result<(), NoMemory>
-    ensures ok { OnOk result (doubts.new ≡ put_doubt (record { txn = txn.now; view = view.now; writes = writes.now }) doubts.old) }
+    ensures ok { OnOk result
+        (doubts.new ≡ put_doubt (record { txn = txn.now; view = view.now; writes = writes.now }) doubts.old) }
     ensures err { OnErr result (doubts.new ≡ doubts.old) }
 {
     let doubt = Doubt {

@@ -82,7 +82,14 @@ impl Durable {
         doubts: InDoubt,
         decisions: Decisions,
     ) -> Durable
-        ensures { result ≡ record { promise = promise; life = life; copies = copies; doubts = doubts; decisions = decisions } }
+        ensures { result ≡
+            record {
+              promise = promise;
+              life = life;
+              copies = copies;
+              doubts = doubts;
+              decisions = decisions;
+            } }
     {
         Durable {
             promise,
@@ -146,7 +153,9 @@ impl Durable {
 
     /// Makes the log record that saves all of it. `generation` is the number of the checkpoint, from 1.
     pub fn checkpoint(&self, generation: u64) -> Result<LogRecord, NoMemory>
-        ensures record { IfOk result (λ r. r ≡ log_record.Checkpoint generation self.now.life self.now.promise self.now.copies self.now.doubts self.now.decisions) }
+        ensures record { IfOk result
+            (λ r. r ≡ log_record.Checkpoint generation self.now.life self.now.promise self.now.copies
+            self.now.doubts self.now.decisions) }
         ensures spelled { CanBeSaved self.now → IfOk result IsLogRecord }
     {
         let alloc = *self.copies.allocator();
@@ -195,7 +204,10 @@ impl Durable {
 
     /// Makes the writes of the transaction in doubt the copies, with its view as their date.
     fn write_doubt(&mut self, txn: &TxnId) -> Result<(), NoMemory>
-        ensures ok { OnOk result (self.new ≡ record self.old { copies = with_outcome (doubt_of txn.now self.old.doubts) true self.old.copies }) }
+        ensures ok { OnOk result
+            (self.new ≡
+            record self.old
+            { copies = with_outcome (doubt_of txn.now self.old.doubts) true self.old.copies }) }
         ensures err { OnErr result (self.new ≡ self.old) }
     {
         let mut copies = self.own_copies()?;
@@ -219,7 +231,9 @@ impl Durable {
 
     /// Keeps the decision on the transaction until each of the sites has acknowledged it.
     fn keep(&mut self, txn: &TxnId, waiting: &Sites) -> Result<(), NoMemory>
-        ensures ok { OnOk result (self.new ≡ record self.old { decisions = with_decision txn.now waiting.now self.old.decisions }) }
+        ensures ok { OnOk result
+            (self.new ≡
+            record self.old { decisions = with_decision txn.now waiting.now self.old.decisions }) }
         ensures err { OnErr result (self.new ≡ self.old) }
     {
         self.decisions.keep(txn, waiting.copy_of()?)
@@ -234,7 +248,8 @@ impl Durable {
         writes: &Writes,
         waiting: &Sites,
     ) -> Result<(), NoMemory>
-        ensures ok { OnOk result (self.new ≡ apply (log_record.Commit txn.now view.now writes.now waiting.now) self.old) }
+        ensures ok { OnOk result
+            (self.new ≡ apply (log_record.Commit txn.now view.now writes.now waiting.now) self.old) }
         ensures err { OnErr result (self.new ≡ self.old) }
     {
         let mut copies = self.own_copies()?;

@@ -102,7 +102,9 @@ fn put_commit(
 ) -> Result<(), NoMemory>
     requires writes { IsWrites writes.now }
     requires waiting { IsSites 0 waiting.now }
-    ensures { Appends result out.old.items (txn_bytes txn.now ++ (view_bytes view.now ++ (writes_bytes writes.now ++ counted_bytes waiting.now))) out.new.items }
+    ensures { Appends result out.old.items
+        (txn_bytes txn.now ++ (view_bytes view.now ++ (writes_bytes writes.now ++ counted_bytes waiting.now)))
+        out.new.items }
 {
     put_doubt(out, txn, view, writes)?;
     put_sites(out, waiting)
@@ -127,7 +129,9 @@ fn put_saved(
     requires copies { IsCopies copies.now }
     requires doubts { IsDoubts doubts.now }
     requires decisions { IsDecisions decisions.now }
-    ensures { Appends result out.old.items (copies_bytes copies.now ++ (doubts_bytes doubts.now ++ decisions_bytes decisions.now)) out.new.items }
+    ensures { Appends result out.old.items
+        (copies_bytes copies.now ++ (doubts_bytes doubts.now ++ decisions_bytes decisions.now))
+        out.new.items }
 {
     put_copies(out, copies)?;
     put_doubts(out, doubts)?;

@@ -54,7 +54,10 @@ fn acknowledge_one(decision: &mut Decision, txn: &TxnId, site: SiteId)
 }
 
 fn acknowledge_all(decisions: &mut [Decision], txn: &TxnId, site: SiteId)
-    ensures { decisions.new ≡ map (λ (d : Decision). if same_txn d.txn txn.now then record d { waiting = filter (λ q. not (q == site)) d.waiting } else d) decisions.old }
+    ensures { decisions.new ≡
+        map (λ (d : Decision).
+        if same_txn d.txn txn.now then record d { waiting = filter (λ q. not (q == site)) d.waiting } else d)
+        decisions.old }
 {
     for decision in decisions.iter_mut() {
         acknowledge_one(decision, txn, site);

@@ -100,7 +100,8 @@ impl RefreshEntry {
         id: SiteId,
         held: Option<&View>,
     ) -> Result<Sites, NoMemory>
-        ensures { IfOk result (λ sites. sites ≡ missing_of catalog.now id (option_copied held.entry) self.now) }
+        ensures { IfOk result
+            (λ sites. sites ≡ missing_of catalog.now id (option_copied held.entry) self.now) }
     {
         let others = catalog.other_holders(id, held, self.refreshing.rec)?;
         let sites = others

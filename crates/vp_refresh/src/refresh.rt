@@ -53,7 +53,10 @@ impl Refresh {
 
     /// Begins the refresh of the record's copy, and forgets what came for it before. Where memory is lacking, nothing changes.
     pub fn begin(&mut self, rec: RecId) -> Result<(), NoMemory>
-        ensures ok { OnOk result (self.new ≡ put (λ a b. a.rec == b.rec) (λ a b. nat_lt a.rec b.rec) (record { rec = rec; answers = [] }) self.old) }
+        ensures ok { OnOk result
+            (self.new ≡
+            put (λ a b. a.rec == b.rec) (λ a b. nat_lt a.rec b.rec) (record { rec = rec; answers = [] })
+            self.old) }
         ensures err { OnErr result (self.new ≡ self.old) }
     {
         let alloc = *self.listed.allocator();
@@ -81,7 +84,9 @@ impl Refresh {
         held: Option<&View>,
         rec: RecId,
     ) -> Result<Option<Sites>, NoMemory>
-        ensures { IfOk result (λ sites. sites ≡ option_map (missing_of catalog.now id (option_copied held.entry)) (refreshing_of rec self.now)) }
+        ensures { IfOk result
+            (λ sites. sites ≡
+            option_map (missing_of catalog.now id (option_copied held.entry)) (refreshing_of rec self.now)) }
     {
         match self.find(rec) {
             None => Ok(None),
@@ -98,7 +103,8 @@ impl Refresh {
 
     /// The newest of the own copy and those that have come for the record; `None` where its copy is not under refresh.
     pub fn newest(&self, rec: RecId, own: &Stored) -> Result<Option<Stored>, NoMemory>
-        ensures copy { IfOk result (λ copy. copy ≡ option_map (λ r. newest own.now r.answers) (refreshing_of rec self.now)) }
+        ensures copy { IfOk result
+            (λ copy. copy ≡ option_map (λ r. newest own.now r.answers) (refreshing_of rec self.now)) }
         ensures newest { IfOk result (λ copy. IfSome copy (IsNewestIn rec own.now self.now)) }
     {
         match self.find(rec) {

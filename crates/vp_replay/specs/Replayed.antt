@@ -15,6 +15,8 @@ use Rattle.vp_schedule.specs.declared.fault.ScheduleFault.TheVariants as faults
 use Rattle.vp_status.specs.Refused.{bad_line_text, twice_text, limit_text}
 use Rattle.vp_status.specs.declared.status.Status.{Status}
 use Rattle.vp_status.specs.declared.status.Status.TheVariants as status
+use Rattle.vp_world.specs.declared.end.WorldEnd.{WorldEnd}
+use Rattle.vp_world.specs.declared.end.WorldEnd.TheVariants as ends
 pub use Rattle.vp_world.specs.Limits.{limit_of}
 
 -- This holds at each moment of the schedule.
@@ -44,6 +46,11 @@ abbrev pub Gives : Schedule → Status → List ℕ → Type 0
 Gives s status.Done text = IsDone s text
 Gives s status.Limit text = IsLimited s text
 Gives s _ text = ⊥
+
+-- the status and the text where a limit of the world ended a run of which this text was printed before
+abbrev pub StopsAt : WorldEnd → List ℕ → Status → List ℕ → Type 0
+StopsAt (ends.Limit what limit) before status.Limit text = text ≡ before ++ limit_text limit
+StopsAt _ before _ text = ⊥
 
 -- the bytes are the text of this schedule and of no other, and this is printed for it
 pub record IsPlayed (prints : Schedule → Status → List ℕ → Type 0) (bytes : List ℕ) (end : Status) (text : List ℕ) : Type 0 where

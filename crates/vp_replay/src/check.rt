@@ -130,7 +130,9 @@ fn print_difference(
 }
 
 fn print_place(txn: &TxnId, place: usize, out: &mut Vec<u8>) -> Result<(), NoMemory>
-    ensures { OnOk result (out.new.items ≡ out.old.items ++ (codes "differs " ++ (txn_text txn.now ++ 32 ∷ (decimal place ++ 32 ∷ [])))) }
+    ensures { OnOk result
+        (out.new.items ≡ out.old.items ++
+        (codes "differs " ++ (txn_text txn.now ++ 32 ∷ (decimal place ++ 32 ∷ [])))) }
 {
     out.extend_from_slice(b"differs ")?;
     txn.print(out)?;
@@ -141,7 +143,9 @@ fn print_place(txn: &TxnId, place: usize, out: &mut Vec<u8>) -> Result<(), NoMem
 }
 
 fn print_kept(kept: &Value, read: &Value, out: &mut Vec<u8>) -> Result<(), NoMemory>
-    ensures { OnOk result (out.new.items ≡ out.old.items ++ (codes " kept " ++ (kept.now ++ (codes " read " ++ (read.now ++ 10 ∷ []))))) }
+    ensures { OnOk result
+        (out.new.items ≡ out.old.items ++
+        (codes " kept " ++ (kept.now ++ (codes " read " ++ (read.now ++ 10 ∷ []))))) }
 {
     out.extend_from_slice(b" kept ")?;
     kept.print(out)?;

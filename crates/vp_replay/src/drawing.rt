@@ -121,8 +121,10 @@ impl Draws {
     /// Draws what a client of the site does.
     fn work(&mut self, alloc: Global, world: &World, site: SiteId) -> Result<Event, NoMemory>
         requires catalogue { world.now.catalogue ≡ generated_catalogue }
-        requires numbers { IfSome (option_and_then (λ site. newest site.live) (site_of world.now.world site)) (λ t. t.next < 2 ^ 32) }
-        ensures { IfOk result (λ event. (event, self.new) ≡ generated_work site (site_of world.now.world site) self.old) }
+        requires numbers { IfSome (option_and_then (λ site. newest site.live) (site_of world.now.world site))
+            (λ t. t.next < 2 ^ 32) }
+        ensures { IfOk result
+            (λ event. (event, self.new) ≡ generated_work site (site_of world.now.world site) self.old) }
     {
         match world.newest(site) {
             None => Ok(Event::Call {
@@ -150,8 +152,13 @@ impl Draws {
     /// Draws the event of the next round.
     pub fn event(&mut self, alloc: Global, world: &World) -> Result<Event, NoMemory>
         requires catalogue { world.now.catalogue ≡ generated_catalogue }
-        requires numbers { (site : ℕ) → IfSome (option_and_then (λ site. newest site.live) (site_of world.now.world site)) (λ t. t.next < 2 ^ 32) }
-        ensures { IfOk result (λ event. (event, self.new) ≡ generated_event world.now.world (drawn (next_draw self.old) 16) (drawn (next_draw (next_draw self.old)) 5 + 1) (next_draw (next_draw self.old))) }
+        requires numbers { (site : ℕ) →
+            IfSome (option_and_then (λ site. newest site.live) (site_of world.now.world site))
+            (λ t. t.next < 2 ^ 32) }
+        ensures { IfOk result
+            (λ event. (event, self.new) ≡
+            generated_event world.now.world (drawn (next_draw self.old) 16)
+            (drawn (next_draw (next_draw self.old)) 5 + 1) (next_draw (next_draw self.old))) }
     {
         let kind = self.draw(16);
         let site = self.site();

@@ -80,7 +80,8 @@ pub fn generate(seed: u32, count: u32, out: &mut Vec<u8>) -> Result<Option<World
 /// Appends the schedule of the generator's catalogue with these events.
 #[tactic(auto, using(vp_text::proofs::Printing::printing))]
 fn print_events(events: Events, out: &mut Vec<u8>) -> Result<(), NoMemory>
-    ensures { Appends result out.old.items (schedule_text (schedule_of generated_catalogue events)) out.new.items }
+    ensures { Appends result out.old.items (schedule_text (schedule_of generated_catalogue events))
+        out.new.items }
 {
     let catalog = generated_catalogue(*out.allocator())?;
     print(&Schedule { catalog, events }, out)

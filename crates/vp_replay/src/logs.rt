@@ -5,26 +5,25 @@ ghost use Rattle.std.specs.List.{flat_map};
 ghost use Rattle.vp_schedule.specs.Document.{IsSchedule};
 ghost use Rattle.vp_replay.specs.Logged.{IsLogsAnswer, Leaves, half_text, log_line};
 
-use crate::replay::refuse;
+use crate::replay::{refuse, stop_at_limit};
 use std::alloc::Global;
 use vp_base::{NoMemory, SiteId, Word};
 use vp_cluster::run;
 use vp_schedule::{Schedule, read};
-use vp_status::{RunOutput, Status, print_limit};
-use vp_world::WorldEnd;
+use vp_status::{RunOutput, Status};
 
 /// Runs the schedule in the input through nodes: the status and the text that `logs` prints for it.
 pub fn logged(alloc: Global, input: &[u8]) -> Result<RunOutput, NoMemory>
     ensures { IfOk result (λ defined. IsLogsAnswer input.now defined.status defined.text.items) }
 {
     match read(alloc, input) {
-        Ok(schedule) => tell(alloc, &schedule),
+        Ok(schedule) => run_to_logs(alloc, &schedule),
         Err(fault) => refuse(alloc, fault),
     }
 }
 
 /// Runs the schedule through nodes, and makes the line of each log that it leaves, or of the limit of the world that ends the run.
-fn tell(alloc: Global, schedule: &Schedule) -> Result<RunOutput, NoMemory>
+fn run_to_logs(alloc: Global, schedule: &Schedule) -> Result<RunOutput, NoMemory>
     requires { IsSchedule schedule.now }
     ensures { IfOk result (λ defined. Leaves schedule.now defined.status defined.text.items) }
 {
@@ -38,14 +37,7 @@ fn tell(alloc: Global, schedule: &Schedule) -> Result<RunOutput, NoMemory>
                 text,
             })
         }
-        Err(WorldEnd::Limit { limit, .. }) => {
-            print_limit(limit, &mut text)?;
-            Ok(RunOutput {
-                status: Status::Limit,
-                text,
-            })
-        }
-        Err(WorldEnd::NoMemory) => Err(NoMemory),
+        Err(end) => stop_at_limit(end, text),
     }
 }
 

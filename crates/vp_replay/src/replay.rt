@@ -5,7 +5,7 @@ ghost use Rattle.vp_model.specs.Catalogue.{start_values};
 ghost use Rattle.vp_model.specs.OneCopy.{order};
 ghost use Rattle.vp_model.specs.Texts.History.{history_lines};
 ghost use Rattle.vp_schedule.specs.Document.{IsSchedule};
-ghost use Rattle.vp_replay.specs.Replayed.{IsReplayAnswer, Gives, Tells};
+ghost use Rattle.vp_replay.specs.Replayed.{IsReplayAnswer, Gives, StopsAt, Tells};
 
 use std::alloc::Global;
 use vp_base::{Commits, NoMemory};
@@ -21,13 +21,13 @@ pub fn replayed(alloc: Global, input: &[u8]) -> Result<RunOutput, NoMemory>
     ensures { IfOk result (λ defined. IsReplayAnswer input.now defined.status defined.text.items) }
 {
     match read(alloc, input) {
-        Ok(schedule) => serve(alloc, &schedule),
+        Ok(schedule) => play(alloc, &schedule),
         Err(fault) => refuse(alloc, fault),
     }
 }
 
 /// Plays a schedule, and makes the text of its trace and its history, or of what a limit of the world leaves of its trace.
-fn serve(alloc: Global, schedule: &Schedule) -> Result<RunOutput, NoMemory>
+fn play(alloc: Global, schedule: &Schedule) -> Result<RunOutput, NoMemory>
     requires { IsSchedule schedule.now }
     ensures { IfOk result (λ defined. Gives schedule.now defined.status defined.text.items) }
 {
@@ -40,14 +40,23 @@ fn serve(alloc: Global, schedule: &Schedule) -> Result<RunOutput, NoMemory>
                 text,
             })
         }
-        Err(WorldEnd::Limit { limit, .. }) => {
+        Err(end) => stop_at_limit(end, text),
+    }
+}
+
+/// Makes the status and the text of a run that a limit of the world ended: the line of the limit comes after the text.
+pub(crate) fn stop_at_limit(end: WorldEnd, mut text: Vec<u8>) -> Result<RunOutput, NoMemory>
+    ensures { IfOk result (λ defined. StopsAt end text.items defined.status defined.text.items) }
+{
+    match end {
+        WorldEnd::Limit { limit, .. } => {
             print_limit(limit, &mut text)?;
             Ok(RunOutput {
                 status: Status::Limit,
                 text,
             })
         }
-        Err(WorldEnd::NoMemory) => Err(NoMemory),
+        WorldEnd::NoMemory => Err(NoMemory),
     }
 }
 

@@ -45,7 +45,8 @@ pub fn soaked(alloc: Global, seed: u32, count: u32) -> Result<RunOutput, NoMemor
 
 /// Counts the transactions that the run committed, which the check finds serial.
 fn serial_commits(alloc: Global, world: &World) -> Result<usize, NoMemory>
-    requires within { CommitsWithin (length (start_values world.now.catalogue)) (order world.now.world.journal) }
+    requires within { CommitsWithin (length (start_values world.now.catalogue))
+        (order world.now.world.journal) }
     requires serial { IsSome (serial (start_values world.now.catalogue) (order world.now.world.journal)) }
     ensures { IfOk result (λ count. count ≡ length (order world.now.world.journal)) }
 {
@@ -92,7 +93,12 @@ fn is_refusal(answer: &Answer) -> bool
 }
 
 fn count(replies: &[Reply]) -> Counts
-    ensures { result ≡ record { begun = count_of begins replies.now; committed = count_of commits replies.now; refused = count_of refuses replies.now } }
+    ensures { result ≡
+        record {
+          begun = count_of begins replies.now;
+          committed = count_of commits replies.now;
+          refused = count_of refuses replies.now;
+        } }
 {
     let mut counts = Counts {
         begun: 0,
@@ -128,7 +134,9 @@ fn print_summary(
     serial: usize,
     out: &mut Vec<u8>,
 ) -> Result<(), NoMemory>
-    ensures { OnOk result (out.new.items ≡ out.old.items ++ summary_lines (length made.now.events) messages made.now.replies serial) }
+    ensures { OnOk result
+        (out.new.items ≡ out.old.items ++
+        summary_lines (length made.now.events) messages made.now.replies serial) }
 {
     let counts = count(made.replies.as_slice());
     print_count(b"events ", made.events.as_slice().len(), out)?;

@@ -23,13 +23,18 @@ pub fn what_is_passed_over()
 
 /// Each turn of a commit hands over its message before its reply, and the decision is in the log.
 pub fn a_commit_of_two_sites()
-    ensures ports { map (λ (d : Datagram). d.port) (node_run worked.both 1 [] worked.commit).datagrams ≡ 7100 ∷ 7002 ∷ 7100 ∷ 7002 ∷ 7002 ∷ 7100 ∷ [] }
+    ensures ports { map (λ (d : Datagram). d.port) (node_run worked.both 1 [] worked.commit).datagrams ≡
+        7100 ∷ 7002 ∷ 7100 ∷ 7002 ∷ 7002 ∷ 7100 ∷ [] }
     ensures log { (node_run worked.both 1 [] worked.commit).node.batches ≡ worked.committed }
 {}
 
 /// An answer of another transaction, with another number or from another port is ignored; one that names the transaction alone is taken.
 pub fn an_answer_among_others()
     ensures none { first_answer 7001 1 (call.Commit (worked.txn 1) 2) worked.others ≡ None }
-    ensures right { first_answer 7001 1 (call.Commit (worked.txn 1) 2) (worked.others ++ worked.replied 7001 (answer.Committed (worked.txn 1) 2) ∷ []) ≡ Some (answer.Committed (worked.txn 1) 2) }
-    ensures unknown { first_answer 7001 1 (call.Commit (worked.txn 1) 2) (worked.others ++ worked.replied 7001 (answer.Unknown (worked.txn 1)) ∷ []) ≡ Some (answer.Unknown (worked.txn 1)) }
+    ensures right { first_answer 7001 1 (call.Commit (worked.txn 1) 2)
+        (worked.others ++ worked.replied 7001 (answer.Committed (worked.txn 1) 2) ∷ []) ≡
+        Some (answer.Committed (worked.txn 1) 2) }
+    ensures unknown { first_answer 7001 1 (call.Commit (worked.txn 1) 2)
+        (worked.others ++ worked.replied 7001 (answer.Unknown (worked.txn 1)) ∷ []) ≡
+        Some (answer.Unknown (worked.txn 1)) }
 {}

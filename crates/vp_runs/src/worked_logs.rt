@@ -9,7 +9,8 @@ ghost use Rattle.vp_runs.specs.WorkedLogs as worked;
 /// Each life begins with a batch, and nothing else is there where nothing was done.
 pub fn lives_begin()
     ensures first { worked.half_text (kept worked.unused 1) ≡ codes "010000000000000005010000000100" }
-    ensures again { worked.half_text (kept worked.again 1) ≡ codes "0100000000000000050100000001010000000000000005010000000200" }
+    ensures again { worked.half_text (kept worked.again 1) ≡
+        codes "0100000000000000050100000001010000000000000005010000000200" }
 {}
 
 /// Events that are no steps, steps that force nothing, and steps of other sites append no batch.
@@ -27,5 +28,6 @@ pub fn a_decision_of_two_sites()
 /// A restart makes no checkpoint, though one is due then; the next step that forces a record makes it.
 pub fn a_checkpoint_after_a_restart()
     ensures none { length (kept (worked.over worked.many worked.filled) 1) ≡ 6 }
-    ensures one { kept (worked.over worked.many (worked.filled ++ event.Call 1 call.Regroup ∷ [])) 1 ≡ worked.saved }
+    ensures one { kept (worked.over worked.many (worked.filled ++ event.Call 1 call.Regroup ∷ [])) 1 ≡
+        worked.saved }
 {}

@@ -7,7 +7,8 @@ ghost use Rattle.vp_runs.specs.WorkedStops as worked;
 
 /// The coordinator stops before its decision is in its log: it crashes instead of the step, and the vote that came then is lost.
 pub fn a_stop_before_the_decision()
-    ensures events { option_map (λ s. s.events) (stopped 7 false worked.decided) ≡ Some worked.without_decision }
+    ensures events { option_map (λ s. s.events) (stopped 7 false worked.decided) ≡
+        Some worked.without_decision }
     ensures journal { option_map journal_of (stopped 7 false worked.decided) ≡ Some [] }
 {}
 

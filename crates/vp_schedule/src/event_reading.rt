@@ -46,7 +46,8 @@ fn kinds_over(sites: &[SiteId]) -> &'static [EventKind]
 /// Reads the number of a site of the list other than this one.
 fn parse_other(cursor: &mut Cursor, sites: &[SiteId], site: SiteId) -> Result<SiteId, Unexpected>
     requires { length sites.now ≤ 16 }
-    ensures { Reads (λ s. s) (λ e. e.left) result cursor.new (site_at (other_sites sites.now site) 0 cursor.old) }
+    ensures { Reads (λ s. s) (λ e. e.left) result cursor.new
+        (site_at (other_sites sites.now site) 0 cursor.old) }
 {
     let mut others = [site; LAST_SITE as usize];
     let mut count = 0;

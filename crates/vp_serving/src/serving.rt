@@ -19,29 +19,8 @@ use vp_outside::{Disk, Link, MOST_GIVEN, Sink, write_all};
 
 /// Starts the node on the attached log, binds its port, and does a turn for each datagram that comes, at most `turns`: its records are
 /// synced, then its lines are printed, and then its datagrams are sent. A datagram whose sending fails is lost.
+/// The end is `Ok` where the run is over, and `Err` where something broke it off.
 pub fn serve<L: Link, D: Disk, K: Sink>(
-    catalog: &Catalog,
-    id: SiteId,
-    link: &mut L,
-    disk: &mut D,
-    sink: &mut K,
-    turns: u64,
-) -> End
-    requires fresh { (L.state link.old).asked ≡ None }
-    requires attached { IsTrue (D.state disk.old).attached }
-    requires id { has (sites_of catalog.now) id ≡ true }
-    ensures served { Serves catalog.now id turns
-        (outside (L.state link.old) (L.state link.new) (K.state sink.old) (K.state sink.new) (D.state disk.old) (D.state disk.new)) result }
-    ensures others { LeavesOthers (D.state disk.old) (D.state disk.new) }
-    ensures later { (K.state sink.old).faults ≤ (K.state sink.new).faults }
-{
-    match served(catalog, id, link, disk, sink, turns) {
-        Ok(end) | Err(end) => end,
-    }
-}
-
-/// Serves, and says how that ends: by the end of a run that is over, or by what broke it off.
-fn served<L: Link, D: Disk, K: Sink>(
     catalog: &Catalog,
     id: SiteId,
     link: &mut L,
@@ -82,7 +61,8 @@ fn begin<L: Link, K: Sink>(
     requires fresh { (L.state link.old).asked ≡ None }
     requires id { has (sites_of catalog.now) id ≡ true }
     ensures asked { AsksPort catalog.now id (L.state link.old) (L.state link.new) }
-    ensures begins { Begins life (L.state link.old) (L.state link.new) (K.state sink.old) (K.state sink.new) result }
+    ensures begins { Begins life (L.state link.old) (L.state link.new) (K.state sink.old) (K.state sink.new)
+        result }
     ensures later { (K.state sink.old).faults ≤ (K.state sink.new).faults }
 {
     let Some(port) = catalog.port(id) else {

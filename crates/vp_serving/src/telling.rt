@@ -15,7 +15,8 @@ use vp_outside::{Datagram, Link, OutFault, Sink, write_all};
 /// Prints what a turn recorded, and then hands its datagrams over. After a fault of the sink none was handed over.
 pub fn tell<L: Link, K: Sink>(link: &mut L, sink: &mut K, turned: Turned) -> Result<(), End>
     requires bound { IsTrue (L.state link.old).bound }
-    ensures tells { Tells (concat turned.lines) turned.datagrams (L.state link.old) (L.state link.new) (K.state sink.old) (K.state sink.new) result }
+    ensures tells { Tells (concat turned.lines) turned.datagrams (L.state link.old) (L.state link.new)
+        (K.state sink.old) (K.state sink.new) result }
     ensures stays { StaysBound (L.state link.old) (L.state link.new) }
     ensures gives_none { GivesNone (L.state link.old) (L.state link.new) }
     ensures same_faults { (L.state link.new).faults ≡ (L.state link.old).faults }
@@ -29,7 +30,8 @@ pub fn tell<L: Link, K: Sink>(link: &mut L, sink: &mut K, turned: Turned) -> Res
 /// Prints the lines in one piece.
 fn print_lines<K: Sink>(sink: &mut K, lines: &Lines) -> Result<(), OutFault>
     ensures ok { OnOk result (Appends (K.state sink.old).held (K.state sink.new).held (concat lines.now)) }
-    ensures err { OnErr result (AppendsPrefix (K.state sink.old).held (K.state sink.new).held (concat lines.now)) }
+    ensures err { OnErr result
+        (AppendsPrefix (K.state sink.old).held (K.state sink.new).held (concat lines.now)) }
     ensures cause { HasOutCause (K.state sink.old).faults (K.state sink.new).faults result }
 {
     let text = joined(lines)?;

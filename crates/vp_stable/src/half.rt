@@ -17,7 +17,10 @@ use vp_outside::{Disk, Failed, OutFault};
 fn fill<D: Disk>(disk: &mut D, half: u8, buf: &mut [u8]) -> Result<usize, Failed>
     requires attached { IsTrue (D.state disk.old).attached }
     requires half { half ≤ 1 }
-    ensures told { IfOk result (λ n. IfSome (log_of (D.state disk.old)) (λ log. (n ≡ min (length buf.old) (length (half_of half log))) × (take n buf.new ≡ take n (half_of half log)))) }
+    ensures told { IfOk result
+        (λ n. IfSome (log_of (D.state disk.old))
+        (λ log. (n ≡ min (length buf.old) (length (half_of half log))) ×
+        (take n buf.new ≡ take n (half_of half log)))) }
     ensures room { length buf.new ≡ length buf.old }
     ensures quiet { Quiet (D.state disk.old) (D.state disk.new) }
     ensures cause { HasCause (D.state disk.old).faults (D.state disk.new).faults result }
@@ -37,7 +40,8 @@ fn fill<D: Disk>(disk: &mut D, half: u8, buf: &mut [u8]) -> Result<usize, Failed
 fn read_half<D: Disk>(alloc: Global, disk: &mut D, half: u8) -> Result<Vec<u8>, OutFault>
     requires attached { IsTrue (D.state disk.old).attached }
     requires half { half ≤ 1 }
-    ensures told { IfOk result (λ bytes. IfSome (log_of (D.state disk.old)) (λ log. bytes.items ≡ half_of half log)) }
+    ensures told { IfOk result
+        (λ bytes. IfSome (log_of (D.state disk.old)) (λ log. bytes.items ≡ half_of half log)) }
     ensures quiet { Quiet (D.state disk.old) (D.state disk.new) }
     ensures cause { HasOutCause (D.state disk.old).faults (D.state disk.new).faults result }
 {
@@ -87,12 +91,20 @@ pub fn read_current<D: Disk>(alloc: Global, disk: &mut D) -> Result<Current, Out
 pub fn write_synced<D: Disk>(disk: &mut D, half: u8, at: u64, piece: &[u8]) -> Result<(), OutFault>
     requires attached { IsTrue (D.state disk.old).attached }
     requires half { half ≤ 1 }
-    ensures written { OnOk result (Steps (InHalf half (Written at piece.now)) (D.state disk.old) (D.state disk.new)) }
-    ensures torn { OnErr result (Steps (InHalf half (Torn at (length piece.now))) (D.state disk.old) (D.state disk.new)) }
-    ensures durable { (D.state disk.old).honest → OnOk result (IfSome ((D.state disk.new).logs (D.state disk.old).asked) (λ log. Only log ((D.state disk.new).may_leave (D.state disk.old).asked))) }
+    ensures written { OnOk result
+        (Steps (InHalf half (Written at piece.now)) (D.state disk.old) (D.state disk.new)) }
+    ensures torn { OnErr result
+        (Steps (InHalf half (Torn at (length piece.now))) (D.state disk.old) (D.state disk.new)) }
+    ensures durable { (D.state disk.old).honest →
+        OnOk result
+        (IfSome ((D.state disk.new).logs (D.state disk.old).asked)
+        (λ log. Only log ((D.state disk.new).may_leave (D.state disk.old).asked))) }
     ensures fits { OnOk result (at + length piece.now ≤ 2 ^ 62) }
-    ensures stop { IfSome (D.state disk.old).until_stop (λ calls. WritesToStop (InHalf half (Written at piece.now)) calls (D.state disk.old) (D.state disk.new) result) }
-    ensures time { Elapses (D.state disk.old).asked (D.state disk.old) (D.state disk.new) (TornFrom half at (length piece.now) ((D.state disk.old).may_leave (D.state disk.old).asked)) }
+    ensures stop { IfSome (D.state disk.old).until_stop
+        (λ calls. WritesToStop (InHalf half (Written at piece.now)) calls (D.state disk.old)
+        (D.state disk.new) result) }
+    ensures time { Elapses (D.state disk.old).asked (D.state disk.old) (D.state disk.new)
+        (TornFrom half at (length piece.now) ((D.state disk.old).may_leave (D.state disk.old).asked)) }
     ensures others { LeavesOthers (D.state disk.old) (D.state disk.new) }
     ensures cause { HasOutCause (D.state disk.old).faults (D.state disk.new).faults result }
 {

@@ -66,7 +66,9 @@ impl Log {
         requires attached { IsTrue (D.state disk.old).attached }
 
         ensures answer { IfSome (log_of (D.state disk.old)) (λ log. Recovers log result) }
-        ensures stands { IfOk result (λ it. IfSome ((D.state disk.new).logs (D.state disk.old).asked) (λ log. StandsAt it.0 it.1 log)) }
+        ensures stands { IfOk result
+            (λ it. IfSome ((D.state disk.new).logs (D.state disk.old).asked)
+            (λ log. StandsAt it.0 it.1 log)) }
         ensures kept { IfOk result (λ it. AreKept it.0 (D.state disk.new)) }
         // Even where nothing is known of the log: what was read can be applied and appended.
         ensures batches { IfOk result (λ it. AllByRecursion IsBatch it.1) }
@@ -120,9 +122,11 @@ impl Log {
         requires kept { AreKept self.old (D.state disk.old) }
         requires batch { IsBatch batch.now }
 
-        ensures appended { OnOk result (Steps (GainsAt batch.now self.old self.new) (D.state disk.old) (D.state disk.new)) }
+        ensures appended { OnOk result
+            (Steps (GainsAt batch.now self.old self.new) (D.state disk.old) (D.state disk.new)) }
         ensures kept { OnOk result (AreKept self.new (D.state disk.new)) }
-        ensures fault { OnErr result (Steps (MayGainAt batch.now self.old) (D.state disk.old) (D.state disk.new)) }
+        ensures fault { OnErr result
+            (Steps (MayGainAt batch.now self.old) (D.state disk.old) (D.state disk.new)) }
         // Whether a stop leaves the batch depends on the calls that were done before it.
         ensures stop { ¬ IsErrOf result AppendFault.NoMemory → IfSome (D.state disk.old).until_stop (λ calls.
             AppendsToStop (GainsWhere batch.now self.old) calls (D.state disk.old) (D.state disk.new)) }
@@ -166,9 +170,11 @@ impl Log {
         requires kept { AreKept self.old (D.state disk.old) }
         requires form { CanBeSaved durable.now }
 
-        ensures saved { OnOk result (Steps (SavesAt durable.now self.old self.new) (D.state disk.old) (D.state disk.new)) }
+        ensures saved { OnOk result
+            (Steps (SavesAt durable.now self.old self.new) (D.state disk.old) (D.state disk.new)) }
         ensures kept { OnOk result (AreKept self.new (D.state disk.new)) }
-        ensures fault { OnErr result (Steps (MaySaveAt durable.now self.old) (D.state disk.old) (D.state disk.new)) }
+        ensures fault { OnErr result
+            (Steps (MaySaveAt durable.now self.old) (D.state disk.old) (D.state disk.new)) }
         // Even where nothing is known of the log: no checkpoint is due afterwards, unless the generation is the last one.
         ensures short { OnOk result (IsShort self.new) }
 

@@ -61,7 +61,9 @@ struct Steps {
 impl Steps {
     /// Does one step by the sites themselves.
     fn step(self, event: Event) -> Result<Steps, WorldEnd>
-        ensures done { IfOk result (HaveDone self.world.catalogue (self.done ++ event ∷ []) (next self.world.catalogue event self.world.world).world) }
+        ensures done { IfOk result
+            (HaveDone self.world.catalogue (self.done ++ event ∷ [])
+            (next self.world.catalogue event self.world.world).world) }
         ensures end { Ends (refused world_limits self.world.catalogue event self.world.world) result }
     {
         self.step_by(event, &mut PlainStepper)
@@ -70,9 +72,12 @@ impl Steps {
     /// Does one step, for which the site is lent to the stepper.
     fn step_by<S: Stepper>(self, event: Event, stepper: &mut S) -> Result<Steps, WorldEnd>
         requires { IsReady S.may self.world.catalogue event self.world.world stepper.old }
-        ensures done { IfOk result (HaveDone self.world.catalogue (self.done ++ event ∷ []) (next self.world.catalogue event self.world.world).world) }
+        ensures done { IfOk result
+            (HaveDone self.world.catalogue (self.done ++ event ∷ [])
+            (next self.world.catalogue event self.world.world).world) }
         ensures end { Ends (refused world_limits self.world.catalogue event self.world.world) result }
-        ensures did { OnOk result (DoesEvent S.did self.world.catalogue event self.world.world stepper.old stepper.new) }
+        ensures did { OnOk result
+            (DoesEvent S.did self.world.catalogue event self.world.world stepper.old stepper.new) }
     {
         let Steps { world, mut done } = self;
         let world = world.next_by(&event, stepper)?.into_world()?;
@@ -83,7 +88,9 @@ impl Steps {
     /// Marks the message as delivered.
     fn pass(&mut self, taken: Option<u32>) -> Result<(), NoMemory>
         requires { IfSome taken (λ k. IsSome (message_at self.old.world.world k)) }
-        ensures { OnOk result (HaveDone self.old.world.catalogue self.old.done (pass_over (option_to_list taken) self.old.world.world) self.new) }
+        ensures { OnOk result
+            (HaveDone self.old.world.catalogue self.old.done
+            (pass_over (option_to_list taken) self.old.world.world) self.new) }
     {
         match taken {
             None => Ok(()),
@@ -108,7 +115,9 @@ impl Steps {
         requires taken { taker self.world.catalogue event self.world.world ≡ Some site }
         ensures done { IfOk result (HaveDone self.world.catalogue (self.done ++ stop_at kept site event)
             (run_in_place self.world.catalogue kept site event self.world.world).world) }
-        ensures end { Ends (limit_in world_limits (run_in_place self.world.catalogue kept site event self.world.world).moments) result }
+        ensures end { Ends
+            (limit_in world_limits
+            (run_in_place self.world.catalogue kept site event self.world.world).moments) result }
     {
         if !kept {
             return self.step(Event::Crash { site });
@@ -123,7 +132,9 @@ impl Steps {
         requires taken { taker self.world.catalogue event self.world.world ≡ Some site }
         ensures done { IfOk result (HaveDone self.world.catalogue (self.done ++ stop_at kept site event)
             (stopped_world self.world.catalogue kept site (moment_in self.world.catalogue event self.world.world))) }
-        ensures end { Ends (limit_in world_limits (run_in_place self.world.catalogue kept site event self.world.world).moments) result }
+        ensures end { Ends
+            (limit_in world_limits
+            (run_in_place self.world.catalogue kept site event self.world.world).moments) result }
     {
         let taken = message_taken(&event);
         let before = self.world.messages() as u32;
@@ -138,7 +149,9 @@ impl Steps {
         requires { IsAfterStop self.world.catalogue self.world.world following }
         ensures done { IfOk result (HaveDone self.world.catalogue (self.done ++ singles (run_from self.world.catalogue 1 left (run_in self.world.world)).moments)
             (run_from self.world.catalogue 1 left (run_in self.world.world)).world) }
-        ensures end { Ends (limit_in world_limits (run_from self.world.catalogue 1 left (run_in self.world.world)).moments) result }
+        ensures end { Ends
+            (limit_in world_limits (run_from self.world.catalogue 1 left (run_in self.world.world)).moments)
+            result }
     {
         let mut left = left;
         let mut following = following;
@@ -153,7 +166,13 @@ impl Steps {
 impl Steps {
     /// What the run has become, in which a site left this log.
     fn stopped(self, catalog: &Catalog, log: SiteLog) -> Result<Stopped, NoMemory>
-        ensures { IfOk result (λ it. it ≡ record { schedule = record { catalogue = catalog.now; events = self.done }; commits = self.world.world.journal; log = log }) }
+        ensures { IfOk result
+            (λ it. it ≡
+            record {
+              schedule = record { catalogue = catalog.now; events = self.done };
+              commits = self.world.world.journal;
+              log = log;
+            }) }
     {
         let Steps { world, done } = self;
         Ok(Stopped {
@@ -197,8 +216,11 @@ impl Front {
         ensures done { IfOk result (λ new. HaveDone self.steps.world.catalogue (self.steps.done ++ event ∷ [])
             (next self.steps.world.catalogue event self.steps.world.world).world new.steps) }
         ensures left { IfOk result (λ new. new.left ≡ self.left) }
-        ensures nodes { IfOk result (λ new. DoesEvent Does self.steps.world.catalogue event self.steps.world.world self.nodes new.nodes) }
-        ensures end { Ends (refused world_limits self.steps.world.catalogue event self.steps.world.world) result }
+        ensures nodes { IfOk result
+            (λ new. DoesEvent Does self.steps.world.catalogue event self.steps.world.world self.nodes
+            new.nodes) }
+        ensures end { Ends (refused world_limits self.steps.world.catalogue event self.steps.world.world)
+            result }
     {
         let Front {
             mut nodes,
@@ -269,7 +291,8 @@ fn go_on(
     requires waits { IsAfterStop front.steps.world.catalogue
         (stopped_world front.steps.world.catalogue at.left.kept at.site (moment_in front.steps.world.catalogue event front.steps.world.world))
         (record { nodes = at.nodes; stopped = Some at.site }) }
-    ensures { (step : ℕ) (h : AreBefore schedule.now step event front.steps front.left) → appender schedule.now.catalogue h.m ≡ Some at.site → GoesOn schedule.now step at.left result }
+    ensures { (step : ℕ) (h : AreBefore schedule.now step event front.steps front.left) →
+        appender schedule.now.catalogue h.m ≡ Some at.site → GoesOn schedule.now step at.left result }
 {
     let Front {
         nodes: _,

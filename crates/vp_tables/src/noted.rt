@@ -49,7 +49,8 @@ impl TxnSet {
 
     /// Appends the transaction, unless it is there already. Where memory is lacking, the list stays as it is.
     pub fn note(&mut self, txn: &TxnId) -> Result<(), NoMemory>
-        ensures { OnOk result (self.new ≡ (if has_txn self.old txn.now then self.old else self.old ++ txn.now ∷ [])) }
+        ensures { OnOk result
+            (self.new ≡ (if has_txn self.old txn.now then self.old else self.old ++ txn.now ∷ [])) }
     {
         if !self.has(txn) {
             self.keyed.insert(key_of(txn), *txn)?;

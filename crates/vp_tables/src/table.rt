@@ -93,7 +93,9 @@ impl<T: HasTxn + Drop> Table<T> {
     /// Puts the item in its place, where it replaces one of the same transaction. Where memory is lacking, the table stays as it
     /// is.
     pub fn put(&mut self, item: T) -> Result<(), NoMemory>
-        ensures ok { OnOk result (self.new ≡ put (λ a b. same_txn (T.txn a) (T.txn b)) (λ a b. txn_before (T.txn a) (T.txn b)) item self.old) }
+        ensures ok { OnOk result
+            (self.new ≡
+            put (λ a b. same_txn (T.txn a) (T.txn b)) (λ a b. txn_before (T.txn a) (T.txn b)) item self.old) }
         ensures err { OnErr result (self.new ≡ self.old) }
     {
         self.tree.insert(key_of(&item.name()), item)?;

@@ -116,7 +116,8 @@ impl<'a> Cursor<'a> {
 
     /// Reads a word of the kind, as long as it goes: up to the first byte that is not allowed in it or would make it too long.
     pub fn word(&mut self, class: Class) -> Result<&'a [u8], Unexpected>
-        ensures read { Reads (λ x. x.now) (λ e. e.left) result self.new (word_at (has class) (most class) self.old) }
+        ensures read { Reads (λ x. x.now) (λ e. e.left) result self.new
+            (word_at (has class) (most class) self.old) }
         ensures allowed { IfOk result (λ w. IsWord (has class) (most class) w.now w.now) }
         ensures stands { IfErr result (λ e. length self.new ≡ e.left) }
     {

@@ -26,8 +26,11 @@ pub fn call_site<L: Link>(
 ) -> Result<RunOutput, NoMemory>
     requires fresh { (L.state link.old).asked ≡ None }
     requires call { IsCall call.now }
-    ensures gives { IfOk result (λ it. ClientGives own turns port site call.now (L.state link.old) (L.state link.new) it.status it.text.items) }
-    ensures no_memory { OnErr result (ClientLeaves own turns port site call.now (L.state link.old) (L.state link.new)) }
+    ensures gives { IfOk result
+        (λ it. ClientGives own turns port site call.now (L.state link.old) (L.state link.new) it.status
+        it.text.items) }
+    ensures no_memory { OnErr result
+        (ClientLeaves own turns port site call.now (L.state link.old) (L.state link.new)) }
 {
     let Ok(()) = link.bind(own) else {
         return RunOutput::link_fault(alloc);

@@ -28,7 +28,9 @@ pub fn audit_logs<D: Disk>(
     logs: &Logs,
     disk: &mut D,
 ) -> Result<RunOutput, NoMemory>
-    ensures gives { IfOk result (λ it. AuditGives catalog.now logs.now (D.state disk.old) (D.state disk.new) it.status it.text.items) }
+    ensures gives { IfOk result
+        (λ it. AuditGives catalog.now logs.now (D.state disk.old) (D.state disk.new) it.status
+        it.text.items) }
     ensures kept { KeepsLogs (D.state disk.old) (D.state disk.new) }
 {
     reports_are_true();
@@ -62,7 +64,8 @@ fn read_parts<D: Disk>(
 /// Reads the batches of the log of this name.
 fn peek<D: Disk>(alloc: Global, name: &Word, disk: &mut D) -> Result<Batches, LogFault>
     ensures read { IfSome ((D.state disk.old).logs (Some name.now)) (λ log. Peeks log result) }
-    ensures fault { IsErrOf result log_faults.DiskFault → ((D.state disk.new).asked ≡ Some name.now) × Rose (D.state disk.old).faults (D.state disk.new).faults }
+    ensures fault { IsErrOf result log_faults.DiskFault → ((D.state disk.new).asked ≡ Some name.now) ×
+        Rose (D.state disk.old).faults (D.state disk.new).faults }
     ensures later { (D.state disk.old).faults ≤ (D.state disk.new).faults }
     ensures kept { KeepsLogs (D.state disk.old) (D.state disk.new) }
 {
@@ -88,7 +91,8 @@ fn bad_log(alloc: Global, half: u8, at: u64) -> Result<RunOutput, NoMemory>
 /// Makes the report on the durable parts of the sites.
 fn reported(catalog: &Catalog, parts: &Parts) -> Result<RunOutput, NoMemory>
     ensures status { IfOk result (λ it. it.status ≡ status.Done) }
-    ensures text { IfOk result (λ it. it.text.items ≡ report_text catalog.now (audited catalog.now parts.now)) }
+    ensures text { IfOk result
+        (λ it. it.text.items ≡ report_text catalog.now (audited catalog.now parts.now)) }
 {
     let report = audit(catalog, parts)?;
     let mut text = Vec::new(catalog.sites().allocator());

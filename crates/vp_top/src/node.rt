@@ -36,7 +36,9 @@ pub fn serve_log<L: Link, D: Disk, K: Sink>(
         (outside (L.state link.old) (L.state link.new) (K.state sink.old) (K.state sink.new) (D.state disk.old) (D.state disk.new)) result }
 {
     let end = match disk.attach(log) {
-        Ok(()) => serve(catalog, id, link, disk, sink, turns),
+        Ok(()) => match serve(catalog, id, link, disk, sink, turns) {
+            Ok(end) | Err(end) => end,
+        },
         Err(OutFault::Failed) => End::DiskFault,
         Err(OutFault::NoMemory) => End::NoMemory,
     };

@@ -62,7 +62,8 @@ pub fn run<S: Source, K: Sink, L: Link, D: Disk>(
     // Whatever is for no disk and for no gateway prints a text.
     ensures text { (AreOf CallsDisk words.now → ⊥) → (AreOf IsForGateway words.now → ⊥)
         → EndsInText words.now (S.state source.old) (S.state source.new) (L.state link.old) (L.state link.new) (K.state sink.old) (K.state sink.new) result }
-    ensures source_uncalled { (AreOf Reads words.now → ⊥) → (AreOf IsForGateway words.now → ⊥) → source.new ≡ source.old }
+    ensures source_uncalled { (AreOf Reads words.now → ⊥) → (AreOf IsForGateway words.now → ⊥) →
+        source.new ≡ source.old }
     ensures link_uncalled { (AreOf Calls words.now → ⊥) → link.new ≡ link.old }
     // The disk is called only if a node serves or logs are audited.
     ensures disk_uncalled { (EndsOnDisk words.now (S.state source.old) (S.state source.new)
@@ -96,9 +97,12 @@ fn plan<S: Source, L: Link>(
     link: &mut L,
 ) -> Result<Plan, PlanFault>
     requires fresh { (L.state link.old).asked ≡ None }
-    ensures plans { IfOk result (Plans words.now (S.state source.old) (S.state source.new) (L.state link.old) (L.state link.new)) }
-    ensures no_memory { IsErrOf result plan_faults.NoMemory → LeavesLink words.now (S.state source.old) (S.state source.new) (L.state link.old) (L.state link.new) }
-    ensures source_fault { IsErrOf result plan_faults.SourceFault → AreOf Reads words.now × Rose (S.state source.old).faults (S.state source.new).faults × (L.state link.new ≡ L.state link.old) }
+    ensures plans { IfOk result
+        (Plans words.now (S.state source.old) (S.state source.new) (L.state link.old) (L.state link.new)) }
+    ensures no_memory { IsErrOf result plan_faults.NoMemory →
+        LeavesLink words.now (S.state source.old) (S.state source.new) (L.state link.old) (L.state link.new) }
+    ensures source_fault { IsErrOf result plan_faults.SourceFault → AreOf Reads words.now ×
+        Rose (S.state source.old).faults (S.state source.new).faults × (L.state link.new ≡ L.state link.old) }
     ensures source_uncalled { (AreOf Reads words.now → ⊥) → source.new ≡ source.old }
     ensures link_uncalled { (AreOf Calls words.now → ⊥) → link.new ≡ link.old }
 {
@@ -130,7 +134,8 @@ fn input_of<S: Source>(alloc: Global, source: &mut S) -> Result<Option<Vec<u8>>,
         × IsEnded (S.state source.new) × Took input.items (S.state source.old) (S.state source.new))) }
     ensures too_long { IfOk result (λ found. found ≡ None → ((bytes : List ℕ) × (16777216 < length bytes)
         × Took bytes (S.state source.old) (S.state source.new))) }
-    ensures cause { IsErrOf result plan_faults.SourceFault → Rose (S.state source.old).faults (S.state source.new).faults }
+    ensures cause { IsErrOf result plan_faults.SourceFault →
+        Rose (S.state source.old).faults (S.state source.new).faults }
 {
     match read_to_end(alloc, source, MOST_BYTES) {
         Ok(input) => Ok(Some(input)),

@@ -4,12 +4,13 @@ ghost use Rattle.std.specs.Prelude.{◌≡◌, ◌++◌, ◌∷◌, OnOk, codes,
 ghost use Rattle.std.specs.Fmt.{decimal};
 ghost use Rattle.vp_audit.specs.Lines.{can_text, doubt_line, found_text, newest_line, report_text};
 ghost use Rattle.vp_model.specs.Catalogue.{name_of};
-ghost use Rattle.vp_model.specs.Texts.Fields.{later_site_text, sites_text, txn_text, view_text};
+ghost use Rattle.vp_model.specs.Texts.Fields.{sites_text, txn_text, view_text};
 
 use vp_audit::{Can, DoubtAt, Found, Report};
 use vp_base::{NoMemory, RecId, SiteId, Stored};
 use vp_catalog::Catalog;
 use vp_text::print_number;
+use vp_trace::print_sites;
 
 /// Appends the lines of each record.
 pub fn print_report(catalog: &Catalog, report: &Report, out: &mut Vec<u8>) -> Result<(), NoMemory>
@@ -35,7 +36,9 @@ fn print_found(catalog: &Catalog, found: &Found, out: &mut Vec<u8>) -> Result<()
 
 /// Appends the line of the newest settled copy, or the line that there is none.
 fn print_newest(catalog: &Catalog, found: &Found, out: &mut Vec<u8>) -> Result<(), NoMemory>
-    ensures { OnOk result (out.new.items ≡ out.old.items ++ newest_line (name_of catalog.now found.now.rec) found.now.newest found.now.sites) }
+    ensures { OnOk result
+        (out.new.items ≡ out.old.items ++
+        newest_line (name_of catalog.now found.now.rec) found.now.newest found.now.sites) }
 {
     let Some(copy) = &found.newest else {
         out.extend_from_slice(b"unsettled ")?;
@@ -52,14 +55,16 @@ fn print_newest(catalog: &Catalog, found: &Found, out: &mut Vec<u8>) -> Result<(
 
 /// Appends the value and the date of a copy, and the sites that have one of that date.
 fn print_copy(copy: &Stored, sites: &[SiteId], out: &mut Vec<u8>) -> Result<(), NoMemory>
-    ensures { OnOk result (out.new.items ≡ out.old.items ++ 32 ∷ (copy.now.value ++ 32 ∷ (view_text copy.now.date ++ (codes " at " ++ sites_text sites.now)))) }
+    ensures { OnOk result
+        (out.new.items ≡ out.old.items ++ 32 ∷
+        (copy.now.value ++ 32 ∷ (view_text copy.now.date ++ (codes " at " ++ sites_text sites.now)))) }
 {
     out.push(b' ')?;
     copy.value.print(out)?;
     out.push(b' ')?;
     copy.date.print(out)?;
     out.extend_from_slice(b" at ")?;
-    print_sites(sites, out)
+    print_sites(out, sites)
 }
 
 fn print_doubts(
@@ -68,7 +73,8 @@ fn print_doubts(
     doubts: &[DoubtAt],
     out: &mut Vec<u8>,
 ) -> Result<(), NoMemory>
-    ensures { OnOk result (out.new.items ≡ out.old.items ++ flat_map (doubt_line (name_of catalog.now rec)) doubts.now) }
+    ensures { OnOk result
+        (out.new.items ≡ out.old.items ++ flat_map (doubt_line (name_of catalog.now rec)) doubts.now) }
 {
     for doubt in doubts {
         print_doubt(catalog, rec, doubt, out)?;
@@ -94,7 +100,10 @@ fn print_doubt(
 
 /// Appends the transaction, its view and the site.
 fn print_doubt_at(doubt: &DoubtAt, out: &mut Vec<u8>) -> Result<(), NoMemory>
-    ensures { OnOk result (out.new.items ≡ out.old.items ++ 32 ∷ (txn_text doubt.now.txn ++ 32 ∷ (view_text doubt.now.view ++ (codes " at " ++ decimal doubt.now.site)))) }
+    ensures { OnOk result
+        (out.new.items ≡ out.old.items ++ 32 ∷
+        (txn_text doubt.now.txn ++ 32 ∷
+        (view_text doubt.now.view ++ (codes " at " ++ decimal doubt.now.site)))) }
 {
     out.push(b' ')?;
     doubt.txn.print(out)?;
@@ -120,27 +129,6 @@ fn print_can(can: &Can, out: &mut Vec<u8>) -> Result<(), NoMemory>
             txn.print(out)?;
         }
         Can::Yes => out.extend_from_slice(b" yes")?,
-    }
-    Ok(())
-}
-
-/// Appends the sites with commas between them.
-fn print_sites(sites: &[SiteId], out: &mut Vec<u8>) -> Result<(), NoMemory>
-    ensures { OnOk result (out.new.items ≡ out.old.items ++ sites_text sites.now) }
-{
-    let Some((first, others)) = sites.split_first() else {
-        return Ok(());
-    };
-    first.print(out)?;
-    print_later_sites(others, out)
-}
-
-fn print_later_sites(sites: &[SiteId], out: &mut Vec<u8>) -> Result<(), NoMemory>
-    ensures { OnOk result (out.new.items ≡ out.old.items ++ flat_map later_site_text sites.now) }
-{
-    for site in sites {
-        out.push(b',')?;
-        site.print(out)?;
     }
     Ok(())
 }

@@ -32,7 +32,8 @@ pub fn signal_site<L: Link>(
     signal: Signal,
 ) -> Result<RunOutput, NoMemory>
     requires fresh { (L.state link.old).asked ≡ None }
-    ensures gives { IfOk result (λ it. SignalGives port site signal (L.state link.old) (L.state link.new) it.status it.text.items) }
+    ensures gives { IfOk result
+        (λ it. SignalGives port site signal (L.state link.old) (L.state link.new) it.status it.text.items) }
     ensures no_memory { OnErr result (SignalLeaves port site signal (L.state link.old) (L.state link.new)) }
     ensures none_came { GivesNone (L.state link.old) (L.state link.new) }
 {
@@ -55,7 +56,8 @@ fn send<L: Link>(
     signal: Signal,
 ) -> Result<(), OutFault>
     requires bound { IsTrue (L.state link.old).bound }
-    ensures { Sends port (frame_bytes (frame_of 0 site (signal_body signal))) (L.state link.old) (L.state link.new) result }
+    ensures { Sends port (frame_bytes (frame_of 0 site (signal_body signal))) (L.state link.old)
+        (L.state link.new) result }
 {
     let frame = Frame {
         from: 0,

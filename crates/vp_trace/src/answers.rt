@@ -14,14 +14,16 @@ use vp_base::{Answer, CallNo, Name, NoMemory, Owner, SiteId, TxnId, Value, ViewI
 use vp_text::print_number;
 
 fn print_begun(out: &mut Vec<u8>, txn: &TxnId, view: &ViewId) -> Result<(), NoMemory>
-    ensures { Appends result out.old.items (codes "begun " ++ (txn_text txn.now ++ 32 ∷ view_text view.now)) out.new.items }
+    ensures { Appends result out.old.items (codes "begun " ++ (txn_text txn.now ++ 32 ∷ view_text view.now))
+        out.new.items }
 {
     print_txn(out, b"begun ", txn)?;
     print_view(out, b" ", view)
 }
 
 fn print_weights(out: &mut Vec<u8>, name: &Name, inside: u32, total: u32) -> Result<(), NoMemory>
-    ensures { Appends result out.old.items (32 ∷ (name.now ++ 32 ∷ (decimal inside ++ (codes " of " ++ decimal total)))) out.new.items }
+    ensures { Appends result out.old.items
+        (32 ∷ (name.now ++ 32 ∷ (decimal inside ++ (codes " of " ++ decimal total)))) out.new.items }
 {
     out.push(b' ')?;
     name.print(out)?;
@@ -38,7 +40,9 @@ fn print_inaccessible(
     inside: u32,
     total: u32,
 ) -> Result<(), NoMemory>
-    ensures { Appends result out.old.items (numbered_text (codes "inaccessible ") txn.now number ++ 32 ∷ (name.now ++ 32 ∷ (decimal inside ++ (codes " of " ++ decimal total)))) out.new.items }
+    ensures { Appends result out.old.items
+        (numbered_text (codes "inaccessible ") txn.now number ++ 32 ∷
+        (name.now ++ 32 ∷ (decimal inside ++ (codes " of " ++ decimal total)))) out.new.items }
 {
     print_numbered(out, b"inaccessible ", txn, number)?;
     print_weights(out, name, inside, total)
@@ -53,7 +57,10 @@ fn print_lock_held(
     at: SiteId,
     owner: &Owner,
 ) -> Result<(), NoMemory>
-    ensures { Appends result out.old.items (numbered_text (codes "lockheld ") txn.now number ++ 32 ∷ (name.now ++ (codes " at " ++ (decimal at ++ (codes " by " ++ owner_text owner.now))))) out.new.items }
+    ensures { Appends result out.old.items
+        (numbered_text (codes "lockheld ") txn.now number ++ 32 ∷
+        (name.now ++ (codes " at " ++ (decimal at ++ (codes " by " ++ owner_text owner.now)))))
+        out.new.items }
 {
     print_numbered(out, b"lockheld ", txn, number)?;
     out.push(b' ')?;
@@ -69,7 +76,10 @@ fn print_change(
     held: &ViewId,
     now: &Option<ViewId>,
 ) -> Result<(), NoMemory>
-    ensures { Appends result out.old.items (codes " at " ++ (decimal at ++ (codes " held " ++ (view_text held.now ++ (codes " now " ++ held_text now.now))))) out.new.items }
+    ensures { Appends result out.old.items
+        (codes " at " ++
+        (decimal at ++ (codes " held " ++ (view_text held.now ++ (codes " now " ++ held_text now.now)))))
+        out.new.items }
 {
     print_site(out, b" at ", at)?;
     print_view(out, b" held ", held)?;
@@ -86,7 +96,11 @@ fn print_view_changed(
     held: &ViewId,
     now: &Option<ViewId>,
 ) -> Result<(), NoMemory>
-    ensures { Appends result out.old.items (numbered_text (codes "viewchanged ") txn.now number ++ (codes " at " ++ (decimal at ++ (codes " held " ++ (view_text held.now ++ (codes " now " ++ held_text now.now)))))) out.new.items }
+    ensures { Appends result out.old.items
+        (numbered_text (codes "viewchanged ") txn.now number ++
+        (codes " at " ++
+        (decimal at ++ (codes " held " ++ (view_text held.now ++ (codes " now " ++ held_text now.now))))))
+        out.new.items }
 {
     print_numbered(out, b"viewchanged ", txn, number)?;
     print_change(out, at, held, now)
@@ -98,14 +112,16 @@ fn print_timed_out(
     number: CallNo,
     at: SiteId,
 ) -> Result<(), NoMemory>
-    ensures { Appends result out.old.items (numbered_text (codes "timedout ") txn.now number ++ (codes " at " ++ decimal at)) out.new.items }
+    ensures { Appends result out.old.items
+        (numbered_text (codes "timedout ") txn.now number ++ (codes " at " ++ decimal at)) out.new.items }
 {
     print_numbered(out, b"timedout ", txn, number)?;
     print_site(out, b" at ", at)
 }
 
 fn print_read(out: &mut Vec<u8>, txn: &TxnId, number: CallNo, value: &Value) -> Result<(), NoMemory>
-    ensures { Appends result out.old.items (numbered_text (codes "value ") txn.now number ++ 32 ∷ value.now) out.new.items }
+    ensures { Appends result out.old.items (numbered_text (codes "value ") txn.now number ++ 32 ∷ value.now)
+        out.new.items }
 {
     print_numbered(out, b"value ", txn, number)?;
     print_value(out, value)
@@ -120,7 +136,8 @@ fn print_spent(out: &mut Vec<u8>, number: u64) -> Result<(), NoMemory>
 }
 
 fn print_skipped(out: &mut Vec<u8>, txn: &TxnId, expected: CallNo) -> Result<(), NoMemory>
-    ensures { Appends result out.old.items (codes "skipped " ++ (txn_text txn.now ++ (codes " expected " ++ decimal expected))) out.new.items }
+    ensures { Appends result out.old.items
+        (codes "skipped " ++ (txn_text txn.now ++ (codes " expected " ++ decimal expected))) out.new.items }
 {
     print_txn(out, b"skipped ", txn)?;
     print_counted(out, b" expected ", expected.get())

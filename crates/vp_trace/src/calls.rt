@@ -29,7 +29,8 @@ pub fn print_call(call: &Call, out: &mut Vec<u8>) -> Result<(), NoMemory>
 }
 
 fn print_read(out: &mut Vec<u8>, txn: &TxnId, number: CallNo, name: &Name) -> Result<(), NoMemory>
-    ensures { Appends result out.old.items (call_name_text txn.now number ++ (codes " read " ++ name.now)) out.new.items }
+    ensures { Appends result out.old.items (call_name_text txn.now number ++ (codes " read " ++ name.now))
+        out.new.items }
 {
     print_call_name(out, txn, number)?;
     print_word(out, b" read ")?;
@@ -43,7 +44,8 @@ fn print_write(
     name: &Name,
     value: &Value,
 ) -> Result<(), NoMemory>
-    ensures { Appends result out.old.items (call_name_text txn.now number ++ (codes " write " ++ (name.now ++ 32 ∷ value.now))) out.new.items }
+    ensures { Appends result out.old.items
+        (call_name_text txn.now number ++ (codes " write " ++ (name.now ++ 32 ∷ value.now))) out.new.items }
 {
     print_call_name(out, txn, number)?;
     print_word(out, b" write ")?;
@@ -68,7 +70,8 @@ fn print_pair(out: &mut Vec<u8>, word: &[u8], a: SiteId, b: SiteId) -> Result<()
 }
 
 fn print_called(out: &mut Vec<u8>, site: SiteId, call: &Call) -> Result<(), NoMemory>
-    ensures { Appends result out.old.items (codes "call " ++ (decimal site ++ 32 ∷ call_text call.now)) out.new.items }
+    ensures { Appends result out.old.items (codes "call " ++ (decimal site ++ 32 ∷ call_text call.now))
+        out.new.items }
 {
     print_site(out, b"call ", site)?;
     out.push(b' ')?;

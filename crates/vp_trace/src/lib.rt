@@ -9,5 +9,6 @@ mod trace;
 
 pub use answers::print_answer;
 pub use calls::{print_call, print_event};
+pub use fields::print_sites;
 pub use messages::print_message;
 pub use trace::print_line;

@@ -15,14 +15,16 @@ use vp_base::{CallNo, Message, NoMemory, Obstacle, RecId, SiteId, Stored, TxnId,
 use vp_catalog::Catalog;
 
 fn print_stale(out: &mut Vec<u8>, id: &ViewId, promise: &ViewId) -> Result<(), NoMemory>
-    ensures { Appends result out.old.items (codes "stale " ++ (view_text id.now ++ 32 ∷ view_text promise.now)) out.new.items }
+    ensures { Appends result out.old.items
+        (codes "stale " ++ (view_text id.now ++ 32 ∷ view_text promise.now)) out.new.items }
 {
     print_view(out, b"stale ", id)?;
     print_view(out, b" ", promise)
 }
 
 fn print_members(out: &mut Vec<u8>, id: &ViewId, members: &[SiteId]) -> Result<(), NoMemory>
-    ensures { Appends result out.old.items (codes "view " ++ (view_text id.now ++ 32 ∷ sites_text members.now)) out.new.items }
+    ensures { Appends result out.old.items
+        (codes "view " ++ (view_text id.now ++ 32 ∷ sites_text members.now)) out.new.items }
 {
     print_view(out, b"view ", id)?;
     out.push(b' ')?;
@@ -55,7 +57,8 @@ fn print_lock_request(
     number: CallNo,
     rec: RecId,
 ) -> Result<(), NoMemory>
-    ensures { Appends result out.old.items (request_text word.now txn.now view.now number ++ 32 ∷ name_of catalog.now rec) out.new.items }
+    ensures { Appends result out.old.items
+        (request_text word.now txn.now view.now number ++ 32 ∷ name_of catalog.now rec) out.new.items }
 {
     print_request(out, word, txn, view, number)?;
     print_record_after(out, catalog, rec)
@@ -67,7 +70,8 @@ fn print_read_answer(
     number: CallNo,
     value: &Value,
 ) -> Result<(), NoMemory>
-    ensures { Appends result out.old.items (codes "read-answer " ++ (call_name_text txn.now number ++ 32 ∷ value.now)) out.new.items }
+    ensures { Appends result out.old.items
+        (codes "read-answer " ++ (call_name_text txn.now number ++ 32 ∷ value.now)) out.new.items }
 {
     print_numbered(out, b"read-answer ", txn, number)?;
     print_value(out, value)
@@ -94,7 +98,8 @@ fn print_refuse(
     number: CallNo,
     why: &Obstacle,
 ) -> Result<(), NoMemory>
-    ensures { Appends result out.old.items (codes "refuse " ++ (call_name_text txn.now number ++ 32 ∷ obstacle_text why.now)) out.new.items }
+    ensures { Appends result out.old.items
+        (codes "refuse " ++ (call_name_text txn.now number ++ 32 ∷ obstacle_text why.now)) out.new.items }
 {
     print_numbered(out, b"refuse ", txn, number)?;
     out.push(b' ')?;
@@ -127,7 +132,8 @@ fn print_writes(
 }
 
 fn print_outcome(out: &mut Vec<u8>, txn: &TxnId, commit: bool) -> Result<(), NoMemory>
-    ensures { Appends result out.old.items (codes "outcome " ++ (txn_text txn.now ++ outcome_text commit)) out.new.items }
+    ensures { Appends result out.old.items (codes "outcome " ++ (txn_text txn.now ++ outcome_text commit))
+        out.new.items }
 {
     print_txn(out, b"outcome ", txn)?;
     print_decided(out, commit)
@@ -150,7 +156,8 @@ fn print_refresh_request(
     view: &ViewId,
     rec: RecId,
 ) -> Result<(), NoMemory>
-    ensures { Appends result out.old.items (codes "refresh-request " ++ (view_text view.now ++ 32 ∷ name_of catalog.now rec)) out.new.items }
+    ensures { Appends result out.old.items
+        (codes "refresh-request " ++ (view_text view.now ++ 32 ∷ name_of catalog.now rec)) out.new.items }
 {
     print_view(out, b"refresh-request ", view)?;
     print_record_after(out, catalog, rec)
@@ -162,7 +169,9 @@ fn print_copy(
     rec: RecId,
     stored: &Stored,
 ) -> Result<(), NoMemory>
-    ensures { Appends result out.old.items (32 ∷ (name_of catalog.now rec ++ 32 ∷ (stored.now.value ++ 32 ∷ view_text stored.now.date))) out.new.items }
+    ensures { Appends result out.old.items
+        (32 ∷ (name_of catalog.now rec ++ 32 ∷ (stored.now.value ++ 32 ∷ view_text stored.now.date)))
+        out.new.items }
 {
     print_record_after(out, catalog, rec)?;
     print_value(out, &stored.value)?;
@@ -177,7 +186,11 @@ fn print_refresh_answer(
     rec: RecId,
     stored: &Stored,
 ) -> Result<(), NoMemory>
-    ensures { Appends result out.old.items (codes "refresh-answer " ++ (view_text view.now ++ 32 ∷ (name_of catalog.now rec ++ 32 ∷ (stored.now.value ++ 32 ∷ view_text stored.now.date)))) out.new.items }
+    ensures { Appends result out.old.items
+        (codes "refresh-answer " ++
+        (view_text view.now ++ 32 ∷
+        (name_of catalog.now rec ++ 32 ∷ (stored.now.value ++ 32 ∷ view_text stored.now.date))))
+        out.new.items }
 {
     print_view(out, b"refresh-answer ", view)?;
     print_copy(out, catalog, rec, stored)
@@ -192,7 +205,10 @@ fn print_prepare(
     reads: &[RecId],
     writes: &[(RecId, Value)],
 ) -> Result<(), NoMemory>
-    ensures { Appends result out.old.items (request_text (codes "prepare ") txn.now view.now number ++ (flat_map (read_text catalog.now) reads.now ++ flat_map (write_text catalog.now) writes.now)) out.new.items }
+    ensures { Appends result out.old.items
+        (request_text (codes "prepare ") txn.now view.now number ++
+        (flat_map (read_text catalog.now) reads.now ++ flat_map (write_text catalog.now) writes.now))
+        out.new.items }
 {
     print_request(out, b"prepare ", txn, view, number)?;
     print_reads(out, catalog, reads)?;

@@ -102,7 +102,8 @@ fn print_told(out: &mut Vec<u8>, word: &[u8], number: u32) -> Result<(), NoMemor
 }
 
 fn print_parted(out: &mut Vec<u8>, from: SiteId, to: SiteId) -> Result<(), NoMemory>
-    ensures { Appends result out.old.items (codes " cut " ++ (decimal from ++ 32 ∷ (decimal to ++ 10 ∷ []))) out.new.items }
+    ensures { Appends result out.old.items (codes " cut " ++ (decimal from ++ 32 ∷ (decimal to ++ 10 ∷ [])))
+        out.new.items }
 {
     print_site(out, b" cut ", from)?;
     print_site(out, b" ", to)?;

@@ -33,7 +33,8 @@ impl Handled {
     /// Makes the call the pending one of the transaction, and leaves an empty call in `pending`.
     pub fn attach_call(&mut self) -> Result<(), NoMemory>
         ensures live { OnOk result (self.new.live ≡ handling self.old.live self.old.pending) }
-        ensures left { OnOk result (self.new.pending ≡ record self.old.pending { call = call.Begin; missing = []; marked = false }) }
+        ensures left { OnOk result
+            (self.new.pending ≡ record self.old.pending { call = call.Begin; missing = []; marked = false }) }
     {
         let alloc = self.live.ops.allocator();
         let empty = Pending {

@@ -9,4 +9,4 @@ mod transactions;
 
 pub use handled::Handled;
 pub use live::LiveTxns;
-pub use transactions::{Transactions, tell_outcome, told_again};
+pub use transactions::{Transactions, answered_again, send_outcome};

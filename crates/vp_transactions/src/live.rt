@@ -88,9 +88,11 @@ impl LiveTxns {
     /// Takes the transaction out, if it is live, and leaves an empty one of its name in its place.
     pub fn take_up(&mut self, txn: &TxnId) -> Option<Live>
         ensures lifted { result ≡ live_of txn.now self.old }
-        ensures back { option_map_or (λ t. change_first (λ u. same_txn u.txn t.txn) (λ u. t) self.new) result self.new ≡ self.old }
+        ensures back { option_map_or (λ t. change_first (λ u. same_txn u.txn t.txn) (λ u. t) self.new) result
+            self.new ≡ self.old }
         ensures waiting { IfSome result (λ t. waits t ≡ true) }
-        ensures emptied { self.new ≡ change_first (λ u. same_txn u.txn txn.now) (λ u. begun txn.now opening) self.old }
+        ensures emptied { self.new ≡
+            change_first (λ u. same_txn u.txn txn.now) (λ u. begun txn.now opening) self.old }
     {
         lift(&mut self.items, &mut self.last, txn)
     }
@@ -245,10 +247,12 @@ fn new_live(alloc: Global, txn: &TxnId, view: ViewId) -> Live
 fn lift(live: &mut Slots<Live>, last: &mut usize, txn: &TxnId) -> Option<Live>
     requires { AreLive live.old }
     ensures lifted { result ≡ live_of txn.now live.old }
-    ensures back { option_map_or (λ t. change_first (λ u. same_txn u.txn t.txn) (λ u. t) live.new) result live.new ≡ live.old }
+    ensures back { option_map_or (λ t. change_first (λ u. same_txn u.txn t.txn) (λ u. t) live.new) result
+        live.new ≡ live.old }
     ensures waiting { IfSome result (λ t. waits t ≡ true) }
     ensures rest { AreLive live.new }
-    ensures emptied { live.new ≡ change_first (λ u. same_txn u.txn txn.now) (λ u. begun txn.now opening) live.old }
+    ensures emptied { live.new ≡
+        change_first (λ u. same_txn u.txn txn.now) (λ u. begun txn.now opening) live.old }
 {
     let empty = new_live(live.allocator(), txn, ViewId { number: 0, site: 0 });
     replace(live, last, txn, empty)
@@ -310,7 +314,8 @@ fn copy_of_live(t: &Live) -> Result<Live, NoMemory>
 
 /// Adds a copy of the transaction to the late ones, where it is late.
 fn add_late(late: &mut Vec<Live>, t: &Live) -> Result<(), NoMemory>
-    ensures { OnOk result (late.new.items ≡ late.old.items ++ (if is_marked_call t.now.pending then t.now ∷ [] else [])) }
+    ensures { OnOk result
+        (late.new.items ≡ late.old.items ++ (if is_marked_call t.now.pending then t.now ∷ [] else [])) }
 {
     if is_late(t) {
         late.push(copy_of_live(t)?)?;

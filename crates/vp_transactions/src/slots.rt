@@ -83,7 +83,8 @@ impl<T: Drop> Slots<T> {
     /// The item at the place, for writing.
     pub fn item_mut(&mut self, place: usize) -> &mut T
         requires { place < length self.old }
-        ensures* writes_back { sem 𝓛 (Lends (the_row T.row) T.row self.entry result (slice_set self.old place)) }
+        ensures* writes_back { sem 𝓛
+            (Lends (the_row T.row) T.row self.entry result (slice_set self.old place)) }
         ensures value { slice_get self.old place ≡ Some result.now }
     {
         let key = self.keys[place];

@@ -10,7 +10,7 @@ ghost use Rattle.vp_model.specs.Transactions.{live_of, finished_of, put_live, an
 ghost use Rattle.vp_model.specs.Calls.{kept_answer, begun, with_begun};
 ghost use Rattle.vp_model.specs.Answers.{waits_for, with_acknowledged, is_live, is_decided};
 ghost use Rattle.vp_model.specs.Step.{is_marked_call, with_marks};
-ghost use Rattle.vp_transactions.specs.Ended.{told_by, told_after};
+ghost use Rattle.vp_transactions.specs.Ended.{answer_of_finished, answer_after};
 ghost use Rattle.vp_transactions.specs.Waiting.{waits, all_wait, standing_for, pending_for, waiting_call, with_outcomes};
 
 use crate::handled::Handled;
@@ -82,7 +82,8 @@ fn answer_to(txn: &TxnId, number: CallNo, why: &Ending) -> Result<Answer, NoMemo
 /// Answers the pending call, if there is one, by how the transaction has ended.
 fn answer_pending(t: &mut Live, why: &Ending, effects: &mut Effects) -> Result<(), NoMemory>
     ensures answers { OnOk result (t.new ≡ record t.old { answers = answers_after t.old why.now }) }
-    ensures effects { OnOk result (effects.new ≡ with_pending_reply t.old.txn why.now t.old.pending effects.old) }
+    ensures effects { OnOk result
+        (effects.new ≡ with_pending_reply t.old.txn why.now t.old.pending effects.old) }
 {
     if let Some(pending) = &t.pending {
         let number = pending.as_ref().number;
@@ -100,7 +101,7 @@ fn kept_answer(answers: &[Answer], number: CallNo) -> Option<&Answer>
 }
 
 /// Copies the answer that was given to the call of this number.
-pub fn told_again(answers: &[Answer], number: CallNo) -> Result<Option<Answer>, NoMemory>
+pub fn answered_again(answers: &[Answer], number: CallNo) -> Result<Option<Answer>, NoMemory>
     ensures { IfOk result (λ told. told ≡ kept_answer number answers.now) }
 {
     match kept_answer(answers, number) {
@@ -153,9 +154,11 @@ impl Transactions {
     /// Takes out the transaction and its pending call, where that call waits for the site.
     pub fn take_waiting(&mut self, txn: &TxnId, from: SiteId) -> Result<Option<Handled>, NoMemory>
         ensures taken { IfOk result (λ taken. taken ≡ waiting_call txn.now from self.old.live) }
-        ensures back { IfOk result (λ taken. option_map_or (λ h. put_live h.live self.new) taken self.new ≡ self.old) }
+        ensures back { IfOk result
+            (λ taken. option_map_or (λ h. put_live h.live self.new) taken self.new ≡ self.old) }
         ensures waiting { IfOk result (λ taken. IfSome taken (λ h. waits h.live ≡ true)) }
-        ensures emptied { IfOk result (λ taken. IfSome taken (λ h. self.new ≡ put_live (begun txn.now opening) self.old)) }
+        ensures emptied { IfOk result
+            (λ taken. IfSome taken (λ h. self.new ≡ put_live (begun txn.now opening) self.old)) }
     {
         match self.take_up(txn) {
             None => Ok(None),
@@ -217,7 +220,8 @@ impl Transactions {
 
     /// Copies the live transactions whose calls were pending at the tick before.
     pub fn late(&self) -> Result<Vec<Live>, NoMemory>
-        ensures late { IfOk result (λ late. late.items ≡ filter (λ t. is_marked_call t.pending) self.now.live) }
+        ensures late { IfOk result
+            (λ late. late.items ≡ filter (λ t. is_marked_call t.pending) self.now.live) }
         ensures waiting { all_wait self.now.live ≡ true }
     {
         self.live.late()
@@ -247,7 +251,8 @@ impl Transactions {
         effects: &mut Effects,
     ) -> Result<(), NoMemory>
         ensures kept { OnOk result (self.new ≡ with_finished t.old why self.old) }
-        ensures effects { OnOk result (effects.new ≡ with_pending_reply t.old.txn why t.old.pending effects.old) }
+        ensures effects { OnOk result
+            (effects.new ≡ with_pending_reply t.old.txn why t.old.pending effects.old) }
         ensures left { OnOk result (t.new ≡ record t.old { answers = [] }) }
     {
         answer_pending(t, &why, effects)?;
@@ -270,22 +275,24 @@ impl Transactions {
 
     /// The answer to a call of a transaction that is not live: the one given before, the end of the transaction, or that it is
     /// unknown.
-    pub fn told_after(&self, txn: &TxnId, number: CallNo) -> Result<Option<Answer>, NoMemory>
-        ensures { IfOk result (λ told. told ≡ told_after txn.now number (finished_of txn.now self.now.finished)) }
+    pub fn answer_after(&self, txn: &TxnId, number: CallNo) -> Result<Option<Answer>, NoMemory>
+        ensures { IfOk result
+            (λ told. told ≡ answer_after txn.now number (finished_of txn.now self.now.finished)) }
     {
-        told_in(&self.finished, txn, number)
+        answer_in(&self.finished, txn, number)
     }
 }
 
 /// Sends the outcome of the transaction to each of its parts.
-pub fn tell_outcome(
+pub fn send_outcome(
     id: SiteId,
     txn: &TxnId,
     commit: bool,
     parts: &[SiteId],
     effects: &mut Effects,
 ) -> Result<(), NoMemory>
-    ensures { OnOk result (effects.new ≡ with_messages id (message.Outcome txn.now commit) parts.now effects.old) }
+    ensures { OnOk result
+        (effects.new ≡ with_messages id (message.Outcome txn.now commit) parts.now effects.old) }
 {
     let outcome = Message::Outcome { txn: *txn, commit };
     effects.send_all(id, parts, &outcome)
@@ -295,7 +302,7 @@ fn resend(id: SiteId, decisions: &[Decision], effects: &mut Effects) -> Result<(
     ensures { OnOk result (effects.new ≡ with_outcomes id decisions.now effects.old) }
 {
     for decision in decisions {
-        tell_outcome(
+        send_outcome(
             id,
             &decision.txn,
             true,
@@ -343,25 +350,26 @@ fn find_finished<'a>(finished: &'a VecDeque<Finished>, txn: &TxnId) -> Option<&'
     finished.iter().find(|f| f.is_of(txn))
 }
 
-fn told_in(
+fn answer_in(
     finished: &VecDeque<Finished>,
     txn: &TxnId,
     number: CallNo,
 ) -> Result<Option<Answer>, NoMemory>
-    ensures { IfOk result (λ told. told ≡ told_after txn.now number (finished_of txn.now finished.now.items)) }
+    ensures { IfOk result
+        (λ told. told ≡ answer_after txn.now number (finished_of txn.now finished.now.items)) }
 {
     match find_finished(finished, txn) {
         None => Ok(Some(Answer::Unknown { txn: *txn })),
-        Some(f) => told_by(f, number),
+        Some(f) => answer_of_finished(f, number),
     }
 }
 
-fn told_by(f: &Finished, number: CallNo) -> Result<Option<Answer>, NoMemory>
-    ensures { IfOk result (λ told. told ≡ told_by number f.now) }
+fn answer_of_finished(f: &Finished, number: CallNo) -> Result<Option<Answer>, NoMemory>
+    ensures { IfOk result (λ told. told ≡ answer_of_finished number f.now) }
 {
     let answers = f.answers.as_slice();
     if number.get() as usize > answers.len() {
         return Ok(Some(answer_to(&f.txn, number, &f.ending)?));
     }
-    told_again(answers, number)
+    answered_again(answers, number)
 }

@@ -158,7 +158,7 @@ impl Views {
         let id = self.invitable()?;
         let accepted = alone(catalog.sites().allocator(), self.id)?;
         effects.force(LogRecord::Promise { view: id })?;
-        self.tell_others(catalog, &Message::Invite { id }, effects)?;
+        self.send_to_others(catalog, &Message::Invite { id }, effects)?;
         self.promise = id;
         self.standing = Standing::Inviting { accepted };
         Ok(id)
@@ -174,7 +174,8 @@ impl Views {
     ) -> Result<bool, NoMemory>
         requires { view_before self.old.promise id ≡ true → IsApart self.old.views }
         ensures accepted { IfOk result (λ accepted. accepted ≡ view_before self.old.promise id) }
-        ensures row { OnOk result (viewed self.new effects.new ≡ invited from id (viewed self.old effects.old)) }
+        ensures row { OnOk result
+            (viewed self.new effects.new ≡ invited from id (viewed self.old effects.old)) }
         ensures id { self.new.id ≡ self.old.id }
         ensures promise { view_before self.new.promise self.old.promise ≡ false }
     {
@@ -225,7 +226,8 @@ impl Views {
 
     /// The sites that have accepted the invitation, where there is one.
     fn accepted(&self) -> Result<Option<Sites>, NoMemory>
-        ensures sites { IfOk result (λ sites. self.now.inviting ≡ option_map (λ members. (self.now.promise, members)) sites) }
+        ensures sites { IfOk result
+            (λ sites. self.now.inviting ≡ option_map (λ members. (self.now.promise, members)) sites) }
         ensures silent { IfOk result (λ sites. IsSome sites → self.now.monitor ≡ None) }
     {
         match &self.standing {
@@ -237,7 +239,8 @@ impl Views {
     /// Ends the invitation with these members.
     fn fix_as(&mut self, members: Sites, effects: &mut Effects) -> Result<(), NoMemory>
         requires { self.old.monitor ≡ None }
-        ensures row { OnOk result (viewed self.new effects.new ≡ fixing (self.old.promise, members) (viewed self.old effects.old)) }
+        ensures row { OnOk result
+            (viewed self.new effects.new ≡ fixing (self.old.promise, members) (viewed self.old effects.old)) }
         ensures id { self.new.id ≡ self.old.id }
     {
         let others = others_of(&members, self.id)?;
@@ -253,7 +256,9 @@ impl Views {
     /// Handles a view that comes: it is held where the site waits for it and is a member of it. Returns whether it is.
     pub fn on_commit(&mut self, view: &View) -> Result<bool, NoMemory>
         ensures joined { IfOk result (λ joined. joined ≡ joins view.now self.old) }
-        ensures views { OnOk result (self.new ≡ (if joins view.now self.old then change (with_view view.now) self.old else self.old)) }
+        ensures views { OnOk result
+            (self.new ≡
+            (if joins view.now self.old then change (with_view view.now) self.old else self.old)) }
         ensures id { self.new.id ≡ self.old.id }
     {
         if self.standing.is_waiting()
@@ -271,7 +276,8 @@ impl Views {
     /// Holds the promised view, with these members.
     fn hold(&mut self, members: Sites)
         requires { self.old.monitor ≡ None }
-        ensures { self.new ≡ change (with_view (record { id = self.old.promise; members = members })) self.old }
+        ensures { self.new ≡
+            change (with_view (record { id = self.old.promise; members = members })) self.old }
     {
         self.standing = Standing::Holding {
             view: View {
@@ -343,23 +349,26 @@ impl Views {
 
     /// Probes every other site of the catalogue, where a view is held, and begins to note which sites are heard.
     pub fn probe(&mut self, catalog: &Catalog, effects: &mut Effects) -> Result<(), NoMemory>
-        ensures row { OnOk result (viewed self.new effects.new ≡ probing catalog.now (viewed self.old effects.old)) }
+        ensures row { OnOk result
+            (viewed self.new effects.new ≡ probing catalog.now (viewed self.old effects.old)) }
         ensures id { self.new.id ≡ self.old.id }
     {
         match self.standing.listen() {
             None => Ok(()),
-            Some(view) => self.tell_others(catalog, &Message::Probe { view }, effects),
+            Some(view) => self.send_to_others(catalog, &Message::Probe { view }, effects),
         }
     }
 
     /// Sends the message to every other site of the catalogue.
-    fn tell_others(
+    fn send_to_others(
         &self,
         catalog: &Catalog,
         message: &Message,
         effects: &mut Effects,
     ) -> Result<(), NoMemory>
-        ensures { OnOk result (effects.new ≡ with_messages self.now.id message.now (other_sites catalog.now self.now.id) effects.old) }
+        ensures { OnOk result
+            (effects.new ≡
+            with_messages self.now.id message.now (other_sites catalog.now self.now.id) effects.old) }
     {
         let others = others_of(catalog.sites(), self.id)?;
         effects.send_all(self.id, others.as_slice(), message)

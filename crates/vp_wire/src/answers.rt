@@ -83,7 +83,8 @@ pub fn put_numbered_value(
     number: CallNo,
     value: &Value,
 ) -> Result<(), NoMemory>
-    ensures { Appends result out.old.items (numbered_bytes txn.now number ++ counted_bytes value.now) out.new.items }
+    ensures { Appends result out.old.items (numbered_bytes txn.now number ++ counted_bytes value.now)
+        out.new.items }
 {
     put_numbered(out, txn, number)?;
     put_value(out, value)
@@ -111,7 +112,9 @@ fn put_inaccessible(
     inside: u32,
     total: u32,
 ) -> Result<(), NoMemory>
-    ensures { Appends result out.old.items (numbered_bytes txn.now number ++ (counted_bytes name.now ++ (number_bytes 4 inside ++ number_bytes 4 total))) out.new.items }
+    ensures { Appends result out.old.items
+        (numbered_bytes txn.now number ++
+        (counted_bytes name.now ++ (number_bytes 4 inside ++ number_bytes 4 total))) out.new.items }
 {
     put_numbered_name(out, txn, number, name)?;
     put_u32(out, inside)?;
@@ -127,7 +130,9 @@ fn put_lock_held(
     at: SiteId,
     owner: &Owner,
 ) -> Result<(), NoMemory>
-    ensures { Appends result out.old.items (numbered_bytes txn.now number ++ (counted_bytes name.now ++ at ∷ owner_bytes owner.now)) out.new.items }
+    ensures { Appends result out.old.items
+        (numbered_bytes txn.now number ++ (counted_bytes name.now ++ at ∷ owner_bytes owner.now))
+        out.new.items }
 {
     put_numbered_name(out, txn, number, name)?;
     put_byte(out, at.get())?;
@@ -143,7 +148,9 @@ fn put_view_changed(
     held: &ViewId,
     now: &Option<ViewId>,
 ) -> Result<(), NoMemory>
-    ensures { Appends result out.old.items (numbered_bytes txn.now number ++ at ∷ (view_bytes held.now ++ maybe_view_bytes now.now)) out.new.items }
+    ensures { Appends result out.old.items
+        (numbered_bytes txn.now number ++ at ∷ (view_bytes held.now ++ maybe_view_bytes now.now))
+        out.new.items }
 {
     put_numbered_site(out, txn, number, at)?;
     put_view(out, held)?;

@@ -45,7 +45,8 @@ pub fn put_numbered_name(
     number: CallNo,
     name: &Name,
 ) -> Result<(), NoMemory>
-    ensures { Appends result out.old.items (numbered_bytes txn.now number ++ counted_bytes name.now) out.new.items }
+    ensures { Appends result out.old.items (numbered_bytes txn.now number ++ counted_bytes name.now)
+        out.new.items }
 {
     put_numbered(out, txn, number)?;
     put_name(out, name)
@@ -59,7 +60,8 @@ fn put_write(
     name: &Name,
     value: &Value,
 ) -> Result<(), NoMemory>
-    ensures { Appends result out.old.items (numbered_bytes txn.now number ++ (counted_bytes name.now ++ counted_bytes value.now)) out.new.items }
+    ensures { Appends result out.old.items
+        (numbered_bytes txn.now number ++ (counted_bytes name.now ++ counted_bytes value.now)) out.new.items }
 {
     put_numbered(out, txn, number)?;
     put_name(out, name)?;

@@ -56,7 +56,8 @@ fn read_frame(alloc: Global, cursor: &mut Cursor) -> Result<Frame, LineFault>
 
 /// Reads the number of the sender: from 1 to 16, or 0 where frames of the kind come from a client.
 fn read_from(cursor: &mut Cursor, kind: FrameKind) -> Result<u8, Unexpected>
-    ensures { Reads (λ x. x) (λ e. e.left) result cursor.new (byte_at (within (least_from kind) (most_from kind)) cursor.old) }
+    ensures { Reads (λ x. x) (λ e. e.left) result cursor.new
+        (byte_at (within (least_from kind) (most_from kind)) cursor.old) }
 {
     match kind {
         FrameKind::Message(_) | FrameKind::Reply => read_byte(cursor, 1, LAST_SITE),
@@ -68,7 +69,8 @@ fn read_from(cursor: &mut Cursor, kind: FrameKind) -> Result<u8, Unexpected>
 
 /// Reads the number of the receiver: from 1 to 16, or 0 where frames of the kind go to a client.
 fn read_to(cursor: &mut Cursor, kind: FrameKind) -> Result<u8, Unexpected>
-    ensures { Reads (λ x. x) (λ e. e.left) result cursor.new (byte_at (within (least_to kind) (most_to kind)) cursor.old) }
+    ensures { Reads (λ x. x) (λ e. e.left) result cursor.new
+        (byte_at (within (least_to kind) (most_to kind)) cursor.old) }
 {
     match kind {
         FrameKind::Reply => read_byte(cursor, 0, 0),

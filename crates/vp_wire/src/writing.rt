@@ -40,7 +40,8 @@ pub fn encode_message(
     out: &mut BytesMut,
 ) -> Result<(), NoMemory>
     requires { IsFrame (frame_of from to (body.Message message.now)) }
-    ensures { Appends result out.old.items (frame_bytes (frame_of from to (body.Message message.now))) out.new.items }
+    ensures { Appends result out.old.items (frame_bytes (frame_of from to (body.Message message.now)))
+        out.new.items }
 {
     let kind = FrameKind::Message(MessageKind::of_message(message));
     put_head(out, kind, from.get(), to.get())?;
@@ -51,7 +52,8 @@ pub fn encode_message(
 #[tactic(auto, using(vp_bytes::proofs::Writing::writing))]
 pub fn encode_reply(from: SiteId, answer: &Answer, out: &mut BytesMut) -> Result<(), NoMemory>
     requires { IsFrame (frame_of from 0 (body.Reply answer.now)) }
-    ensures { Appends result out.old.items (frame_bytes (frame_of from 0 (body.Reply answer.now))) out.new.items }
+    ensures { Appends result out.old.items (frame_bytes (frame_of from 0 (body.Reply answer.now)))
+        out.new.items }
 {
     put_head(out, FrameKind::Reply, from.get(), 0)?;
     put_answer(out, answer)
@@ -186,7 +188,8 @@ fn put_refuse(
     number: CallNo,
     why: &Obstacle,
 ) -> Result<(), NoMemory>
-    ensures { Appends result out.old.items (numbered_bytes txn.now number ++ obstacle_bytes why.now) out.new.items }
+    ensures { Appends result out.old.items (numbered_bytes txn.now number ++ obstacle_bytes why.now)
+        out.new.items }
 {
     put_numbered(out, txn, number)?;
     put_obstacle(out, why)
@@ -203,7 +206,9 @@ fn put_prepare(
 ) -> Result<(), NoMemory>
     requires reads { IsRecs reads.now }
     requires writes { IsWrites writes.now }
-    ensures { Appends result out.old.items (request_bytes txn.now view.now number ++ (counted_bytes reads.now ++ writes_bytes writes.now)) out.new.items }
+    ensures { Appends result out.old.items
+        (request_bytes txn.now view.now number ++ (counted_bytes reads.now ++ writes_bytes writes.now))
+        out.new.items }
 {
     put_request(out, txn, view, number)?;
     put_recs(out, reads)?;
@@ -228,7 +233,8 @@ fn put_refresh_answer(
     rec: RecId,
     stored: &Stored,
 ) -> Result<(), NoMemory>
-    ensures { Appends result out.old.items (view_bytes view.now ++ copy_bytes (rec, stored.now)) out.new.items }
+    ensures { Appends result out.old.items (view_bytes view.now ++ copy_bytes (rec, stored.now))
+        out.new.items }
 {
     put_view(out, view)?;
     put_copy(out, rec, stored)

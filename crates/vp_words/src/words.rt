@@ -175,7 +175,9 @@ fn with_command<'a>(
     name: &'a str,
     operands: &[&'a str],
 ) -> Result<clap::Command<'a>, AllocError>
-    ensures { IfOk result (λ c. app_of c ≡ with_command (app_of program.entry) (operand_app name.entry.now (map (λ id. id.now) operands.now))) }
+    ensures { IfOk result
+        (λ c. app_of c ≡
+        with_command (app_of program.entry) (operand_app name.entry.now (map (λ id. id.now) operands.now))) }
 {
     program.subcommand(taking(alloc, name, operands)?)
 }
@@ -207,7 +209,8 @@ fn auditing<'a>(alloc: Global) -> Result<clap::Command<'a>, AllocError>
 
 /// The command that the matches mean.
 fn meant(alloc: Global, matches: &ArgMatches) -> Result<Option<Command>, NoMemory>
-    ensures command { IfOk result (λ command. command ≡ option_and_then (λ m. meant m.0 m.1) (subcommand_rows_of matches.now)) }
+    ensures command { IfOk result
+        (λ command. command ≡ option_and_then (λ m. meant m.0 m.1) (subcommand_rows_of matches.now)) }
     ensures allowed { IfOk result (λ command. IfSome command IsAllowed) }
 {
     let Some((name, matches)) = matches.subcommand() else {
@@ -291,7 +294,8 @@ fn called(alloc: Global, matches: &ArgMatches) -> Result<Option<Command>, NoMemo
 
 #[tactic(auto, using(crate::proofs::Texts::first_rows))]
 fn client_operands<'a>(matches: &ArgMatches<'a>) -> Option<(u16, u64, SiteId, &'a str)>
-    ensures { option_map (λ o. (o.0, o.1, o.2, o.3.now)) result ≡ client_operands (rows_of (found_of matches.now)) }
+    ensures { option_map (λ o. (o.0, o.1, o.2, o.3.now)) result ≡
+        client_operands (rows_of (found_of matches.now)) }
 {
     let port = number(matches.get_str("PORT")?, 1, u64::from(u16::MAX))?;
     let turns = number(matches.get_str("TURNS")?, 0, u64::MAX)?;

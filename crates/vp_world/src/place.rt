@@ -116,7 +116,10 @@ impl Place {
     /// Puts the site into its place, and its start into what the log keeps. If memory runs out, nothing changes.
     fn begin_life(&mut self, site: Site) -> Result<(), NoMemory>
         ensures err { OnErr result (self.new ≡ self.old) }
-        ensures begun { OnOk result (self.new ≡ record self.old { durable = apply (log_record.Start site.life) self.old.durable; up = Some site }) }
+        ensures begun { OnOk result
+            (self.new ≡
+            record self.old
+            { durable = apply (log_record.Start site.life) self.old.durable; up = Some site }) }
     {
         self.durable.apply(&LogRecord::Start { life: site.life() })?;
         self.up = Some(site);
@@ -159,10 +162,13 @@ impl Place {
         input: &Input,
         stepper: &mut S,
     ) -> Result<Option<PlaceEffects>, NoMemory>
-        requires { IfSome self.old.up (λ site. S.may catalog.now (Asked.steps event.now site input.now) stepper.old) }
-        ensures taken { IfOk result (λ t. t ≡ option_map (λ site. taken site (step catalog.now site input.now)) self.old.up) }
+        requires { IfSome self.old.up
+            (λ site. S.may catalog.now (Asked.steps event.now site input.now) stepper.old) }
+        ensures taken { IfOk result
+            (λ t. t ≡ option_map (λ site. taken site (step catalog.now site input.now)) self.old.up) }
         ensures place { OnOk result (self.new ≡ stepped_place catalog.now input.now self.old) }
-        ensures did { OnOk result (Did (λ site. S.did (Asked.steps event.now site input.now)) self.old.up stepper.old stepper.new) }
+        ensures did { OnOk result
+            (Did (λ site. S.did (Asked.steps event.now site input.now)) self.old.up stepper.old stepper.new) }
         ensures left { OnErr result (GivesUp catalog.now input.now self.old self.new) }
     {
         match self.up.take() {
@@ -184,7 +190,8 @@ impl Place {
         ensures taken { IfOk result (λ t. t ≡ taken site (step catalog.now site input.now)) }
         ensures place { OnOk result (self.new ≡ after_step (step catalog.now site input.now) self.old) }
         ensures did { OnOk result (S.did (Asked.steps event.now site input.now) stepper.old stepper.new) }
-        ensures left { OnErr result (KeepsSome (step catalog.now site input.now).effects.records self.old self.new) }
+        ensures left { OnErr result
+            (KeepsSome (step catalog.now site input.now).effects.records self.old self.new) }
     {
         let inviting = site.inviting();
         let (site, effects) = stepper.step(catalog, event, site, input)?;
@@ -195,7 +202,9 @@ impl Place {
 
     /// Puts the site back after its step, and the records that the step forced into what the log keeps.
     fn take_back(&mut self, site: Site, records: &[LogRecord]) -> Result<(), NoMemory>
-        ensures back { OnOk result (self.new ≡ record self.old { durable = apply_all records.now self.old.durable; up = Some site }) }
+        ensures back { OnOk result
+            (self.new ≡
+            record self.old { durable = apply_all records.now self.old.durable; up = Some site }) }
         ensures left { OnErr result (KeepsSome records.now self.old self.new) }
     {
         self.durable.apply_all(records)?;

@@ -73,10 +73,15 @@ fn step_at<S: Stepper>(
     input: &Input,
     stepper: &mut S,
 ) -> Result<Option<PlaceEffects>, NoMemory>
-    requires { IfSome (site_in id places.old) (λ site. S.may catalog.now (Asked.steps event.now site input.now) stepper.old) }
-    ensures taken { IfOk result (λ t. t ≡ option_map (λ site. taken site (step catalog.now site input.now)) (site_in id places.old)) }
-    ensures places { OnOk result (places.new ≡ change_place id (stepped_place catalog.now input.now) places.old) }
-    ensures did { OnOk result (Did (λ site. S.did (Asked.steps event.now site input.now)) (site_in id places.old) stepper.old stepper.new) }
+    requires { IfSome (site_in id places.old)
+        (λ site. S.may catalog.now (Asked.steps event.now site input.now) stepper.old) }
+    ensures taken { IfOk result
+        (λ t. t ≡ option_map (λ site. taken site (step catalog.now site input.now)) (site_in id places.old)) }
+    ensures places { OnOk result
+        (places.new ≡ change_place id (stepped_place catalog.now input.now) places.old) }
+    ensures did { OnOk result
+        (Did (λ site. S.did (Asked.steps event.now site input.now)) (site_in id places.old) stepper.old
+        stepper.new) }
     ensures left { OnErr result (GivesUpAt catalog.now id input.now places.old places.new) }
 {
     match place_at(places, id) {
@@ -105,10 +110,13 @@ fn restart_at<S: Stepper>(
     id: SiteId,
     stepper: &mut S,
 ) -> Result<Shown, NoMemory>
-    requires { IfSome (option_and_then (restart_asked catalog.now) (place_of id places.old)) (λ a. S.may catalog.now a stepper.old) }
+    requires { IfSome (option_and_then (restart_asked catalog.now) (place_of id places.old))
+        (λ a. S.may catalog.now a stepper.old) }
     ensures places { OnOk result (places.new ≡ change_place id (restarted_place catalog.now) places.old) }
     ensures shown { IfOk result (λ s. s ≡ option_map_or restart_line (place_of id places.old) shown.Nothing) }
-    ensures did { OnOk result (Did S.did (option_and_then (restart_asked catalog.now) (place_of id places.old)) stepper.old stepper.new) }
+    ensures did { OnOk result
+        (Did S.did (option_and_then (restart_asked catalog.now) (place_of id places.old)) stepper.old
+        stepper.new) }
     ensures err { OnErr result (places.new ≡ places.old) }
 {
     match place_at(places, id) {
@@ -157,10 +165,16 @@ impl Places {
         input: &Input,
         stepper: &mut S,
     ) -> Result<Option<PlaceEffects>, NoMemory>
-        requires { IfSome (site_in id self.old) (λ site. S.may catalog.now (Asked.steps event.now site input.now) stepper.old) }
-        ensures taken { IfOk result (λ t. t ≡ option_map (λ site. taken site (step catalog.now site input.now)) (site_in id self.old)) }
-        ensures places { OnOk result (self.new ≡ change_place id (stepped_place catalog.now input.now) self.old) }
-        ensures did { OnOk result (Did (λ site. S.did (Asked.steps event.now site input.now)) (site_in id self.old) stepper.old stepper.new) }
+        requires { IfSome (site_in id self.old)
+            (λ site. S.may catalog.now (Asked.steps event.now site input.now) stepper.old) }
+        ensures taken { IfOk result
+            (λ t. t ≡ option_map (λ site. taken site (step catalog.now site input.now))
+            (site_in id self.old)) }
+        ensures places { OnOk result
+            (self.new ≡ change_place id (stepped_place catalog.now input.now) self.old) }
+        ensures did { OnOk result
+            (Did (λ site. S.did (Asked.steps event.now site input.now)) (site_in id self.old) stepper.old
+            stepper.new) }
         ensures left { OnErr result (GivesUpAt catalog.now id input.now self.old self.new) }
     {
         step_at(&mut self.items, catalog, id, event, input, stepper)
@@ -181,10 +195,14 @@ impl Places {
         id: SiteId,
         stepper: &mut S,
     ) -> Result<Shown, NoMemory>
-        requires { IfSome (option_and_then (restart_asked catalog.now) (place_of id self.old)) (λ a. S.may catalog.now a stepper.old) }
+        requires { IfSome (option_and_then (restart_asked catalog.now) (place_of id self.old))
+            (λ a. S.may catalog.now a stepper.old) }
         ensures places { OnOk result (self.new ≡ change_place id (restarted_place catalog.now) self.old) }
-        ensures shown { IfOk result (λ s. s ≡ option_map_or restart_line (place_of id self.old) shown.Nothing) }
-        ensures did { OnOk result (Did S.did (option_and_then (restart_asked catalog.now) (place_of id self.old)) stepper.old stepper.new) }
+        ensures shown { IfOk result
+            (λ s. s ≡ option_map_or restart_line (place_of id self.old) shown.Nothing) }
+        ensures did { OnOk result
+            (Did S.did (option_and_then (restart_asked catalog.now) (place_of id self.old)) stepper.old
+            stepper.new) }
         ensures err { OnErr result (self.new ≡ self.old) }
     {
         restart_at(&mut self.items, catalog, id, stepper)

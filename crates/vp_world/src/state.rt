@@ -228,9 +228,11 @@ impl State {
         stepper: &mut S,
     ) -> Result<Shown, WorldEnd>
         requires few { length self.old.sent ≤ 2000000 }
-        requires may { IfSome (step_at self.old event.now id input.now) (λ a. S.may catalog.now a stepper.old) }
+        requires may { IfSome (step_at self.old event.now id input.now)
+            (λ a. S.may catalog.now a stepper.old) }
         ensures does { Does (at_site catalog.now id input.now self.old) self.new result }
-        ensures did { OnOk result (Did S.did (step_at self.old event.now id input.now) stepper.old stepper.new) }
+        ensures did { OnOk result
+            (Did S.did (step_at self.old event.now id input.now) stepper.old stepper.new) }
     {
         match self.places.step(catalog, id, event, input, stepper)? {
             None => Ok(Shown::Down { site: id }),
@@ -248,9 +250,11 @@ impl State {
     ) -> Result<Shown, WorldEnd>
         requires few { length self.old.sent ≤ 2000000 }
         requires numbered { message_at self.old k ≡ Some sent }
-        requires may { IfSome (step_by self.old (event.Deliver k) sent) (λ a. S.may catalog.now a stepper.old) }
+        requires may { IfSome (step_by self.old (event.Deliver k) sent)
+            (λ a. S.may catalog.now a stepper.old) }
         ensures does { Does (deliver catalog.now k sent self.old) self.new result }
-        ensures did { OnOk result (Did S.did (step_by self.old (event.Deliver k) sent) stepper.old stepper.new) }
+        ensures did { OnOk result
+            (Did S.did (step_by self.old (event.Deliver k) sent) stepper.old stepper.new) }
     {
         let from = sent.from;
         let to = sent.to;
@@ -275,7 +279,8 @@ impl State {
         requires few { length self.old.sent ≤ 2000000 }
         requires may { IsReady S.may catalog.now (event.Deliver k) self.old stepper.old }
         ensures does { Does (happens catalog.now (event.Deliver k) self.old) self.new result }
-        ensures did { OnOk result (DoesEvent S.did catalog.now (event.Deliver k) self.old stepper.old stepper.new) }
+        ensures did { OnOk result
+            (DoesEvent S.did catalog.now (event.Deliver k) self.old stepper.old stepper.new) }
     {
         match self.mail.message(k)? {
             None => Ok(Shown::NoMessage),
@@ -338,7 +343,8 @@ impl State {
     fn crash<S: Stepper>(&mut self, id: SiteId, stepper: &mut S) -> Shown
         ensures shown { shows (with_line result self.new) result ≡ crash id self.old }
         ensures sent { (with_line result self.new).sent ≡ self.old.sent }
-        ensures did { Did S.did (option_map (λ _. Asked.crashes id) (site_of self.old id)) stepper.old stepper.new }
+        ensures did { Did S.did (option_map (λ _. Asked.crashes id) (site_of self.old id)) stepper.old
+            stepper.new }
     {
         if self.places.is_up(id) {
             self.places.take_site(id);
@@ -355,10 +361,14 @@ impl State {
         id: SiteId,
         stepper: &mut S,
     ) -> Result<Shown, NoMemory>
-        requires may { IfSome (option_and_then (restart_asked catalog.now) (place_of id self.old.places)) (λ a. S.may catalog.now a stepper.old) }
-        ensures shown { IfOk result (λ line. shows (with_line line self.new) line ≡ restart catalog.now id self.old) }
+        requires may { IfSome (option_and_then (restart_asked catalog.now) (place_of id self.old.places))
+            (λ a. S.may catalog.now a stepper.old) }
+        ensures shown { IfOk result
+            (λ line. shows (with_line line self.new) line ≡ restart catalog.now id self.old) }
         ensures sent { IfOk result (λ line. (with_line line self.new).sent ≡ self.old.sent) }
-        ensures did { OnOk result (Did S.did (option_and_then (restart_asked catalog.now) (place_of id self.old.places)) stepper.old stepper.new) }
+        ensures did { OnOk result
+            (Did S.did (option_and_then (restart_asked catalog.now) (place_of id self.old.places)) stepper.old
+            stepper.new) }
     {
         self.places.restart(catalog, id, stepper)
     }
@@ -372,9 +382,11 @@ impl State {
         stepper: &mut S,
     ) -> Result<Shown, WorldEnd>
         requires few { length self.old.sent ≤ 2000000 }
-        requires may { IfSome (step_at self.old event.now site (input.Call 0 call.now)) (λ a. S.may catalog.now a stepper.old) }
+        requires may { IfSome (step_at self.old event.now site (input.Call 0 call.now))
+            (λ a. S.may catalog.now a stepper.old) }
         ensures does { Does (at_site catalog.now site (input.Call 0 call.now) self.old) self.new result }
-        ensures did { OnOk result (Did S.did (step_at self.old event.now site (input.Call 0 call.now)) stepper.old stepper.new) }
+        ensures did { OnOk result
+            (Did S.did (step_at self.old event.now site (input.Call 0 call.now)) stepper.old stepper.new) }
     {
         let call = call.copy_of()?;
         self.at_site(
@@ -426,7 +438,8 @@ impl State {
     ) -> Result<Shown, WorldEnd>
         requires within { IsWithinLimits self.old }
         requires may { IsReady S.may catalog.now event.now self.old stepper.old }
-        ensures shown { IfOk result (λ line. shows (with_line line self.new) line ≡ next catalog.now event.now self.old) }
+        ensures shown { IfOk result
+            (λ line. shows (with_line line self.new) line ≡ next catalog.now event.now self.old) }
         ensures within { IfOk result (λ line. IsWithinLimits (with_line line self.new)) }
         ensures end { Ends (refused world_limits catalog.now event.now self.old) result }
         ensures did { OnOk result (DoesEvent S.did catalog.now event.now self.old stepper.old stepper.new) }

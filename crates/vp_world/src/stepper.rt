@@ -30,7 +30,8 @@ pub trait Stepper {
         input: &Input,
     ) -> Result<(Site, Effects), NoMemory>
         requires { may catalog.now (Asked.steps event.now site input.now) self.old }
-        ensures stepped { IfOk result (λ r. record { site = r.0; effects = r.1 } ≡ step catalog.now site input.now) }
+        ensures stepped { IfOk result
+            (λ r. record { site = r.0; effects = r.1 } ≡ step catalog.now site input.now) }
         ensures did { OnOk result (did (Asked.steps event.now site input.now) self.old self.new) };
 
     /// Notes that the site, which was up, crashes.
@@ -47,7 +48,8 @@ pub trait Stepper {
     ) -> Result<Site, StartFault>
         requires { (site : Option SiteState) × may catalog.now (Asked.restarts id site) self.old }
         ensures did { IfStarted result (λ site. did (Asked.restarts id site) self.old self.new) }
-        ensures started { may catalog.now (Asked.restarts id (started catalog.now id durable.now)) self.old → IfStarted result (λ site. site ≡ started catalog.now id durable.now) };
+        ensures started { may catalog.now (Asked.restarts id (started catalog.now id durable.now)) self.old →
+            IfStarted result (λ site. site ≡ started catalog.now id durable.now) };
 }
 
 /// A stepper that only does the steps: sites start from what the world keeps of them.

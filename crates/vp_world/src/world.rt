@@ -56,8 +56,12 @@ impl World {
     /// Does the event, and returns the line that the trace shows for it. A flow is a step that changes nothing else: its messages are
     /// delivered one after the other, each as `flowing` says. After an error the world is gone.
     pub fn next(self, event: &Event) -> Result<(World, Line), WorldEnd>
-        ensures world { IfOk result (λ r. r.0 ≡ record { catalogue = self.catalogue; world = (next self.catalogue event.now self.world).world }) }
-        ensures line { IfOk result (λ r. r.1 ≡ record { event = event.now; shown = (next self.catalogue event.now self.world).shown }) }
+        ensures world { IfOk result
+            (λ r. r.0 ≡
+            record { catalogue = self.catalogue; world = (next self.catalogue event.now self.world).world }) }
+        ensures line { IfOk result
+            (λ r. r.1 ≡
+            record { event = event.now; shown = (next self.catalogue event.now self.world).shown }) }
         ensures end { Ends (refused world_limits self.catalogue event.now self.world) result }
     {
         let happened = self.next_by(event, &mut PlainStepper)?;
@@ -69,10 +73,15 @@ impl World {
     /// shown. After an error the world is gone.
     pub fn next_by<S: Stepper>(self, event: &Event, stepper: &mut S) -> Result<WorldStep, WorldEnd>
         requires { IsReady S.may self.catalogue event.now self.world stepper.old }
-        ensures world { IfOk result (λ r. r.0 ≡ record { catalogue = self.catalogue; world = (next self.catalogue event.now self.world).world }) }
-        ensures line { IfOk result (λ r. r.1 ≡ record { event = event.now; shown = (next self.catalogue event.now self.world).shown }) }
+        ensures world { IfOk result
+            (λ r. r.0 ≡
+            record { catalogue = self.catalogue; world = (next self.catalogue event.now self.world).world }) }
+        ensures line { IfOk result
+            (λ r. r.1 ≡
+            record { event = event.now; shown = (next self.catalogue event.now self.world).shown }) }
         ensures end { Ends (refused world_limits self.catalogue event.now self.world) result }
-        ensures did { OnOk result (DoesEvent S.did self.catalogue event.now self.world stepper.old stepper.new) }
+        ensures did { OnOk result
+            (DoesEvent S.did self.catalogue event.now self.world stepper.old stepper.new) }
     {
         let World { catalog, mut state } = self;
         let shown = state.next(&catalog, event, stepper)?;

@@ -8,7 +8,7 @@ use Rattle.vp_serving.proofs.Served.{SoFar, as_end}
 use Rattle.vp_serving.proofs.Ended.{stops, is_done, is_lost}
 use Rattle.vp_node.proofs.Faults.{gave_err}
 use Rattle.vp_serving.proofs.TurnEnds.{goes_on, turn_ends}
-use Rattle.vp_serving.proofs.serving.served.Goals as goal
+use Rattle.vp_serving.proofs.serving.serve.Goals as goal
 
 pub returns-in_err-node-clause-served : goal.returns-in_err-node-clause-served
 returns-in_err-node-clause-served g c =
