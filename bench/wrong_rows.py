@@ -2,7 +2,8 @@
 """Tries wrong rows of the protocol's definitions against the laws over every schedule.
 
 Each wrong row is put into a copy of the repository, whose worked schedules are taken out so that they don't refuse it
-first; then the laws are checked there. What is printed is the row, and the first declarations that are refused.
+first; then the laws are checked there. What is printed is the row, and the first declarations that are refused. All rows are put
+into one copy, one after the other, so that of each only what it changes is proved anew.
 
 Some rows keep one copy: over these the laws of `vp_laws` are proved, by a line of their proofs that is as wrong as the row, and what refuses
 them is a law that no schedule is stuck, of `vp_progress`.
@@ -199,7 +200,31 @@ def left_out(folder, names):
     """What of the repository no copy needs."""
     if pathlib.Path(folder).name == "crates":
         return [name for name in names if name not in CRATES]
-    return [name for name in names if name == ".git"]
+    return [name for name in names if name in (".git", "out")]
+
+
+def prepare(right):
+    """Makes the copy that each row is put into."""
+    shutil.copytree(TOP, right, ignore=left_out)
+    without_worked_schedules(right)
+    without_shapes(right)
+    without_catalogues(right)
+    with_mending(right)
+
+
+def put_row(right, copy, name, file, old, new, proofs):
+    """Makes the copy's text right, and then as wrong as the row; what was proved in it stays."""
+    for path in right.rglob("*"):
+        if path.name in ("src", "specs", "proofs") and path.parent.parent.name == "crates":
+            shutil.rmtree(copy / path.relative_to(right), ignore_errors=True)
+    shutil.copytree(right, copy, dirs_exist_ok=True)
+    replaced(copy / SPECS / file, old, new)
+    if file in IMPORTS and proofs is None:
+        replaced(copy / SPECS / file, *IMPORTS[file])
+    for line in proofs or []:
+        replaced(copy / "crates/vp_laws/proofs" / line[0], *line[1:])
+    if name == NOT_OF_EACH_OUTCOME:
+        without_each_outcome(copy)
 
 
 def refusals(copy, crate):
@@ -210,25 +235,16 @@ def refusals(copy, crate):
 
 
 def main(words):
-    for name, file, old, new, *proofs in ROWS + STUCK:
-        if words and not any(word in name for word in words):
-            continue
-        with tempfile.TemporaryDirectory() as folder:
-            copy = pathlib.Path(folder) / "copy"
-            shutil.copytree(TOP, copy, ignore=left_out)
-            without_worked_schedules(copy)
-            without_shapes(copy)
-            without_catalogues(copy)
-            with_mending(copy)
-            replaced(copy / SPECS / file, old, new)
-            if file in IMPORTS and not proofs:
-                replaced(copy / SPECS / file, *IMPORTS[file])
-            for line in proofs[0] if proofs else []:
-                replaced(copy / "crates/vp_laws/proofs" / line[0], *line[1:])
-            if name == NOT_OF_EACH_OUTCOME:
-                without_each_outcome(copy)
+    rows = [(*row, None) for row in ROWS] + STUCK
+    with tempfile.TemporaryDirectory() as folder:
+        right, copy = pathlib.Path(folder, "right"), pathlib.Path(folder, "copy")
+        prepare(right)
+        for name, *row, proofs in rows:
+            if words and not any(word in name for word in words):
+                continue
+            put_row(right, copy, name, *row, proofs)
             print(name, flush=True)
-            for line in refusals(copy, "vp_progress" if proofs else "vp_laws")[:4]:
+            for line in refusals(copy, "vp_laws" if proofs is None else "vp_progress")[:4]:
                 print("   ", line[:160], flush=True)
 
 

@@ -13,8 +13,8 @@ use Rattle.vp_model.specs.Durable.{DurableState}
 use Rattle.vp_model.specs.Site.{ViewState, SiteState, Stepped, begin_step}
 use Rattle.vp_model.specs.Views.{highest, is_spent}
 use Rattle.vp_model.specs.Step.{step}
-use Rattle.vp_model.specs.World.{WorldState, Schedule, next, place_of, site_of, moments_of}
-use Rattle.vp_laws.proofs.Lists.Members.{Has, has_none, has_one, has_cons, has_test, has_from_test, filter_keeps}
+use Rattle.vp_model.specs.World.{WorldState, Schedule, next, place_of, site_of, message_at, moments_of}
+use Rattle.vp_laws.proofs.Lists.Members.{Has, has_none, has_one, has_cons, has_test, has_from_test, filter_keeps, both_true}
 use Rattle.vp_laws.proofs.Lists.Views.{same_site}
 use Rattle.vp_laws.proofs.Lists.Numbers.{eq_self}
 use Rattle.vp_laws.proofs.Moves.Table.{next_view}
@@ -23,11 +23,11 @@ use Rattle.vp_laws.proofs.Worlds.Scenes.{scene_of, kept_in, promise_at}
 use Rattle.vp_laws.proofs.Worlds.Events.{in_last}
 use Rattle.vp_laws.proofs.Invariant.Known.{Known}
 use Rattle.vp_laws.proofs.Keeping.Known.{known_last}
-use Rattle.vp_progress.specs.Going.{goes_on, world_after, EachPasses, is_regroup}
+use Rattle.vp_progress.specs.Going.{goes_on, world_after, EachPasses, is_within}
 use Rattle.vp_progress.specs.Progress.{world_of}
 use Rattle.vp_progress.specs.Gathering.{gathers, calls_in, IsAwaited, CanGather, HaveViewsLeft}
 use Rattle.vp_progress.proofs.Going.{world_goes_on, passing_flows_not}
-use Rattle.vp_progress.proofs.Calm.{opens, carries, open_carries}
+use Rattle.vp_progress.proofs.Calm.{is_calm, opens, carries, open_carries}
 use Rattle.vp_progress.proofs.Can.{Can, can_now, can_then, can_by, Each, one_by_one, after_both, pass_both, pass_by}
 use Rattle.vp_progress.proofs.Acts.{Did, by_carried, after_call, stays_known}
 use Rattle.vp_progress.proofs.Started.{IsUp, Fit, Started, starts_all}
@@ -41,12 +41,7 @@ use Rattle.vp_progress.proofs.Opened.{opened_all}
 -- ---- how many calls there are among the events
 
 carry_gathers : (leader : ℕ) (ns : List ℕ) (w : WorldState) (e : Event) → carries ns w e ≡ true → gathers leader ns w e ≡ true
-carry_gathers leader ns w (event.Deliver k) e = (both_of e).0
-  where
-    both_of : {a b : Bool} → (a && b) ≡ true → (a ≡ true) × (b ≡ true)
-    both_of {a = true} {b = true} e = (refl, refl)
-    both_of {a = true} {b = false} e = cc
-    both_of {a = false} {b = b} e = cc
+carry_gathers leader ns w (event.Deliver k) e = (both_true (is_within ns (message_at w k)) (is_calm (message_at w k)) e).0
 carry_gathers leader ns w (event.Call site words) e = cc
 carry_gathers leader ns w (event.Flow count) e = cc
 carry_gathers leader ns w (event.Tick site) e = cc
@@ -87,7 +82,7 @@ promise_as catalogue w new s x o k up d e c = ⊎_elim
     (same_site c s)
 
 still_up : {w new : WorldState} {s : ℕ} {x : SiteState} {o : Stepped} → Did w new s x o → (c : ℕ) → IsUp c w → IsUp c new
-still_up {o = o} d c u = ⊎_elim (λ (here : c ≡ _). (o.site, rw here d.acted.now)) (λ n. (u.0, other_as d c n ∙ u.1)) (same_site c _)
+still_up {s = s} {o = o} d c u = ⊎_elim (λ (here : c ≡ s). (o.site, rw here d.acted.now)) (λ (n : c ≢ s). (u.0, other_as d c n ∙ u.1)) (same_site c s)
 
 module _ (catalogue : Catalogue) (ns : List ℕ) (journal : List Commit) (r : ℕ) (lead : Has ns r) (sub : (q : ℕ) → Has ns q → Has (sites_of catalogue) q) where
   -- ---- events with so many calls
@@ -132,7 +127,7 @@ module _ (catalogue : Catalogue) (ns : List ℕ) (journal : List Commit) (r : �
     room : (q : ℕ) → Has ns q → (promise_at (scene_of w) q).number < 2 ^ 64 - 1
 
   -- the leader's next invitation is above that site's promise
-  Learned : ℕ → WorldState → Type 0
+  abbrev Learned : ℕ → WorldState → Type 0
   Learned q w = (x : SiteState) → site_of w r ≡ Some x → (promise_at (scene_of w) q).number ≤ highest x.views
 
   one_leader : {w : WorldState} {x y : SiteState} → site_of w r ≡ Some x → site_of w r ≡ Some y → x ≡ y
@@ -255,7 +250,7 @@ module _ (catalogue : Catalogue) (ns : List ℕ) (journal : List Commit) (r : �
       regrouped catalogue ns journal w (next catalogue (event.Call r call.Regroup) w).world r x sub f.base f.up lead f.led free (λ q h. all q h x f.led)
       (stays_known catalogue (event.Call r call.Regroup) w f.base.known) (after_call catalogue (λ w e. true) (λ w. Unit {0}) w r x f.base.known f.led call.Regroup)
 
-  All_accepted : ViewId → WorldState → Type 0
+  abbrev All_accepted : ViewId → WorldState → Type 0
   All_accepted id w = Invited catalogue ns journal id r w × ((q : ℕ) → Has ns q → q ≢ r → Accepted id r q w)
 
   accepted_all : (id : ViewId) (w : WorldState) → Invited catalogue ns journal id r w → Can catalogue (carries ns) w (All_accepted id)

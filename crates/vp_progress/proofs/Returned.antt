@@ -47,12 +47,11 @@ module _ (catalogue : Catalogue) (ns : List ℕ) (q : ℕ) where
   no_begin e w s _ pass (Gives.probed is) port c = let z = c in cc
 
   left_acts : (w : Scene) (s : ℕ) (x : SiteState) (given : Input) → plain_at w s ≡ Some x → ((port : ℕ) → given ≡ input.Call port call.Begin → ⊥) → Known catalogue w → Left w → Left (acted w s x (step catalogue x given))
-  left_acts w s x given up none k h y now = go (now_is w (acted w s x (step catalogue x given)) s x (step catalogue x given) st q y now)
+  left_acts w s x given up none k h y now =
+      let ok = k.views.site s x up in
+      let st = stepping catalogue w s x given up ok.kept (local-step catalogue x given ok.tidy) in
+      go (now_is w (acted w s x (step catalogue x given)) s x (step catalogue x given) st q y now)
     where
-      ok = k.views.site s x up
-
-      st = stepping catalogue w s x given up ok.kept (local-step catalogue x given ok.tidy)
-
       go : NowIs w s (step catalogue x given).site q y → y.seq < 2 ^ 32 - 1
       go (NowIs.here here same) =
           let few : x.seq < 2 ^ 32 - 1 = h x (rw here up) in
