@@ -8,7 +8,7 @@ mod Replaced
 pub mod Acting
 mod Calls
 mod Coming
-mod LetterSpan
+mod Filed
 mod Found
 mod Lent
 pub mod Running

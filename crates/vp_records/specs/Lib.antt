@@ -4,4 +4,4 @@ pub mod Batches
 pub mod Kinds
 pub mod Reading
 pub mod Laws
-pub mod DecisionTable
+pub mod Decided

@@ -1,6 +1,6 @@
 mod Begun
 mod Ended
-mod Dispatch
+mod Handed
 mod Moments
 mod Prefixes
 mod Printed

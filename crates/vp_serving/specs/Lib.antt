@@ -1,5 +1,5 @@
 pub mod Ends
-pub mod Dispatch
+pub mod Handed
 pub mod Laws
 pub mod Serving
 pub mod Telling
