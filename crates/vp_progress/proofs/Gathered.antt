@@ -64,7 +64,7 @@ carried_calls catalogue ns (event.Cut a b ∷ more) w p = let z = p.0 in cc
 carried_calls catalogue ns (event.Crash site ∷ more) w p = let z = p.0 in cc
 
 both_calls : (front back : List Event) → calls_in (front ++ back) ≡ calls_in front + calls_in back
-both_calls [] back = refl
+both_calls [] back = omega arith
 both_calls (event.Call site words ∷ front) back = let z = both_calls front back in omega (arith, z)
 both_calls (event.Deliver k ∷ front) back = both_calls front back
 both_calls (event.Heal a b ∷ front) back = both_calls front back
@@ -130,11 +130,11 @@ module _ (catalogue : Catalogue) (ns : List ℕ) (journal : List Commit) (r : �
   abbrev Learned : ℕ → WorldState → Type 0
   Learned q w = (x : SiteState) → site_of w r ≡ Some x → (promise_at (scene_of w) q).number ≤ highest x.views
 
-  one_leader : {w : WorldState} {x y : SiteState} → site_of w r ≡ Some x → site_of w r ≡ Some y → x ≡ y
-  one_leader a b = let z = sym a ∙ b in grind (arith, z)
+  one_leader : (w : WorldState) (x y : SiteState) → site_of w r ≡ Some x → site_of w r ≡ Some y → x ≡ y
+  one_leader w x y a b = let z = sym a ∙ b in grind (arith, z)
 
   learned_now : (id : ViewId) (w : WorldState) (f : Learning id w) (q : ℕ) → (promise_at (scene_of w) q).number ≤ highest f.leader.views → Learned q w
-  learned_now id w f q low x up = subst (λ (x : SiteState). (promise_at (scene_of w) q).number ≤ highest x.views) (one_leader f.led up) low
+  learned_now id w f q low x up = subst (λ (x : SiteState). (promise_at (scene_of w) q).number ≤ highest x.views) (one_leader w f.leader x f.led up) low
 
   hears : (id : ViewId) (q : ℕ) (w : WorldState) → Has ns q → Learning id w → id.number < (promise_at (scene_of w) q).number → Can catalogue (carries ns) w (Each (Learning id) Learned (q ∷ []) w)
   hears id q w here f above =

@@ -44,7 +44,7 @@ below_highest a promise seen h = omega (arith, h)
 pub below : (a b : ViewId) → a.number < b.number → view_before a b ≡ true
 below a b h = grind (arith, nat_tests)
 
-unlike : (q r : ℕ) → q ≢ r → not (q == r) ≡ true
+pub unlike : (q r : ℕ) → q ≢ r → not (q == r) ≡ true
 unlike q r n = let e : (q == r) ≡ false = grind (arith, nat_tests, n) in rw e refl
 
 abbrev pub acceptors : Option (ViewId × List ℕ) → List ℕ

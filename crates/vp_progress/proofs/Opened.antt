@@ -1,7 +1,7 @@
 -- Pairs that are healed and sites that start leave each promise, and what each site has heard of or nothing.
 use Rattle.std.proofs.Common.{◌≡◌, ◌⊎◌, ◌∙◌, ap, sym, subst, ℕ, ◌+◌, true, List, [], ◌∷◌, refl, inl, inr, ⊎_elim}
 use Rattle.std.specs.Prelude.{Some}
-use Rattle.vp_model.specs.Types.{Event}
+use Rattle.vp_model.specs.Types.{Event, Input}
 use Rattle.vp_model.specs.Catalogue.{Catalogue}
 use Rattle.vp_model.specs.Durable.{DurableState}
 use Rattle.vp_model.specs.Site.{SiteState}
@@ -32,14 +32,14 @@ module _ (catalogue : Catalogue) (ns : List ℕ) where
       go q x (QuietIs.here here same) = inl (ap (λ (y : SiteState). y.seen) (sym same) ∙ start_seen catalogue s (kept_at w s))
       go q x (QuietIs.other n old) = inr old
 
+  none_acts : (e : Event) (w : WorldState) (s : ℕ) (given : Input) → opens ns w e ≡ true → Gives e w s given → ⊥
+  none_acts e w s _ pass (Gives.called words is) = let z = subst (λ (e : Event). opens ns w e ≡ true) is pass in cc
+  none_acts e w s _ pass (Gives.came k m is at to) = let z = subst (λ (e : Event). opens ns w e ≡ true) is pass in cc
+  none_acts e w s _ pass (Gives.ticked is) = let z = subst (λ (e : Event). opens ns w e ≡ true) is pass in cc
+  none_acts e w s _ pass (Gives.probed is) = let z = subst (λ (e : Event). opens ns w e ≡ true) is pass in cc
+
   opened_by : (e : Event) (w : WorldState) (m : Moved) → opens ns w e ≡ true → Occurs catalogue e w m → Opened (scene_of w) (scene_of m.world)
-  opened_by e w m pass (Occurs.acts s x given v same up arrives gives is) = absurd (none gives)
-    where
-      none : Gives e w s given → ⊥
-      none (Gives.called words is) = let z = subst (λ (e : Event). opens ns w e ≡ true) is pass in cc
-      none (Gives.came k m is at to) = let z = subst (λ (e : Event). opens ns w e ≡ true) is pass in cc
-      none (Gives.ticked is) = let z = subst (λ (e : Event). opens ns w e ≡ true) is pass in cc
-      none (Gives.probed is) = let z = subst (λ (e : Event). opens ns w e ≡ true) is pass in cc
+  opened_by e w m pass (Occurs.acts s x given v same up arrives gives is) = absurd (none_acts e w s given pass gives)
   opened_by e w m pass (Occurs.stands same shown) = subst (Opened (scene_of w)) (sym same) (opened_same (scene_of w))
   opened_by e w m pass (Occurs.crashes s same shown) = subst (Opened (scene_of w)) (sym same) (opened_quiet (scene_of w) (crashed (scene_of w) s) s (crash_quiet catalogue (scene_of w) s))
   opened_by e w m pass (Occurs.restarts s place at up id same shown) = subst (Opened (scene_of w)) (sym same) (opened_quiet (scene_of w) (restarted catalogue (scene_of w) s) s (restart_quiet catalogue (scene_of w) s place at id))
