@@ -4,5 +4,8 @@
 mod laws;
 mod worked;
 
-pub use laws::{anyone_can_lead, clients_are_served, clients_can_be_served, doubts_stay, schedules_can_mend, sites_can_meet};
+pub use laws::{
+    anyone_can_lead, clients_are_served, clients_can_be_served, doubts_stay, schedules_can_mend,
+    sites_can_meet,
+};
 pub use worked::{a_doubt_is_mended, three_recover};
