@@ -27,7 +27,8 @@ pub record IsAwaited (sites : List ℕ) (leader : ℕ) (w : WorldState) : Type 0
   pub accepted : List ℕ
   pub inviting : (x : SiteState) × (site_of w leader ≡ Some x) × (x.inviting ≡ Some (id, accepted))
   pub all : (q : ℕ) → has sites q ≡ true → has accepted q ≡ true
-  pub waiting : (q : ℕ) → has sites q ≡ true → q ≢ leader → (x : SiteState) × (site_of w q ≡ Some x) × (x.waiting ≡ Some id)
+  pub waiting : (q : ℕ) → has sites q ≡ true → q ≢ leader
+      → (x : SiteState) × (site_of w q ≡ Some x) × (x.waiting ≡ Some id)
 
 pub record CanGather (s : Schedule) (sites : List ℕ) (leader : ℕ) : Type 0 where
   pub more : List Event

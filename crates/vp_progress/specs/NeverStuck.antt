@@ -11,16 +11,16 @@ use Rattle.vp_progress.specs.Whole.{AreUnspent, HasNameLeft, IsWhole}
 use Rattle.vp_progress.specs.Progress.{world_of}
 use Rattle.vp_progress.specs.Clients.{Wish, name_in, IsServed}
 
--- Events that mend all sites commit nothing; those that serve the client put one entry more into the journal, with just what it asked for,
--- and leave a whole world.
+-- Events that mend all sites commit nothing; those that then serve the client put one entry more into the journal, with just what
+-- it asked for, and leave a whole world.
 pub record CanBeServed (s : Schedule) (q : ℕ) (wishes : List Wish) : Type 0 where
   pub more : List Event
   pub mending : EachPasses s.catalogue (mends (sites_of s.catalogue)) (world_of s) more
   pub journal : journal_of (goes_on s more) ≡ journal_of s
   pub served : IsServed (goes_on s more) (sites_of s.catalogue) q wishes (IsWhole s.catalogue)
 
--- A client at any site gets any list of at most 64 reads and writes of records of the catalogue committed, after every schedule that spends no
--- number, and leaves the site a name.
+-- After every schedule that spends no number, a client at any site that has a name left can get any list of at most 64 reads and writes
+-- of records of the catalogue committed.
 abbrev pub ClientsCanBeServed : Type 0
 ClientsCanBeServed =
     (s : Schedule) (q : ℕ) (wishes : List Wish)
