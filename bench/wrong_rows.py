@@ -19,7 +19,8 @@ import tempfile
 
 TOP = pathlib.Path(__file__).resolve().parent.parent
 SPECS = "crates/vp_model/specs/"
-CRATES = ["vp_text", "vp_base", "vp_model", "vp_catalog", "vp_laws", "vp_progress"]
+AS_THEY_ARE = ["vp_text", "vp_base"]
+CRATES = [*AS_THEY_ARE, "vp_model", "vp_catalog", "vp_laws", "vp_progress"]
 
 # name, file, the line as it stands, the wrong line
 ROWS = [
@@ -203,9 +204,13 @@ def left_out(folder, names):
     return [name for name in names if name in (".git", "out")]
 
 
-def prepare(right):
-    """Makes the copy that each row is put into."""
+def prepare(right, copy):
+    """Makes the right text of the copy that each row is put into, and gives it the libraries that are built and that no row changes."""
     shutil.copytree(TOP, right, ignore=left_out)
+    for crate in AS_THEY_ARE:
+        built = TOP / "crates" / crate / "out/rlib"
+        if built.is_dir():
+            shutil.copytree(built, copy / "crates" / crate / "out/rlib")
     without_worked_schedules(right)
     without_shapes(right)
     without_catalogues(right)
@@ -238,7 +243,7 @@ def main(words):
     rows = [(*row, None) for row in ROWS] + STUCK
     with tempfile.TemporaryDirectory() as folder:
         right, copy = pathlib.Path(folder, "right"), pathlib.Path(folder, "copy")
-        prepare(right)
+        prepare(right, copy)
         for name, *row, proofs in rows:
             if words and not any(word in name for word in words):
                 continue
