@@ -155,7 +155,7 @@ def without_shapes(copy):
 def without_catalogues(copy):
     """Leaves of the crate of catalogues the law of majorities alone, and takes out the one law that stands on more of it."""
     crate = copy / "crates/vp_catalog"
-    kept = {"src": ["lib", "entry", "fault", "majority", "placed"], "proofs": ["Lib", "Majorities", "majority"]}
+    kept = {"src": ["lib", "entry", "fault", "majority", "placed"], "proofs": ["Lib", "Majorities", "majority", "Onward", "placed"]}
     for part, names in kept.items():
         for path in (crate / part).iterdir():
             if path.stem not in names:
