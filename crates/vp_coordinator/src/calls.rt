@@ -55,7 +55,7 @@ fn next_number(count: usize, number: CallNo) -> CallNo
     }
 }
 
-fn next_txn(transactions: &Transactions, at: &Around<'_>) -> TxnId
+fn next_txn(transactions: &Transactions, at: &Around<'_, '_>) -> TxnId
     requires { transactions.now.seq < 2 ^ 32 - 1 }
     ensures { result ≡ next_txn (around at.now.id at.now.life at.now.promise (option_copied at.now.held)) transactions.now }
 {
@@ -77,7 +77,7 @@ fn start_txn(lent: &mut Lent, txn: &TxnId, port: u16, view: ViewId) -> Result<()
 }
 
 #[tactic(auto, unfolding(vp_model::specs::Calls::begin_in))]
-fn begin_in(lent: &mut Lent, at: &Around<'_>, port: u16, view: &View) -> Result<(), NoMemory>
+fn begin_in(lent: &mut Lent, at: &Around<'_, '_>, port: u16, view: &View) -> Result<(), NoMemory>
     ensures { OnOk result (lent.new ≡
         begin_in (around at.now.id at.now.life at.now.promise (option_copied at.now.held)) port view.now lent.old) }
 {
@@ -94,7 +94,7 @@ fn begin_in(lent: &mut Lent, at: &Around<'_>, port: u16, view: &View) -> Result<
 }
 
 #[tactic(auto, unfolding(vp_model::specs::Calls::on_begin))]
-fn on_begin(lent: &mut Lent, at: &Around<'_>, port: u16) -> Result<(), NoMemory>
+fn on_begin(lent: &mut Lent, at: &Around<'_, '_>, port: u16) -> Result<(), NoMemory>
     ensures { OnOk result (lent.new ≡
         on_begin (around at.now.id at.now.life at.now.promise (option_copied at.now.held)) port lent.old) }
 {
@@ -112,7 +112,7 @@ fn on_begin(lent: &mut Lent, at: &Around<'_>, port: u16) -> Result<(), NoMemory>
 #[tactic(auto, unfolding(vp_model::specs::Calls::new_call), using(crate::proofs::Rows::in_places))]
 fn new_call(
     lent: &mut Lent,
-    at: &Around<'_>,
+    at: &Around<'_, '_>,
     handled: &mut Handled,
     call: &Call,
 ) -> Result<(), NoMemory>
@@ -153,7 +153,7 @@ fn repeat(lent: &mut Lent, handled: &mut Handled) -> Result<(), NoMemory>
 #[tactic(auto, unfolding(vp_model::specs::Calls::live_call))]
 fn live_call(
     lent: &mut Lent,
-    at: &Around<'_>,
+    at: &Around<'_, '_>,
     handled: &mut Handled,
     call: &Call,
 ) -> Result<(), NoMemory>
@@ -179,7 +179,7 @@ fn live_call(
 }
 
 #[tactic(auto, unfolding(vp_model::specs::Calls::on_txn_call))]
-fn on_txn_call(lent: &mut Lent, at: &Around<'_>, asked: &TxnCall<'_>) -> Result<(), NoMemory>
+fn on_txn_call(lent: &mut Lent, at: &Around<'_, '_>, asked: &TxnCall<'_>) -> Result<(), NoMemory>
     ensures { OnOk result (lent.new ≡
         on_txn_call at.now.catalog.now at.now.id (option_copied at.now.held) asked.now.port asked.now.txn.now asked.now.number asked.now.call.now lent.old) }
 {
@@ -206,26 +206,29 @@ fn ended_call(lent: &mut Lent, asked: &TxnCall<'_>) -> Result<(), NoMemory>
     }
 }
 
-/// Does what a client's call does to the transactions of its site.
-#[tactic(auto, unfolding(vp_model::specs::Calls::own_call))]
-pub fn own_call(lent: &mut Lent, at: &Around<'_>, port: u16, call: &Call) -> Result<(), NoMemory>
-    ensures { OnOk result (lent.new ≡
-        own_call at.now.catalog.now port call.now (around at.now.id at.now.life at.now.promise (option_copied at.now.held)) lent.old) }
-{
-    match call {
-        Call::Begin => on_begin(lent, at, port),
-        Call::Regroup => Ok(()),
-        Call::Read { txn, number, .. }
-        | Call::Write { txn, number, .. }
-        | Call::Commit { txn, number }
-        | Call::Abort { txn, number } => {
-            let asked = TxnCall {
-                port,
-                txn,
-                number: *number,
-                call,
-            };
-            on_txn_call(lent, at, &asked)
+impl Lent {
+    /// Does what the call of the client at this port asks; a call to regroup does nothing here. After want of memory what is lent may
+    /// be changed in part: drop it.
+    #[tactic(auto, unfolding(vp_model::specs::Calls::own_call))]
+    pub fn own_call(&mut self, at: &Around<'_, '_>, port: u16, call: &Call) -> Result<(), NoMemory>
+        ensures { OnOk result (self.new ≡
+            own_call at.now.catalog.now port call.now (around at.now.id at.now.life at.now.promise (option_copied at.now.held)) self.old) }
+    {
+        match call {
+            Call::Begin => on_begin(self, at, port),
+            Call::Regroup => Ok(()),
+            Call::Read { txn, number, .. }
+            | Call::Write { txn, number, .. }
+            | Call::Commit { txn, number }
+            | Call::Abort { txn, number } => {
+                let asked = TxnCall {
+                    port,
+                    txn,
+                    number: *number,
+                    call,
+                };
+                on_txn_call(self, at, &asked)
+            }
         }
     }
 }

@@ -51,8 +51,9 @@ impl Lent {
         Ok(())
     }
 
-    /// Aborts the transactions whose calls were pending at the tick before, and marks the other pending calls.
-    pub fn tick(&mut self, id: SiteId) -> Result<(), NoMemory>
+    /// Aborts each transaction whose call was pending at the tick before, and marks the other pending calls. After want of memory what
+    /// is lent may be changed in part: drop it.
+    pub fn time_out_calls(&mut self, id: SiteId) -> Result<(), NoMemory>
         ensures { OnOk result (self.new ≡ time_out_calls id self.old) }
     {
         let mut late = self.coordinator.late()?;
@@ -76,9 +77,9 @@ impl Lent {
         Ok(())
     }
 
-    /// Aborts all live transactions, since the site leaves its view.
+    /// Aborts each live transaction, since the site leaves its view. After want of memory what is lent may be changed in part: drop it.
     #[tactic(auto, using(crate::proofs::Ends::all_left))]
-    pub fn leave(&mut self, id: SiteId) -> Result<(), NoMemory>
+    pub fn abandon(&mut self, id: SiteId) -> Result<(), NoMemory>
         ensures { OnOk result (self.new ≡ abandon id self.old) }
     {
         let live = self.coordinator.take_all();

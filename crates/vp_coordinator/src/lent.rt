@@ -1,13 +1,22 @@
 //! What a row of the coordinator changes.
 
-ghost use Rattle.std.specs.Prelude.{◌≡◌};
+ghost use Rattle.std.specs.Prelude.{◌≡◌, [], OnOk, IfOk};
+ghost use Rattle.vp_model.specs.Step.{resend};
+ghost use Rattle.vp_model.specs.Generated.{newest};
+ghost use Rattle.vp_coordinator.specs.Lent.{no_effects};
 
+use crate::copies::SiteCopies;
 use crate::here::Here;
+use std::alloc::Global;
 use std::marker::Model;
-use vp_base::Effects;
+use std::mem;
+use vp_base::{CopyOf, Decisions, Effects, Newest, NoMemory, SiteId};
+use vp_locks::Locks;
+use vp_records::Durable;
 use vp_transactions::Transactions;
 
-/// What a row changes: the transactions of its site, the locks and the copies there, and the effects of the step.
+/// What a row changes: the transactions that its site began in its current life, the locks and the copies there, and the effects of
+/// the step.
 #[derive(Drop)]
 pub struct Lent {
     pub coordinator: Transactions,
@@ -21,4 +30,60 @@ impl Model for Lent {
     ghost Value = { LentState };
 
     ghost view = { λ l. record { coordinator = l.coordinator; here = l.here; effects = l.effects } };
+}
+
+impl Lent {
+    /// What a site has that starts a life with this durable part and these locks: its decisions and copies, no transactions and no
+    /// effects.
+    pub fn restore(alloc: Global, durable: Durable, locks: Locks) -> Result<Lent, NoMemory>
+        ensures { IfOk result (λ lent. lent ≡ record {
+            coordinator = record { seq = 0; live = []; finished = []; decisions = durable.decisions };
+            here = record { locks = locks; copies = durable.copies };
+            effects = no_effects
+        }) }
+    {
+        let mut coordinator = Transactions::new(alloc);
+        coordinator.decisions = durable.decisions().copy_of()?;
+        let here = Here {
+            locks,
+            copies: SiteCopies::new(durable.into_copies()),
+        };
+        Ok(Lent {
+            coordinator,
+            here,
+            effects: Effects::none(alloc),
+        })
+    }
+
+    /// Sends each decision again to the sites that have not acknowledged it. After want of memory the effects may be changed in
+    /// part: drop them.
+    #[tactic(auto, using(crate::proofs::Told::sent_again))]
+    pub fn resend(&mut self, id: SiteId) -> Result<(), NoMemory>
+        ensures { OnOk result (self.new ≡ resend id self.old.decisions self.old) }
+    {
+        self.coordinator.resend(id, &mut self.effects)
+    }
+
+    /// Takes the effects of a step, and leaves none.
+    pub fn take_effects(&mut self) -> Effects
+        ensures effects { result ≡ self.old.effects }
+        ensures left { self.new ≡ record self.old { effects = no_effects } }
+    {
+        let alloc = self.coordinator.allocator();
+        mem::replace(&mut self.effects, Effects::none(alloc))
+    }
+
+    /// What a client would call next on the live transaction that began last.
+    pub fn newest(&self) -> Option<Newest>
+        ensures { result ≡ newest self.now.live }
+    {
+        self.coordinator.live.newest()
+    }
+
+    /// Copies the decisions that some site has not acknowledged.
+    pub fn decisions(&self) -> Result<Decisions, NoMemory>
+        ensures { IfOk result (λ decisions. decisions ≡ self.now.decisions) }
+    {
+        self.coordinator.decisions.list()
+    }
 }

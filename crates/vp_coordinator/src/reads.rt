@@ -42,7 +42,7 @@ fn read_at(
 /// Asks the lowest holder in the view.
 fn read_there(
     lent: &mut Lent,
-    at: &Around<'_>,
+    at: &Around<'_, '_>,
     handled: &mut Handled,
     rec: RecId,
 ) -> Result<(), NoMemory>
@@ -81,7 +81,7 @@ fn read_here(
 #[tactic(auto, unfolding(vp_model::specs::Calls::read))]
 fn read(
     lent: &mut Lent,
-    at: &Around<'_>,
+    at: &Around<'_, '_>,
     handled: &mut Handled,
     name: &Name,
     rec: RecId,
@@ -106,7 +106,7 @@ fn read(
 #[tactic(auto, using(crate::proofs::Operations::record_first))]
 pub fn read_named(
     lent: &mut Lent,
-    at: &Around<'_>,
+    at: &Around<'_, '_>,
     handled: &mut Handled,
     name: &Name,
 ) -> Result<(), NoMemory>

@@ -36,7 +36,7 @@ fn write_at(
 #[tactic(auto, unfolding(vp_model::specs::Calls::write_elsewhere))]
 fn write_elsewhere(
     lent: &mut Lent,
-    at: &Around<'_>,
+    at: &Around<'_, '_>,
     handled: &mut Handled,
     wanted: &NamedValue<'_>,
 ) -> Result<(), NoMemory>
@@ -55,7 +55,7 @@ fn write_elsewhere(
 #[tactic(auto, unfolding(vp_model::specs::Calls::lock_here, vp_model::specs::Calls::take_lock))]
 fn write_here(
     lent: &mut Lent,
-    at: &Around<'_>,
+    at: &Around<'_, '_>,
     handled: &mut Handled,
     wanted: &NamedValue<'_>,
 ) -> Result<(), NoMemory>
@@ -73,7 +73,7 @@ fn write_here(
 #[tactic(auto, unfolding(vp_model::specs::Calls::write), using(crate::proofs::Presence::by_presence))]
 fn write(
     lent: &mut Lent,
-    at: &Around<'_>,
+    at: &Around<'_, '_>,
     handled: &mut Handled,
     wanted: &NamedValue<'_>,
 ) -> Result<(), NoMemory>
@@ -93,7 +93,7 @@ fn write(
 #[tactic(auto, using(crate::proofs::Operations::record_first))]
 pub fn write_named(
     lent: &mut Lent,
-    at: &Around<'_>,
+    at: &Around<'_, '_>,
     handled: &mut Handled,
     name: &Name,
     value: &Value,

@@ -14,7 +14,6 @@ ghost use Rattle.vp_participant.specs.Refusals.{lock_refusal, lock_refused};
 ghost use Rattle.vp_site.specs.Requests.{asked};
 ghost use Rattle.vp_site.specs.Ballots.{with_ballot};
 
-use crate::state::SiteState;
 use crate::stepped::Stepped;
 use vp_base::{
     Boxed, CallNo, LogRecord, Message, NoMemory, Obstacle, SiteId, TxnId, ViewId, Writes,
@@ -41,13 +40,12 @@ impl Stepped {
         ensures granted { OnOk result (self.new ≡ self.old |> change_locks (with_lock request.now.rec exclusive (owner.Txn request.now.txn)) |> change_participant (with_part request.now.txn request.now.view)) }
         ensures refused { IfSome (lock_refused result) (λ why. self.new ≡ self.old) }
     {
-        let site: &mut SiteState = &mut self.site;
-        let locks = &mut site.here.locks;
-        let held = site.views.held();
+        let locks = &mut self.lent.here.locks;
+        let held = self.views.held();
         if exclusive {
-            site.participant.write_request(locks, held, request)
+            self.participant.write_request(locks, held, request)
         } else {
-            site.participant.read_request(locks, held, request)
+            self.participant.read_request(locks, held, request)
         }
     }
 
@@ -114,7 +112,7 @@ impl Stepped {
         ensures { OnOk result (self.new ≡ on_write_request from request.now.txn request.now.view request.now.number request.now.rec self.old) }
     {
         let Request { txn, number, .. } = *request;
-        if self.site().here.copies.has(request.rec) {
+        if self.lent.here.copies.has(request.rec) {
             self.grant(request, true, Message::WriteAnswer { txn, number }, from)
         } else {
             self.pass_over(request, from)
@@ -142,11 +140,8 @@ impl Stepped {
     pub fn on_prepare(&mut self, from: SiteId, asked: &Prepare<'_>) -> Result<(), NoMemory>
         ensures { OnOk result (self.new ≡ on_prepare from asked.now.txn asked.now.view asked.now.number asked.now.reads.now asked.now.writes.now self.old) }
     {
-        let site: &mut SiteState = &mut self.site;
-        let voted = site
-            .participant
-            .prepare(&site.here.locks, site.views.held(), asked);
-        match voted {
+        let locks = &self.lent.here.locks;
+        match self.participant.prepare(locks, self.views.held(), asked) {
             Ok(voted) => self.cast(asked.txn, voted, from),
             Err(PrepareFault::Ended) => Ok(()),
             Err(PrepareFault::NoMemory) => Err(NoMemory),
@@ -164,9 +159,8 @@ impl Stepped {
         ensures part { OnOk result (self.new ≡ self.old |> change_participant (with_ended (is_some self.old.site.held) txn) |> change_locks (without_owner (owner.Txn txn))) }
         ensures doubt { IfOk result (λ settled. settled.doubt ≡ doubt_ended txn self.old.site.doubts) }
     {
-        let site: &mut SiteState = &mut self.site;
-        let held = site.views.held();
-        site.participant.outcome(&mut site.here.locks, held, txn)
+        let locks = &mut self.lent.here.locks;
+        self.participant.outcome(locks, self.views.held(), txn)
     }
 
     /// Ends the doubt about the transaction: a commit makes its writes copies.
@@ -179,8 +173,7 @@ impl Stepped {
         ensures { OnOk result (self.new ≡ end_doubt txn commit (record { txn = txn; view = doubt.now.0; writes = doubt.now.1 }) self.old) }
     {
         if commit {
-            let site: &mut SiteState = &mut self.site;
-            site.here.copies.write(&doubt.0, doubt.1.as_slice())?;
+            self.lent.here.copies.write(&doubt.0, doubt.1.as_slice())?;
         }
         self.force(LogRecord::Outcome { txn, commit })
     }
