@@ -19,7 +19,11 @@ use vp_lists::put;
 use vp_transactions::Handled;
 
 #[tactic(auto, unfolding(vp_model::specs::Calls::prepare_parts), using(crate::proofs::Operations::waits_in_place))]
-fn prepare_parts(lent: &mut Lent, at: &Around<'_, '_>, handled: &mut Handled) -> Result<(), NoMemory>
+fn prepare_parts(
+    lent: &mut Lent,
+    at: &Around<'_, '_>,
+    handled: &mut Handled,
+) -> Result<(), NoMemory>
     requires { is_empty handled.old.live.parts ≡ false }
     ensures { OnOk result (lent.new ≡ prepare_parts at.now.catalog.now at.now.id handled.old.live handled.old.pending (in_place handled.old.live lent.old)) }
 {
@@ -41,7 +45,11 @@ pub fn commit(lent: &mut Lent, at: &Around<'_, '_>, handled: &mut Handled) -> Re
 }
 
 /// Asks each part for its vote, and returns the parts.
-fn ask_parts(at: &Around<'_, '_>, handled: &Handled, effects: &mut Effects) -> Result<Sites, NoMemory>
+fn ask_parts(
+    at: &Around<'_, '_>,
+    handled: &Handled,
+    effects: &mut Effects,
+) -> Result<Sites, NoMemory>
     ensures asked { IfOk result (λ asked. asked ≡ handled.now.live.parts) }
     ensures effects { OnOk result (effects.new ≡ with_each_message at.now.id (prepare_for at.now.catalog.now handled.now.live handled.now.pending) handled.now.live.parts effects.old) }
 {

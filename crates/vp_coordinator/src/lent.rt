@@ -37,9 +37,9 @@ impl Lent {
     /// effects.
     pub fn restore(alloc: Global, durable: Durable, locks: Locks) -> Result<Lent, NoMemory>
         ensures { IfOk result (λ lent. lent ≡ record {
-            coordinator = record { seq = 0; live = []; finished = []; decisions = durable.decisions };
-            here = record { locks = locks; copies = durable.copies };
-            effects = no_effects
+          coordinator = record { seq = 0; live = []; finished = []; decisions = durable.decisions };
+          here = record { locks = locks; copies = durable.copies };
+          effects = no_effects;
         }) }
     {
         let mut coordinator = Transactions::new(alloc);
@@ -69,8 +69,13 @@ impl Lent {
         ensures effects { result ≡ self.old.effects }
         ensures left { self.new ≡ record self.old { effects = no_effects } }
     {
-        let alloc = self.coordinator.allocator();
-        mem::replace(&mut self.effects, Effects::none(alloc))
+        let none = Effects::none(self.allocator());
+        mem::replace(&mut self.effects, none)
+    }
+
+    /// The allocator of what is lent.
+    pub fn allocator(&self) -> Global {
+        self.coordinator.allocator()
     }
 
     /// What a client would call next on the live transaction that began last.

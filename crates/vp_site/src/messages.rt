@@ -78,7 +78,9 @@ pub fn on_message(
         // the row `on_probe_message`
         Message::Probe { .. } => stepped.views.heard(from),
         Message::ReadAnswer { txn, number, value } => {
-            stepped.lent.on_read_answer(&came, txn, *number, value.as_ref())
+            stepped
+                .lent
+                .on_read_answer(&came, txn, *number, value.as_ref())
         }
         Message::WriteAnswer { txn, number } => stepped.lent.on_write_answer(&came, txn, *number),
         Message::Refuse { txn, number, why } => stepped.lent.on_refuse(&came, txn, *number, why),

@@ -102,14 +102,11 @@ impl Stepped {
     pub fn held_view(&self) -> Result<Option<View>, NoMemory>
         ensures { IfOk result (λ held. held ≡ self.now.site.held) }
     {
-        self.views
-            .held()
-            .map(|view| view.copy_of())
-            .transpose()
+        self.views.held().map(|view| view.copy_of()).transpose()
     }
 
     pub(crate) fn allocator(&self) -> Global {
-        self.lent.coordinator.allocator()
+        self.lent.allocator()
     }
 
     /// Whether the view that the site holds has this identifier.

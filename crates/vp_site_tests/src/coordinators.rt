@@ -2,9 +2,7 @@
 
 use std::alloc::Global;
 use std::process::Abort;
-use vp_base::{
-    Boxed, Call, CallNo, CopyOf, Message, Name, SiteId, TxnId, Value, View, ViewId,
-};
+use vp_base::{Boxed, Call, CallNo, CopyOf, Message, Name, SiteId, TxnId, Value, View, ViewId};
 use vp_catalog::Catalog;
 use vp_coordinator::{Around, Incoming, Lent};
 use vp_locks::Locks;
@@ -53,7 +51,8 @@ impl Bench {
         };
         let done = match &message {
             Message::ReadAnswer { txn, number, value } => {
-                self.lent.on_read_answer(&came, txn, *number, value.as_ref())
+                self.lent
+                    .on_read_answer(&came, txn, *number, value.as_ref())
             }
             Message::WriteAnswer { txn, number } => self.lent.on_write_answer(&came, txn, *number),
             Message::Vote { txn } => self.lent.on_vote(&came, txn),
