@@ -4,8 +4,7 @@ ghost use Rattle.std.specs.Prelude.{◌≡◌, ◌<◌, ◌-◌, ◌^◌, IfOk, 
 ghost use Rattle.vp_model.specs.Site.{begin_step};
 ghost use Rattle.vp_model.specs.Generated.{newest};
 ghost use Rattle.vp_model.specs.Step.{start, step, durable_of};
-ghost use Rattle.vp_site.specs.Starting.{Starts};
-ghost use Rattle.vp_site.specs.Lifted.{viewing};
+ghost use Rattle.vp_site.specs.Starting.{Starts, viewing};
 
 use crate::fault::StartFault;
 use crate::messages::on_input;
