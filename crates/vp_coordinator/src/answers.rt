@@ -89,7 +89,8 @@ fn refusal(
     why: &Obstacle,
     handled: &Handled,
 ) -> Result<Option<Ending>, NoMemory>
-    ensures { IfOk result (λ end. end ≡ refusal from number why.now handled.now.live.view handled.now.pending) }
+    ensures { IfOk result (λ end. end ≡
+        refusal from number why.now handled.now.live.view handled.now.pending) }
 {
     if handled.pending.number == number {
         refused_end(from, why, handled.live.view, &handled.pending.call)
@@ -195,7 +196,9 @@ fn refused(
     why: &Obstacle,
 ) -> Result<(), NoMemory>
     requires { waits handled.old.live ≡ true }
-    ensures { OnOk result (lent.new ≡ refusal_at came.now.id came.now.from number why.now handled.old.live handled.old.pending (in_place handled.old.live lent.old)) }
+    ensures { OnOk result (lent.new ≡
+        refusal_at came.now.id came.now.from number why.now handled.old.live handled.old.pending
+        (in_place handled.old.live lent.old)) }
 {
     match refusal(came.from, number, why, handled)? {
         None => {
@@ -248,7 +251,8 @@ impl Lent {
         number: CallNo,
         value: &Value,
     ) -> Result<(), NoMemory>
-        ensures { OnOk result (self.new ≡ on_read_answer came.now.catalog.now came.now.from txn.now number value.now self.old) }
+        ensures { OnOk result (self.new ≡
+            on_read_answer came.now.catalog.now came.now.from txn.now number value.now self.old) }
     {
         match self.coordinator.take_waiting(txn, came.from)? {
             None => Ok(()),
@@ -264,7 +268,8 @@ impl Lent {
         txn: &TxnId,
         number: CallNo,
     ) -> Result<(), NoMemory>
-        ensures { OnOk result (self.new ≡ on_write_answer came.now.catalog.now came.now.from txn.now number self.old) }
+        ensures { OnOk result (self.new ≡
+            on_write_answer came.now.catalog.now came.now.from txn.now number self.old) }
     {
         match self.coordinator.take_waiting(txn, came.from)? {
             None => Ok(()),
@@ -281,7 +286,8 @@ impl Lent {
         number: CallNo,
         why: &Obstacle,
     ) -> Result<(), NoMemory>
-        ensures { OnOk result (self.new ≡ on_refuse came.now.id came.now.from txn.now number why.now self.old) }
+        ensures { OnOk result (self.new ≡
+            on_refuse came.now.id came.now.from txn.now number why.now self.old) }
     {
         match self.coordinator.take_waiting(txn, came.from)? {
             None => Ok(()),
@@ -292,7 +298,8 @@ impl Lent {
     /// Takes the yes vote of the site for the commit that waits for it.
     #[tactic(auto, using(crate::proofs::Answered::awaited))]
     pub fn on_vote(&mut self, came: &Incoming<'_>, txn: &TxnId) -> Result<(), NoMemory>
-        ensures { OnOk result (self.new ≡ on_vote came.now.catalog.now came.now.id came.now.from txn.now self.old) }
+        ensures { OnOk result (self.new ≡
+            on_vote came.now.catalog.now came.now.id came.now.from txn.now self.old) }
     {
         match self.coordinator.take_waiting(txn, came.from)? {
             None => Ok(()),

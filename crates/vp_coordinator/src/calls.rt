@@ -57,7 +57,8 @@ fn next_number(count: usize, number: CallNo) -> CallNo
 
 fn next_txn(transactions: &Transactions, at: &Around<'_, '_>) -> TxnId
     requires { transactions.now.seq < 2 ^ 32 - 1 }
-    ensures { result ≡ next_txn (around at.now.id at.now.life at.now.promise (option_copied at.now.held)) transactions.now }
+    ensures { result ≡
+        next_txn (around at.now.id at.now.life at.now.promise (option_copied at.now.held)) transactions.now }
 {
     TxnId {
         site: at.id,
@@ -118,7 +119,8 @@ fn new_call(
 ) -> Result<(), NoMemory>
     requires { waits handled.old.live ≡ true }
     ensures { OnOk result (lent.new ≡
-        new_call at.now.catalog.now at.now.id (option_copied at.now.held) handled.old.live handled.old.pending call.now (in_place handled.old.live lent.old)) }
+        new_call at.now.catalog.now at.now.id (option_copied at.now.held) handled.old.live handled.old.pending call.now
+        (in_place handled.old.live lent.old)) }
 {
     match call {
         Call::Read { name, .. } => read_named(lent, at, handled, name),
@@ -139,7 +141,8 @@ fn new_call(
 fn repeat(lent: &mut Lent, handled: &mut Handled) -> Result<(), NoMemory>
     requires { waits handled.old.live ≡ true }
     ensures { OnOk result (lent.new ≡
-        for_some (kept_answer handled.old.pending.number handled.old.live.answers) (λ answer. lent_reply answer handled.old.pending.port) (in_place handled.old.live lent.old)) }
+        for_some (kept_answer handled.old.pending.number handled.old.live.answers) (λ answer. lent_reply answer handled.old.pending.port)
+        (in_place handled.old.live lent.old)) }
 {
     match answered_again(handled.live.answers.as_slice(), handled.number())? {
         None => {
@@ -160,7 +163,8 @@ fn live_call(
     requires call { call.now ≡ handled.old.pending.call }
     requires waiting { waits handled.old.live ≡ true }
     ensures { OnOk result (lent.new ≡
-        live_call at.now.catalog.now at.now.id (option_copied at.now.held) handled.old.live handled.old.pending (in_place handled.old.live lent.old)) }
+        live_call at.now.catalog.now at.now.id (option_copied at.now.held) handled.old.live handled.old.pending
+        (in_place handled.old.live lent.old)) }
 {
     let txn = handled.txn();
     let number = handled.number();

@@ -64,7 +64,8 @@ impl Lent {
 
     /// Aborts these transactions, since the site leaves their view.
     fn abort_each(&mut self, id: SiteId, mut live: LiveTxns) -> Result<(), NoMemory>
-        ensures { OnOk result (self.new ≡ close_all id (λ t. ending.ViewChanged id t.view None) live self.old) }
+        ensures { OnOk result (self.new ≡
+            close_all id (λ t. ending.ViewChanged id t.view None) live self.old) }
     {
         while let Some(mut t) = live.take_first() {
             let why = Ending::ViewChanged {

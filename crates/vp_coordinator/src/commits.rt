@@ -25,7 +25,9 @@ fn prepare_parts(
     handled: &mut Handled,
 ) -> Result<(), NoMemory>
     requires { is_empty handled.old.live.parts ≡ false }
-    ensures { OnOk result (lent.new ≡ prepare_parts at.now.catalog.now at.now.id handled.old.live handled.old.pending (in_place handled.old.live lent.old)) }
+    ensures { OnOk result (lent.new ≡
+        prepare_parts at.now.catalog.now at.now.id handled.old.live handled.old.pending
+        (in_place handled.old.live lent.old)) }
 {
     let asked = ask_parts(at, handled, &mut lent.effects)?;
     lent.wait_for(handled, asked)
@@ -34,7 +36,9 @@ fn prepare_parts(
 /// Commits the transaction where it has no part at another site; else asks its parts for their votes.
 #[tactic(auto, unfolding(vp_model::specs::Calls::commit), using(crate::proofs::Rows::in_places))]
 pub fn commit(lent: &mut Lent, at: &Around<'_, '_>, handled: &mut Handled) -> Result<(), NoMemory>
-    ensures { OnOk result (lent.new ≡ commit at.now.catalog.now at.now.id handled.old.live handled.old.pending (in_place handled.old.live lent.old)) }
+    ensures { OnOk result (lent.new ≡
+        commit at.now.catalog.now at.now.id handled.old.live handled.old.pending
+        (in_place handled.old.live lent.old)) }
 {
     if handled.live.parts.as_slice().is_empty() {
         handled.attach_call()?;
@@ -51,7 +55,8 @@ fn ask_parts(
     effects: &mut Effects,
 ) -> Result<Sites, NoMemory>
     ensures asked { IfOk result (λ asked. asked ≡ handled.now.live.parts) }
-    ensures effects { OnOk result (effects.new ≡ with_each_message at.now.id (prepare_for at.now.catalog.now handled.now.live handled.now.pending) handled.now.live.parts effects.old) }
+    ensures effects { OnOk result (effects.new ≡
+        with_each_message at.now.id (prepare_for at.now.catalog.now handled.now.live handled.now.pending) handled.now.live.parts effects.old) }
 {
     let t = &handled.live;
     let writes = last_writes(t.ops.allocator(), t.ops.as_slice())?;

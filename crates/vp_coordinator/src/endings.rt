@@ -25,7 +25,8 @@ impl Lent {
     pub fn put_back(&mut self, handled: &mut Handled)
         requires { waits handled.old.live ≡ true }
         ensures row { self.new ≡ in_place handled.old.live self.old }
-        ensures left { handled.new ≡ record handled.old { live = standing_for handled.old.live self.old.live } }
+        ensures left { handled.new ≡
+            record handled.old { live = standing_for handled.old.live self.old.live } }
     {
         self.coordinator.put_live(&mut handled.live)
     }
@@ -33,7 +34,8 @@ impl Lent {
     /// Gives the call this answer, which is not kept.
     pub fn refuse(&mut self, handled: &mut Handled, answer: Answer) -> Result<(), NoMemory>
         requires { waits handled.old.live ≡ true }
-        ensures { OnOk result (self.new ≡ lent_reply answer handled.old.pending.port (in_place handled.old.live self.old)) }
+        ensures { OnOk result (self.new ≡
+            lent_reply answer handled.old.pending.port (in_place handled.old.live self.old)) }
     {
         let port = handled.pending.port;
         self.put_back(handled);
@@ -48,7 +50,9 @@ impl Lent {
         operation: Op,
         answer: Answer,
     ) -> Result<(), NoMemory>
-        ensures { OnOk result (self.new ≡ complete handled.old.live handled.old.pending operation answer (in_place handled.old.live self.old)) }
+        ensures { OnOk result (self.new ≡
+            complete handled.old.live handled.old.pending operation answer
+            (in_place handled.old.live self.old)) }
     {
         reply_with(handled.pending.port, &answer, &mut self.effects)?;
         add_answer(&mut handled.live, operation, answer)?;
@@ -63,7 +67,8 @@ impl Lent {
         rec: RecId,
         value: Value,
     ) -> Result<(), NoMemory>
-        ensures { OnOk result (self.new ≡ answer_read handled.old.live handled.old.pending rec value (in_place handled.old.live self.old)) }
+        ensures { OnOk result (self.new ≡
+            answer_read handled.old.live handled.old.pending rec value (in_place handled.old.live self.old)) }
     {
         let answer = Answer::Value {
             txn: handled.txn(),
@@ -80,7 +85,9 @@ impl Lent {
         rec: RecId,
         value: &Value,
     ) -> Result<(), NoMemory>
-        ensures { OnOk result (self.new ≡ answer_write handled.old.live handled.old.pending rec value.now (in_place handled.old.live self.old)) }
+        ensures { OnOk result (self.new ≡
+            answer_write handled.old.live handled.old.pending rec value.now
+            (in_place handled.old.live self.old)) }
     {
         let value = value.copy_of()?;
         let answer = Answer::Written {
@@ -121,7 +128,9 @@ impl Lent {
         name: &Name,
         holder: Owner,
     ) -> Result<(), NoMemory>
-        ensures { OnOk result (self.new ≡ close id (handling handled.old.live handled.old.pending) (ending.LockHeld name.now id holder) (in_place handled.old.live self.old)) }
+        ensures { OnOk result (self.new ≡
+            close id (handling handled.old.live handled.old.pending) (ending.LockHeld name.now id holder)
+            (in_place handled.old.live self.old)) }
     {
         let why = Ending::LockHeld {
             name: name.copy_of()?,
@@ -201,7 +210,8 @@ fn reply_with(port: u16, answer: &Answer, effects: &mut Effects) -> Result<(), N
 
 /// Adds the operation to the transaction, and keeps its answer.
 fn add_answer(t: &mut Live, operation: Op, answer: Answer) -> Result<(), NoMemory>
-    ensures { OnOk result (t.new ≡ record t.old { ops = t.old.ops ++ operation ∷ []; answers = t.old.answers ++ answer ∷ []; pending = None }) }
+    ensures { OnOk result (t.new ≡
+        record t.old { ops = t.old.ops ++ operation ∷ []; answers = t.old.answers ++ answer ∷ []; pending = None }) }
 {
     t.pending = None;
     t.ops.push(operation)?;
@@ -211,7 +221,8 @@ fn add_answer(t: &mut Live, operation: Op, answer: Answer) -> Result<(), NoMemor
 /// Gives the transaction to the journal, with its operations, and sends its commit to its parts.
 fn send_commit(id: SiteId, t: &mut Live, effects: &mut Effects) -> Result<(), NoMemory>
     ensures live { OnOk result (t.new ≡ record t.old { ops = [] }) }
-    ensures effects { OnOk result (effects.new ≡ with_messages id (message.Outcome t.old.txn true) t.old.parts (with_commit (entry_of t.old) effects.old)) }
+    ensures effects { OnOk result (effects.new ≡
+        with_messages id (message.Outcome t.old.txn true) t.old.parts (with_commit (entry_of t.old) effects.old)) }
 {
     let none = Ops::new(t.ops.allocator());
     let ops = mem::replace(&mut t.ops, none);

@@ -25,7 +25,8 @@ fn read_at(
     rec: RecId,
     site: SiteId,
 ) -> Result<(), NoMemory>
-    ensures { OnOk result (lent.new ≡ read_at id handled.old.live handled.old.pending rec site (in_place handled.old.live lent.old)) }
+    ensures { OnOk result (lent.new ≡
+        read_at id handled.old.live handled.old.pending rec site (in_place handled.old.live lent.old)) }
 {
     add_reader(&mut handled.live, rec, site)?;
     let asked = alone(handled.live.parts.allocator(), site)?;
@@ -48,7 +49,8 @@ fn read_there(
 ) -> Result<(), NoMemory>
     requires { waits handled.old.live ≡ true }
     ensures { OnOk result (lent.new ≡
-        for_some (first (other_holders_in at.now.catalog.now at.now.id (option_copied at.now.held) rec)) (read_at at.now.id handled.old.live handled.old.pending rec) (in_place handled.old.live lent.old)) }
+        for_some (first (other_holders_in at.now.catalog.now at.now.id (option_copied at.now.held) rec)) (read_at at.now.id handled.old.live handled.old.pending rec)
+        (in_place handled.old.live lent.old)) }
 {
     match at.catalog.least_other_holder(at.id, at.held, rec) {
         None => {
@@ -88,7 +90,8 @@ fn read(
 ) -> Result<(), NoMemory>
     requires { waits handled.old.live ≡ true }
     ensures { OnOk result (lent.new ≡
-        read at.now.catalog.now at.now.id (option_copied at.now.held) handled.old.live handled.old.pending name.now rec (in_place handled.old.live lent.old)) }
+        read at.now.catalog.now at.now.id (option_copied at.now.held) handled.old.live handled.old.pending name.now rec
+        (in_place handled.old.live lent.old)) }
 {
     match own_write(&handled.live, rec)? {
         Some(value) => lent.answer_read(handled, rec, value),
@@ -113,7 +116,8 @@ pub fn read_named(
     requires { waits handled.old.live ≡ true }
     ensures { OnOk result (lent.new ≡
         with_record at.now.catalog.now (option_copied at.now.held) handled.old.live handled.old.pending name.now
-        (read at.now.catalog.now at.now.id (option_copied at.now.held) handled.old.live handled.old.pending name.now) (in_place handled.old.live lent.old)) }
+        (read at.now.catalog.now at.now.id (option_copied at.now.held) handled.old.live handled.old.pending name.now)
+        (in_place handled.old.live lent.old)) }
 {
     match usable_record(at, handled, name)? {
         Ok(rec) => read(lent, at, handled, name, rec),
@@ -123,7 +127,8 @@ pub fn read_named(
 
 /// Makes the site, which is to read the record, a part of the transaction.
 fn add_reader(t: &mut Live, rec: RecId, site: SiteId) -> Result<(), NoMemory>
-    ensures { OnOk result (t.new ≡ record t.old { remote = t.old.remote ++ (site, rec) ∷ []; parts = put_number site t.old.parts }) }
+    ensures { OnOk result (t.new ≡
+        record t.old { remote = t.old.remote ++ (site, rec) ∷ []; parts = put_number site t.old.parts }) }
 {
     t.remote.push((site, rec))?;
     put_in(&mut t.parts, site)

@@ -46,7 +46,8 @@ fn usable_as(
     name: &Name,
     rec: RecId,
 ) -> Result<Result<RecId, Answer>, NoMemory>
-    ensures { IfOk result (λ found. found ≡ usable_as at.now.catalog.now (option_copied at.now.held) handled.now.live handled.now.pending name.now rec) }
+    ensures { IfOk result (λ found. found ≡
+        usable_as at.now.catalog.now (option_copied at.now.held) handled.now.live handled.now.pending name.now rec) }
 {
     let txn = handled.live.txn;
     let number = handled.number();
@@ -67,7 +68,8 @@ fn inaccessible(
     name: &Name,
     rec: RecId,
 ) -> Result<Answer, NoMemory>
-    ensures { IfOk result (λ told. told ≡ answer.Inaccessible handled.now.live.txn handled.now.pending.number name.now (inside at.now.catalog.now rec (members_in (option_copied at.now.held))) (total at.now.catalog.now rec)) }
+    ensures { IfOk result (λ told. told ≡
+        answer.Inaccessible handled.now.live.txn handled.now.pending.number name.now (inside at.now.catalog.now rec (members_in (option_copied at.now.held))) (total at.now.catalog.now rec)) }
 {
     Ok(Answer::Inaccessible {
         txn: handled.txn(),
@@ -84,7 +86,8 @@ pub fn usable_record(
     handled: &Handled,
     name: &Name,
 ) -> Result<Result<RecId, Answer>, NoMemory>
-    ensures { IfOk result (λ found. found ≡ usable_record at.now.catalog.now (option_copied at.now.held) handled.now.live handled.now.pending name.now) }
+    ensures { IfOk result (λ found. found ≡
+        usable_record at.now.catalog.now (option_copied at.now.held) handled.now.live handled.now.pending name.now) }
 {
     match at.catalog.find(name) {
         None => Ok(Err(Answer::NoRecord {

@@ -26,7 +26,8 @@ fn write_at(
     sites: Sites,
 ) -> Result<(), NoMemory>
     requires { is_empty sites ≡ false }
-    ensures { OnOk result (lent.new ≡ write_at id handled.old.live handled.old.pending rec sites (in_place handled.old.live lent.old)) }
+    ensures { OnOk result (lent.new ≡
+        write_at id handled.old.live handled.old.pending rec sites (in_place handled.old.live lent.old)) }
 {
     ask_to_write(id, handled, rec, sites.as_slice(), &mut lent.effects)?;
     put_all(&mut handled.live.parts, sites.as_slice())?;
@@ -41,7 +42,8 @@ fn write_elsewhere(
     wanted: &NamedValue<'_>,
 ) -> Result<(), NoMemory>
     ensures { OnOk result (lent.new ≡
-        write_elsewhere at.now.catalog.now at.now.id (option_copied at.now.held) handled.old.live handled.old.pending wanted.now.rec wanted.now.value.now (in_place handled.old.live lent.old)) }
+        write_elsewhere at.now.catalog.now at.now.id (option_copied at.now.held) handled.old.live handled.old.pending wanted.now.rec wanted.now.value.now
+        (in_place handled.old.live lent.old)) }
 {
     let asked = at.catalog.other_holders(at.id, at.held, wanted.rec)?;
     if asked.as_slice().is_empty() {
@@ -61,7 +63,8 @@ fn write_here(
 ) -> Result<(), NoMemory>
     ensures { OnOk result (lent.new ≡
         lock_here at.now.id handled.old.live handled.old.pending wanted.now.name.now wanted.now.rec true
-        (write_elsewhere at.now.catalog.now at.now.id (option_copied at.now.held) handled.old.live handled.old.pending wanted.now.rec wanted.now.value.now) (in_place handled.old.live lent.old)) }
+        (write_elsewhere at.now.catalog.now at.now.id (option_copied at.now.held) handled.old.live handled.old.pending wanted.now.rec wanted.now.value.now)
+        (in_place handled.old.live lent.old)) }
 {
     match lent.here.locks.take_exclusive(wanted.rec, handled.txn()) {
         Ok(()) => write_elsewhere(lent, at, handled, wanted),
@@ -78,7 +81,8 @@ fn write(
     wanted: &NamedValue<'_>,
 ) -> Result<(), NoMemory>
     ensures { OnOk result (lent.new ≡
-        write at.now.catalog.now at.now.id (option_copied at.now.held) handled.old.live handled.old.pending wanted.now.name.now wanted.now.value.now wanted.now.rec (in_place handled.old.live lent.old)) }
+        write at.now.catalog.now at.now.id (option_copied at.now.held) handled.old.live handled.old.pending wanted.now.name.now wanted.now.value.now wanted.now.rec
+        (in_place handled.old.live lent.old)) }
 {
     if wrote(&handled.live, wanted.rec) {
         lent.answer_write(handled, wanted.rec, wanted.value)
@@ -101,7 +105,8 @@ pub fn write_named(
     requires { waits handled.old.live ≡ true }
     ensures { OnOk result (lent.new ≡
         with_record at.now.catalog.now (option_copied at.now.held) handled.old.live handled.old.pending name.now
-        (write at.now.catalog.now at.now.id (option_copied at.now.held) handled.old.live handled.old.pending name.now value.now) (in_place handled.old.live lent.old)) }
+        (write at.now.catalog.now at.now.id (option_copied at.now.held) handled.old.live handled.old.pending name.now value.now)
+        (in_place handled.old.live lent.old)) }
 {
     match usable_record(at, handled, name)? {
         Ok(rec) => write(lent, at, handled, &NamedValue { name, rec, value }),

@@ -36,8 +36,10 @@ impl Stepped {
 
     /// Locks the record for the transaction, which gets a part here if it has none.
     fn lock(&mut self, request: &Request, exclusive: bool) -> Result<(), PartFault>
-        ensures told { lock_refused result ≡ lock_refusal self.old.site.held request.now.txn request.now.view request.now.rec exclusive self.old.site.participant self.old.site.locks }
-        ensures granted { OnOk result (self.new ≡ self.old |> change_locks (with_lock request.now.rec exclusive (owner.Txn request.now.txn)) |> change_participant (with_part request.now.txn request.now.view)) }
+        ensures told { lock_refused result ≡
+            lock_refusal self.old.site.held request.now.txn request.now.view request.now.rec exclusive self.old.site.participant self.old.site.locks }
+        ensures granted { OnOk result (self.new ≡
+            self.old |> change_locks (with_lock request.now.rec exclusive (owner.Txn request.now.txn)) |> change_participant (with_part request.now.txn request.now.view)) }
         ensures refused { IfSome (lock_refused result) (λ why. self.new ≡ self.old) }
     {
         let locks = &mut self.lent.here.locks;
@@ -72,7 +74,8 @@ impl Stepped {
 
     /// Refuses the request if the site holds another view, and else ignores it: there is no copy of the record here.
     fn pass_over(&mut self, request: &Request, from: SiteId) -> Result<(), NoMemory>
-        ensures { OnOk result (self.new ≡ (if holds_view self.old.site request.now.view then self.old else refuse_view request.now.txn request.now.number from self.old)) }
+        ensures { OnOk result (self.new ≡
+            (if holds_view self.old.site request.now.view then self.old else refuse_view request.now.txn request.now.number from self.old)) }
     {
         if self.holds_view(request.view) {
             return Ok(());
@@ -89,7 +92,8 @@ impl Stepped {
     /// Takes a shared lock on the copy of the record here, and answers with its value.
     #[tactic(auto, unfolding(vp_model::specs::Messages::on_read_request, vp_model::specs::Messages::on_request, vp_model::specs::Messages::lock_copy))]
     pub fn on_read_request(&mut self, from: SiteId, request: &Request) -> Result<(), NoMemory>
-        ensures { OnOk result (self.new ≡ on_read_request from request.now.txn request.now.view request.now.number request.now.rec self.old) }
+        ensures { OnOk result (self.new ≡
+            on_read_request from request.now.txn request.now.view request.now.number request.now.rec self.old) }
     {
         let Request { txn, number, .. } = *request;
         match self.copy_here(request.rec)? {
@@ -109,7 +113,8 @@ impl Stepped {
     /// Takes an exclusive lock on the copy of the record here. The value comes later, with the transaction's prepare message.
     #[tactic(auto, unfolding(vp_model::specs::Messages::on_write_request, vp_model::specs::Messages::on_request, vp_model::specs::Messages::lock_copy))]
     pub fn on_write_request(&mut self, from: SiteId, request: &Request) -> Result<(), NoMemory>
-        ensures { OnOk result (self.new ≡ on_write_request from request.now.txn request.now.view request.now.number request.now.rec self.old) }
+        ensures { OnOk result (self.new ≡
+            on_write_request from request.now.txn request.now.view request.now.number request.now.rec self.old) }
     {
         let Request { txn, number, .. } = *request;
         if self.lent.here.copies.has(request.rec) {
@@ -138,7 +143,8 @@ impl Stepped {
     /// chapter 7). A part that lacks one of its locks, or has ended, sends nothing.
     #[tactic(auto, unfolding(vp_model::specs::Messages::on_prepare), using(crate::proofs::Voting::prepare_row))]
     pub fn on_prepare(&mut self, from: SiteId, asked: &Prepare<'_>) -> Result<(), NoMemory>
-        ensures { OnOk result (self.new ≡ on_prepare from asked.now.txn asked.now.view asked.now.number asked.now.reads.now asked.now.writes.now self.old) }
+        ensures { OnOk result (self.new ≡
+            on_prepare from asked.now.txn asked.now.view asked.now.number asked.now.reads.now asked.now.writes.now self.old) }
     {
         let locks = &self.lent.here.locks;
         match self.participant.prepare(locks, self.views.held(), asked) {
@@ -156,7 +162,8 @@ impl Stepped {
 
     /// Ends the part of the transaction, and frees its locks.
     fn end_here(&mut self, txn: TxnId) -> Result<Settled, NoMemory>
-        ensures part { OnOk result (self.new ≡ self.old |> change_participant (with_ended (is_some self.old.site.held) txn) |> change_locks (without_owner (owner.Txn txn))) }
+        ensures part { OnOk result (self.new ≡
+            self.old |> change_participant (with_ended (is_some self.old.site.held) txn) |> change_locks (without_owner (owner.Txn txn))) }
         ensures doubt { IfOk result (λ settled. settled.doubt ≡ doubt_ended txn self.old.site.doubts) }
     {
         let locks = &mut self.lent.here.locks;
@@ -170,7 +177,8 @@ impl Stepped {
         commit: bool,
         doubt: &(ViewId, Writes),
     ) -> Result<(), NoMemory>
-        ensures { OnOk result (self.new ≡ end_doubt txn commit (record { txn = txn; view = doubt.now.0; writes = doubt.now.1 }) self.old) }
+        ensures { OnOk result (self.new ≡
+            end_doubt txn commit (record { txn = txn; view = doubt.now.0; writes = doubt.now.1 }) self.old) }
     {
         if commit {
             self.lent.here.copies.write(&doubt.0, doubt.1.as_slice())?;

@@ -32,7 +32,8 @@ impl Stepped {
 
     /// The other holders in the view that have not answered for the copy under refresh; none where the copy is not under refresh.
     fn unanswered(&self, catalog: &Catalog, rec: RecId) -> Result<Option<Sites>, NoMemory>
-        ensures { IfOk result (λ sites. sites ≡ option_map (unanswered catalog.now self.now.site) (refreshing_of rec self.now.site.refresh)) }
+        ensures { IfOk result (λ sites. sites ≡
+            option_map (unanswered catalog.now self.now.site) (refreshing_of rec self.now.site.refresh)) }
     {
         self.refresh
             .missing(catalog, self.id, self.views.held(), rec)
@@ -40,7 +41,8 @@ impl Stepped {
 
     /// Whether the copy is under refresh, and the site was asked for its copy and has not answered.
     fn awaits(&self, catalog: &Catalog, rec: RecId, from: SiteId) -> Result<bool, NoMemory>
-        ensures { IfOk result (λ awaits. awaits ≡ option_map_or (λ r. has (unanswered catalog.now self.now.site r) from) (refreshing_of rec self.now.site.refresh) false) }
+        ensures { IfOk result (λ awaits. awaits ≡
+            option_map_or (λ r. has (unanswered catalog.now self.now.site r) from) (refreshing_of rec self.now.site.refresh) false) }
     {
         Ok(match self.unanswered(catalog, rec)? {
             None => false,
@@ -50,7 +52,8 @@ impl Stepped {
 
     /// Whether the copy is under refresh, and no answer is missing.
     fn has_all_answers(&self, catalog: &Catalog, rec: RecId) -> Result<bool, NoMemory>
-        ensures { IfOk result (λ all. all ≡ option_map_or (λ r. is_empty (unanswered catalog.now self.now.site r)) (refreshing_of rec self.now.site.refresh) false) }
+        ensures { IfOk result (λ all. all ≡
+            option_map_or (λ r. is_empty (unanswered catalog.now self.now.site r)) (refreshing_of rec self.now.site.refresh) false) }
     {
         Ok(match self.unanswered(catalog, rec)? {
             None => false,
@@ -81,7 +84,8 @@ impl Stepped {
 
     /// Ends the refresh of the copy, which becomes the newest of this copy and the answers.
     fn end_refresh(&mut self, rec: RecId, own: &Stored) -> Result<(), NoMemory>
-        ensures { OnOk result (self.new ≡ for_some (refreshing_of rec self.old.site.refresh) (λ r o. o |> take_newer rec own.now (newest own.now r.answers) |> unlist rec) self.old) }
+        ensures { OnOk result (self.new ≡
+            for_some (refreshing_of rec self.old.site.refresh) (λ r o. o |> take_newer rec own.now (newest own.now r.answers) |> unlist rec) self.old) }
     {
         match self.refresh.newest(rec, own)? {
             None => Ok(()),
@@ -224,7 +228,8 @@ impl Stepped {
         from: SiteId,
         answer: &RefreshAnswer<'_>,
     ) -> Result<(), NoMemory>
-        ensures { OnOk result (self.new ≡ on_refresh_answer catalog.now from answer.now.view answer.now.rec answer.now.stored.now self.old) }
+        ensures { OnOk result (self.new ≡
+            on_refresh_answer catalog.now from answer.now.view answer.now.rec answer.now.stored.now self.old) }
     {
         let rec = answer.rec;
         if !self.holds_view(answer.view) || !self.awaits(catalog, rec, from)? {

@@ -14,7 +14,8 @@ use vp_refresh::RefreshEntry;
 /// Ends the invitation: the sites that have accepted are the members of the view, which this site then holds.
 #[tactic(auto, unfolding(vp_model::specs::Step::fix_view, vp_model::specs::Step::fix, vp_model::specs::Views::hold))]
 fn fix_view(stepped: &mut Stepped, catalog: &Catalog) -> Result<(), NoMemory>
-    ensures { OnOk result (stepped.new ≡ option_map_or (λ inviting. fix_view catalog.now inviting stepped.old) stepped.old.site.inviting stepped.old) }
+    ensures { OnOk result (stepped.new ≡
+        option_map_or (λ inviting. fix_view catalog.now inviting stepped.old) stepped.old.site.inviting stepped.old) }
 {
     if !stepped.views.fix(&mut stepped.lent.effects)? {
         return Ok(());
@@ -99,7 +100,8 @@ struct Asking<'c, 'v> {
 
 impl Asking<'_, '_> {
     fn ask(&self, asked: &RefreshEntry, effects: &mut Effects) -> Result<(), NoMemory>
-        ensures { OnOk result (effects.new ≡ ask self.now.catalog.now self.now.id (option_copied self.now.held) self.now.view asked.now effects.old) }
+        ensures { OnOk result (effects.new ≡
+            ask self.now.catalog.now self.now.id (option_copied self.now.held) self.now.view asked.now effects.old) }
     {
         let missing = asked.missing(self.catalog, self.id, self.held)?;
         let request = Message::RefreshRequest {
@@ -110,7 +112,8 @@ impl Asking<'_, '_> {
     }
 
     fn ask_each(&self, refresh: &[RefreshEntry], effects: &mut Effects) -> Result<(), NoMemory>
-        ensures { OnOk result (effects.new ≡ ask_each self.now.catalog.now self.now.id (option_copied self.now.held) self.now.view refresh.now effects.old) }
+        ensures { OnOk result (effects.new ≡
+            ask_each self.now.catalog.now self.now.id (option_copied self.now.held) self.now.view refresh.now effects.old) }
     {
         for asked in refresh {
             self.ask(asked, effects)?;
@@ -122,7 +125,8 @@ impl Asking<'_, '_> {
 /// Asks again for the copies of the other holders that have not answered.
 #[tactic(auto, using(crate::proofs::Asking::asked_again))]
 fn ask_again_all(stepped: &mut Stepped, catalog: &Catalog, view: ViewId) -> Result<(), NoMemory>
-    ensures { OnOk result (stepped.new ≡ ask_again_all catalog.now view stepped.old.site.refresh stepped.old) }
+    ensures { OnOk result (stepped.new ≡
+        ask_again_all catalog.now view stepped.old.site.refresh stepped.old) }
 {
     let asking = Asking {
         catalog,
