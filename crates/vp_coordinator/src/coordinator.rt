@@ -57,11 +57,11 @@ impl Coordinator {
 
     /// Sends each decision again to the sites that have not acknowledged it. After want of memory the effects may be changed in
     /// part: drop them.
-    #[tactic(auto, using(crate::proofs::Told::sent_again))]
     pub fn resend(&mut self, id: SiteId) -> Result<(), NoMemory>
         ensures { OnOk result (self.new ≡ resend id self.old.decisions self.old) }
     {
-        self.transactions.resend(id, &mut self.effects)
+        self.transactions.resend(id, &mut self.effects)?;
+        Ok(())
     }
 
     /// Takes the effects of a step, and leaves none.
