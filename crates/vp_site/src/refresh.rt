@@ -178,7 +178,7 @@ impl Stepped {
         ensures { IfOk result (λ recs. recs.items ≡ usable_here catalog.now self.now.site) }
     {
         let mut recs = Vec::new(catalog.sites().allocator());
-        for (rec, _) in self.coordinator.here.copies.as_slice() {
+        for (rec, _) in self.copies().as_slice() {
             if self.is_open(catalog, *rec) {
                 recs.push(*rec)?;
             }

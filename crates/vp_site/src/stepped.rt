@@ -10,7 +10,7 @@ use std::marker::Model;
 use vp_base::{
     Answer, CopyOf, Effects, LogRecord, Message, NoMemory, RecId, SiteId, Stored, View, ViewId,
 };
-use vp_coordinator::Coordinator;
+use vp_coordinator::{Coordinator, SiteCopies};
 use vp_participant::Participant;
 use vp_refresh::Refresh;
 use vp_views::Views;
@@ -114,6 +114,12 @@ impl Stepped {
         ensures { result ≡ holds_view self.now.site id }
     {
         self.views.held().is_some_and(|view| view.id == id)
+    }
+
+    pub(crate) fn copies(&self) -> &SiteCopies
+        ensures { result.now ≡ self.now.site.copies }
+    {
+        &self.coordinator.here.copies
     }
 
     /// Copies what is stored here of the record; none where the site is no holder of it.

@@ -125,7 +125,6 @@ impl Asking<'_, '_> {
 }
 
 /// Asks again for the copies of the other holders that have not answered.
-#[tactic(auto, using(crate::proofs::Asking::asked_again))]
 fn ask_again_all(stepped: &mut Stepped, catalog: &Catalog, view: ViewId) -> Result<(), NoMemory>
     ensures { OnOk result (stepped.new ≡
         ask_again_all catalog.now view stepped.old.site.refresh stepped.old) }
@@ -136,5 +135,6 @@ fn ask_again_all(stepped: &mut Stepped, catalog: &Catalog, view: ViewId) -> Resu
         id: stepped.id,
         view,
     };
-    asking.ask_each(stepped.refresh.as_slice(), &mut stepped.coordinator.effects)
+    asking.ask_each(stepped.refresh.as_slice(), &mut stepped.coordinator.effects)?;
+    Ok(())
 }

@@ -18,7 +18,8 @@ pub fn leave(stepped: &mut Stepped) -> Result<(), NoMemory>
     ensures row { OnOk result (stepped.new ≡ leave stepped.old) }
     ensures apart { OnOk result (IsApart stepped.new.site.views) }
 {
-    stepped.coordinator.abandon(stepped.id)?;
+    let id = stepped.id;
+    stepped.coordinator.abandon(id)?;
     stepped
         .participant
         .leave(&mut stepped.coordinator.here.locks);
