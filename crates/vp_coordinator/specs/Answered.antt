@@ -1,15 +1,13 @@
 -- What an answer of another site does to the call that waits for it.
 use Rattle.std.specs.Prelude.{ℕ, ◌==◌, Bool, true, false, if◌then◌else◌, List, Option, Some, None, option_map}
-use Rattle.vp_model.specs.Types.{ViewId, Call, Message, Obstacle, Pending, Live, Ending}
+use Rattle.vp_model.specs.Types.{ViewId, Call, Obstacle, Pending, Live, Ending}
 use Rattle.vp_base.specs.declared.site.Ending.TheVariants.{LockHeld, ViewChanged}
 use Rattle.vp_model.specs.Types.call
-use Rattle.vp_model.specs.Types.message
 use Rattle.vp_model.specs.Types.obstacle
 use Rattle.vp_model.specs.Words.{for_some}
 use Rattle.vp_model.specs.Catalogue.{Catalogue, find_record}
 use Rattle.vp_model.specs.Site.{Lent}
 use Rattle.vp_model.specs.Transactions.{close}
-use Rattle.vp_model.specs.Answers.{read_answered, write_answered, voted}
 
 -- the record that is read by a call with this number
 abbrev pub wanted_read : Catalogue → ℕ → Pending → Call → Option ℕ
@@ -38,11 +36,3 @@ refusal from number why view p = if p.number == number then refused_end from why
 -- what a refusal does to the transaction whose call waits
 abbrev pub refusal_at : ℕ → ℕ → ℕ → Obstacle → Live → Pending → Lent → Lent
 refusal_at id from number why t p l = for_some (refusal from number why t.view p) (close id t) l
-
--- what an answer, a refusal or a vote does to the transaction whose call waits for it
-abbrev pub answered : Catalogue → ℕ → ℕ → Message → Live → Pending → Lent → Lent
-answered catalogue id from (message.ReadAnswer txn number value) t p l = read_answered catalogue from number value t p p.call l
-answered catalogue id from (message.WriteAnswer txn number) t p l = write_answered catalogue from number t p p.call l
-answered catalogue id from (message.Refuse txn number why) t p l = refusal_at id from number why t p l
-answered catalogue id from (message.Vote txn) t p l = voted catalogue id from t p p.call l
-answered catalogue id from _ t p l = l

@@ -1,15 +1,14 @@
 //! What the answers of other sites do to a call that waits for them, and what the inquiries of other sites do.
 
 ghost use Rattle.std.specs.Prelude.{◌≡◌, [], OnOk, IfOk, option_copied, true, false};
-ghost use Rattle.vp_model.specs.Words.{is_empty, for_some};
 ghost use Rattle.vp_model.specs.Calls.{answer_read, answer_write};
-ghost use Rattle.vp_model.specs.Answers.{count_in, read_answered, write_answered, voted, on_ack, on_inquire, on_answer};
+ghost use Rattle.vp_model.specs.Answers.{count_in, read_answered, write_answered, voted, on_read_answer, on_write_answer, on_refuse, on_vote, on_ack, on_inquire};
 ghost use Rattle.vp_model.specs.Transactions.{decide};
-ghost use Rattle.vp_transactions.specs.Waiting.{waits, waiting_call};
+ghost use Rattle.vp_transactions.specs.Waiting.{waits};
 ghost use Rattle.vp_coordinator.specs.InPlace.{in_place};
-ghost use Rattle.vp_coordinator.specs.Answered.{wanted_read, wanted_write, is_commit, refused_end, refusal, refusal_at, answered};
+ghost use Rattle.vp_coordinator.specs.Answered.{wanted_read, wanted_write, is_commit, refused_end, refusal, refusal_at};
 
-use crate::lent::Lent;
+use crate::coordinator::Coordinator;
 use vp_base::{
     Call, CallNo, CopyOf, Ending, LogRecord, Message, NoMemory, Obstacle, Pending, RecId, SiteId,
     TxnId, Value, ViewId,
@@ -17,7 +16,7 @@ use vp_base::{
 use vp_catalog::{Catalog, others_of};
 use vp_transactions::Handled;
 
-/// What the row of an answer reads: the sender, the site that received it, and the catalogue.
+/// What the row of a message reads beside it: the catalogue, the sender, and the site that has received it.
 #[derive(Clone, Copy)]
 pub struct Incoming<'a> {
     pub catalog: &'a Catalog,
@@ -90,7 +89,8 @@ fn refusal(
     why: &Obstacle,
     handled: &Handled,
 ) -> Result<Option<Ending>, NoMemory>
-    ensures { IfOk result (λ end. end ≡ refusal from number why.now handled.now.live.view handled.now.pending) }
+    ensures { IfOk result (λ end. end ≡
+        refusal from number why.now handled.now.live.view handled.now.pending) }
 {
     if handled.pending.number == number {
         refused_end(from, why, handled.live.view, &handled.pending.call)
@@ -102,7 +102,7 @@ fn refusal(
 /// Counts the site's answer to a read; where no other is missing, the read is answered.
 #[tactic(auto, using(crate::proofs::Rows::wait_in_place))]
 fn count_read(
-    lent: &mut Lent,
+    lent: &mut Coordinator,
     from: SiteId,
     handled: &mut Handled,
     rec: RecId,
@@ -121,8 +121,8 @@ fn count_read(
 }
 
 #[tactic(auto, using(crate::proofs::Answered::questions))]
-fn on_read_answer(
-    lent: &mut Lent,
+fn read_answered(
+    lent: &mut Coordinator,
     came: &Incoming<'_>,
     handled: &mut Handled,
     number: CallNo,
@@ -148,7 +148,7 @@ fn on_read_answer(
 /// Counts the site's lock for a write; where no other is missing, the write is answered.
 #[tactic(auto, using(crate::proofs::Rows::wait_in_place))]
 fn count_write(
-    lent: &mut Lent,
+    lent: &mut Coordinator,
     from: SiteId,
     handled: &mut Handled,
     rec: RecId,
@@ -167,8 +167,8 @@ fn count_write(
 }
 
 #[tactic(auto, using(crate::proofs::Answered::questions))]
-fn on_write_answer(
-    lent: &mut Lent,
+fn write_answered(
+    lent: &mut Coordinator,
     came: &Incoming<'_>,
     handled: &mut Handled,
     number: CallNo,
@@ -188,15 +188,17 @@ fn on_write_answer(
 }
 
 #[tactic(auto, using(crate::proofs::Rows::close_own))]
-fn on_refuse(
-    lent: &mut Lent,
+fn refused(
+    lent: &mut Coordinator,
     came: &Incoming<'_>,
     handled: &mut Handled,
     number: CallNo,
     why: &Obstacle,
 ) -> Result<(), NoMemory>
     requires { waits handled.old.live ≡ true }
-    ensures { OnOk result (lent.new ≡ refusal_at came.now.id came.now.from number why.now handled.old.live handled.old.pending (in_place handled.old.live lent.old)) }
+    ensures { OnOk result (lent.new ≡
+        refusal_at came.now.id came.now.from number why.now handled.old.live handled.old.pending
+        (in_place handled.old.live lent.old)) }
 {
     match refusal(came.from, number, why, handled)? {
         None => {
@@ -210,7 +212,11 @@ fn on_refuse(
 /// Counts the site's yes vote; where no other is missing, the transaction commits. (Two-phase commit: Bernstein, Hadzilacos and
 /// Goodman 1987, chapter 7.)
 #[tactic(auto, using(crate::proofs::Rows::wait_in_place))]
-fn count_vote(lent: &mut Lent, came: &Incoming<'_>, handled: &mut Handled) -> Result<(), NoMemory>
+fn count_vote(
+    lent: &mut Coordinator,
+    came: &Incoming<'_>,
+    handled: &mut Handled,
+) -> Result<(), NoMemory>
     ensures { OnOk result (lent.new ≡
         count_in came.now.from handled.old.live handled.old.pending (decide came.now.catalog.now came.now.id handled.old.live)
         (in_place handled.old.live lent.old)) }
@@ -224,7 +230,7 @@ fn count_vote(lent: &mut Lent, came: &Incoming<'_>, handled: &mut Handled) -> Re
 }
 
 #[tactic(auto, using(crate::proofs::Answered::questions))]
-fn on_vote(lent: &mut Lent, came: &Incoming<'_>, handled: &mut Handled) -> Result<(), NoMemory>
+fn voted(lent: &mut Coordinator, came: &Incoming<'_>, handled: &mut Handled) -> Result<(), NoMemory>
     requires { waits handled.old.live ≡ true }
     ensures { OnOk result (lent.new ≡
         voted came.now.catalog.now came.now.id came.now.from handled.old.live handled.old.pending handled.old.pending.call
@@ -237,88 +243,101 @@ fn on_vote(lent: &mut Lent, came: &Incoming<'_>, handled: &mut Handled) -> Resul
     Ok(())
 }
 
-#[tactic(auto, unfolding(vp_model::specs::Answers::on_ack))]
-fn on_ack(lent: &mut Lent, from: SiteId, txn: &TxnId) -> Result<(), NoMemory>
-    ensures { OnOk result (lent.new ≡ on_ack from txn.now lent.old) }
-{
-    if !lent.coordinator.waits_for(txn, from) {
-        return Ok(());
-    }
-    lent.coordinator.acknowledge(txn, from);
-    lent.effects.force(LogRecord::Acked {
-        txn: *txn,
-        site: from,
-    })
-}
-
-/// Answers an inquiry. A coordinator without a decision answers abort, which is presumed abort; it is silent while the transaction
-/// is live.
-#[tactic(auto, unfolding(vp_model::specs::Answers::on_inquire))]
-fn on_inquire(lent: &mut Lent, id: SiteId, from: SiteId, txn: &TxnId) -> Result<(), NoMemory>
-    ensures { OnOk result (lent.new ≡ on_inquire id from txn.now lent.old) }
-{
-    if txn.site == id && !lent.coordinator.is_live(txn) {
-        let commit = lent.coordinator.is_decided(txn);
-        return lent
-            .effects
-            .send(id, from, Message::Outcome { txn: *txn, commit });
-    }
-    Ok(())
-}
-
-/// Does what an answer, a refusal or a vote does to the call that waits for it.
-fn answered(
-    lent: &mut Lent,
-    came: &Incoming<'_>,
-    handled: &mut Handled,
-    message: &Message,
-) -> Result<(), NoMemory>
-    requires { waits handled.old.live ≡ true }
-    ensures { OnOk result (lent.new ≡
-        answered came.now.catalog.now came.now.id came.now.from message.now handled.old.live handled.old.pending (in_place handled.old.live lent.old)) }
-{
-    match message {
-        Message::ReadAnswer { number, value, .. } => {
-            on_read_answer(lent, came, handled, *number, value.as_ref())
-        }
-        Message::WriteAnswer { number, .. } => on_write_answer(lent, came, handled, *number),
-        Message::Refuse { number, why, .. } => on_refuse(lent, came, handled, *number, why),
-        Message::Vote { .. } => on_vote(lent, came, handled),
-        _ => {
-            lent.put_back(handled);
-            Ok(())
+/// The messages of other sites for the transactions that this site began. After want of memory what is lent may be changed in part:
+/// drop it.
+impl Coordinator {
+    /// Takes the value that another site sends for the read that waits for it.
+    #[tactic(auto, using(crate::proofs::Answered::awaited))]
+    pub fn on_read_answer(
+        &mut self,
+        came: &Incoming<'_>,
+        txn: &TxnId,
+        number: CallNo,
+        value: &Value,
+    ) -> Result<(), NoMemory>
+        ensures { OnOk result (self.new ≡
+            on_read_answer came.now.catalog.now came.now.from txn.now number value.now self.old) }
+    {
+        match self.transactions.take_waiting(txn, came.from)? {
+            None => Ok(()),
+            Some(mut handled) => read_answered(self, came, &mut handled, number, value),
         }
     }
-}
 
-/// Handles an answer, a refusal or a vote, where a call of the transaction waits for it.
-fn on_awaited(
-    lent: &mut Lent,
-    came: &Incoming<'_>,
-    txn: &TxnId,
-    message: &Message,
-) -> Result<(), NoMemory>
-    ensures { OnOk result (lent.new ≡
-        for_some (waiting_call txn.now came.now.from lent.old.live) (λ h. answered came.now.catalog.now came.now.id came.now.from message.now h.live h.pending) lent.old) }
-{
-    match lent.coordinator.take_waiting(txn, came.from)? {
-        None => Ok(()),
-        Some(mut handled) => answered(lent, came, &mut handled, message),
+    /// Takes the lock of another site for the write that waits for it.
+    #[tactic(auto, using(crate::proofs::Answered::awaited))]
+    pub fn on_write_answer(
+        &mut self,
+        came: &Incoming<'_>,
+        txn: &TxnId,
+        number: CallNo,
+    ) -> Result<(), NoMemory>
+        ensures { OnOk result (self.new ≡
+            on_write_answer came.now.catalog.now came.now.from txn.now number self.old) }
+    {
+        match self.transactions.take_waiting(txn, came.from)? {
+            None => Ok(()),
+            Some(mut handled) => write_answered(self, came, &mut handled, number),
+        }
     }
-}
 
-/// Does what a message does to the transactions that this site began.
-#[tactic(auto, unfolding(vp_model::specs::Answers::on_answer), using(crate::proofs::Answered::awaited))]
-pub fn on_answer(lent: &mut Lent, came: &Incoming<'_>, message: &Message) -> Result<(), NoMemory>
-    ensures { OnOk result (lent.new ≡ on_answer came.now.catalog.now came.now.id came.now.from message.now lent.old) }
-{
-    match message {
-        Message::ReadAnswer { txn, .. } => on_awaited(lent, came, txn, message),
-        Message::WriteAnswer { txn, .. } => on_awaited(lent, came, txn, message),
-        Message::Refuse { txn, .. } => on_awaited(lent, came, txn, message),
-        Message::Vote { txn } => on_awaited(lent, came, txn, message),
-        Message::Ack { txn } => on_ack(lent, came.from, txn),
-        Message::Inquire { txn } => on_inquire(lent, came.id, came.from, txn),
-        _ => Ok(()),
+    /// Aborts the transaction whose call waits for the site, which has refused it.
+    #[tactic(auto, using(crate::proofs::Answered::awaited))]
+    pub fn on_refuse(
+        &mut self,
+        came: &Incoming<'_>,
+        txn: &TxnId,
+        number: CallNo,
+        why: &Obstacle,
+    ) -> Result<(), NoMemory>
+        ensures { OnOk result (self.new ≡
+            on_refuse came.now.id came.now.from txn.now number why.now self.old) }
+    {
+        match self.transactions.take_waiting(txn, came.from)? {
+            None => Ok(()),
+            Some(mut handled) => refused(self, came, &mut handled, number, why),
+        }
+    }
+
+    /// Takes the yes vote of the site for the commit that waits for it.
+    #[tactic(auto, using(crate::proofs::Answered::awaited))]
+    pub fn on_vote(&mut self, came: &Incoming<'_>, txn: &TxnId) -> Result<(), NoMemory>
+        ensures { OnOk result (self.new ≡
+            on_vote came.now.catalog.now came.now.id came.now.from txn.now self.old) }
+    {
+        match self.transactions.take_waiting(txn, came.from)? {
+            None => Ok(()),
+            Some(mut handled) => voted(self, came, &mut handled),
+        }
+    }
+
+    /// Notes that the site knows the decision.
+    #[tactic(auto, unfolding(vp_model::specs::Answers::on_ack))]
+    pub fn on_ack(&mut self, from: SiteId, txn: &TxnId) -> Result<(), NoMemory>
+        ensures { OnOk result (self.new ≡ on_ack from txn.now self.old) }
+    {
+        if !self.transactions.waits_for(txn, from) {
+            return Ok(());
+        }
+        self.transactions.acknowledge(txn, from);
+        self.effects.force(LogRecord::Acked {
+            txn: *txn,
+            site: from,
+        })
+    }
+
+    /// Answers an inquiry. A coordinator without a decision answers abort, which is presumed abort; it is silent while the transaction
+    /// is live.
+    #[tactic(auto, unfolding(vp_model::specs::Answers::on_inquire))]
+    pub fn on_inquire(&mut self, id: SiteId, from: SiteId, txn: &TxnId) -> Result<(), NoMemory>
+        ensures { OnOk result (self.new ≡ on_inquire id from txn.now self.old) }
+    {
+        if txn.site == id && !self.transactions.is_live(txn) {
+            let commit = self.transactions.is_decided(txn);
+            return self
+                .effects
+                .send(id, from, Message::Outcome { txn: *txn, commit });
+        }
+        Ok(())
     }
 }

@@ -3,11 +3,11 @@
 use vp_base::{SiteId, View, ViewId};
 use vp_catalog::Catalog;
 
-/// What the rows of calls read of their site and never change.
+/// What the row of a call reads of its site and never changes.
 #[derive(Clone, Copy)]
-pub struct Around<'a> {
-    pub catalog: &'a Catalog,
-    pub held: Option<&'a View>,
+pub struct Around<'c, 'v> {
+    pub catalog: &'c Catalog,
+    pub held: Option<&'v View>,
     pub id: SiteId,
     pub life: u32,
     pub promise: ViewId,

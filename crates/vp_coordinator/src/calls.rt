@@ -13,7 +13,7 @@ ghost use Rattle.vp_coordinator.specs.Lent.{around};
 
 use crate::around::Around;
 use crate::commits::commit;
-use crate::lent::Lent;
+use crate::coordinator::Coordinator;
 use crate::reads::read_named;
 use crate::writes::write_named;
 use std::alloc::Global;
@@ -55,9 +55,10 @@ fn next_number(count: usize, number: CallNo) -> CallNo
     }
 }
 
-fn next_txn(transactions: &Transactions, at: &Around<'_>) -> TxnId
+fn next_txn(transactions: &Transactions, at: &Around<'_, '_>) -> TxnId
     requires { transactions.now.seq < 2 ^ 32 - 1 }
-    ensures { result ≡ next_txn (around at.now.id at.now.life at.now.promise (option_copied at.now.held)) transactions.now }
+    ensures { result ≡
+        next_txn (around at.now.id at.now.life at.now.promise (option_copied at.now.held)) transactions.now }
 {
     TxnId {
         site: at.id,
@@ -67,34 +68,39 @@ fn next_txn(transactions: &Transactions, at: &Around<'_>) -> TxnId
 }
 
 #[tactic(auto, unfolding(vp_model::specs::Calls::start_txn))]
-fn start_txn(lent: &mut Lent, txn: &TxnId, port: u16, view: ViewId) -> Result<(), NoMemory>
+fn start_txn(lent: &mut Coordinator, txn: &TxnId, port: u16, view: ViewId) -> Result<(), NoMemory>
     requires left { lent.old.seq < 2 ^ 32 - 1 }
     requires next { txn.now.seq ≡ lent.old.seq + 1 }
     ensures { OnOk result (lent.new ≡ start_txn txn.now port view lent.old) }
 {
-    lent.coordinator.begin(txn, view)?;
+    lent.transactions.begin(txn, view)?;
     lent.effects.reply(port, Answer::Begun { txn: *txn, view })
 }
 
 #[tactic(auto, unfolding(vp_model::specs::Calls::begin_in))]
-fn begin_in(lent: &mut Lent, at: &Around<'_>, port: u16, view: &View) -> Result<(), NoMemory>
+fn begin_in(
+    lent: &mut Coordinator,
+    at: &Around<'_, '_>,
+    port: u16,
+    view: &View,
+) -> Result<(), NoMemory>
     ensures { OnOk result (lent.new ≡
         begin_in (around at.now.id at.now.life at.now.promise (option_copied at.now.held)) port view.now lent.old) }
 {
-    if lent.coordinator.live.len() >= MOST_LIVE {
+    if lent.transactions.live.len() >= MOST_LIVE {
         return lent.effects.reply(port, Answer::TooManyLive);
     }
-    if lent.coordinator.seq == u32::MAX {
+    if lent.transactions.seq == u32::MAX {
         return lent
             .effects
             .reply(port, Answer::Spent { number: 4294967295 });
     }
-    let txn = next_txn(&lent.coordinator, at);
+    let txn = next_txn(&lent.transactions, at);
     start_txn(lent, &txn, port, view.id)
 }
 
 #[tactic(auto, unfolding(vp_model::specs::Calls::on_begin))]
-fn on_begin(lent: &mut Lent, at: &Around<'_>, port: u16) -> Result<(), NoMemory>
+fn on_begin(lent: &mut Coordinator, at: &Around<'_, '_>, port: u16) -> Result<(), NoMemory>
     ensures { OnOk result (lent.new ≡
         on_begin (around at.now.id at.now.life at.now.promise (option_copied at.now.held)) port lent.old) }
 {
@@ -111,14 +117,15 @@ fn on_begin(lent: &mut Lent, at: &Around<'_>, port: u16) -> Result<(), NoMemory>
 
 #[tactic(auto, unfolding(vp_model::specs::Calls::new_call), using(crate::proofs::Rows::in_places))]
 fn new_call(
-    lent: &mut Lent,
-    at: &Around<'_>,
+    lent: &mut Coordinator,
+    at: &Around<'_, '_>,
     handled: &mut Handled,
     call: &Call,
 ) -> Result<(), NoMemory>
     requires { waits handled.old.live ≡ true }
     ensures { OnOk result (lent.new ≡
-        new_call at.now.catalog.now at.now.id (option_copied at.now.held) handled.old.live handled.old.pending call.now (in_place handled.old.live lent.old)) }
+        new_call at.now.catalog.now at.now.id (option_copied at.now.held) handled.old.live handled.old.pending call.now
+        (in_place handled.old.live lent.old)) }
 {
     match call {
         Call::Read { name, .. } => read_named(lent, at, handled, name),
@@ -136,10 +143,11 @@ fn new_call(
 }
 
 /// Gives a call that was answered its answer again.
-fn repeat(lent: &mut Lent, handled: &mut Handled) -> Result<(), NoMemory>
+fn repeat(lent: &mut Coordinator, handled: &mut Handled) -> Result<(), NoMemory>
     requires { waits handled.old.live ≡ true }
     ensures { OnOk result (lent.new ≡
-        for_some (kept_answer handled.old.pending.number handled.old.live.answers) (λ answer. lent_reply answer handled.old.pending.port) (in_place handled.old.live lent.old)) }
+        for_some (kept_answer handled.old.pending.number handled.old.live.answers) (λ answer. lent_reply answer handled.old.pending.port)
+        (in_place handled.old.live lent.old)) }
 {
     match answered_again(handled.live.answers.as_slice(), handled.number())? {
         None => {
@@ -152,15 +160,16 @@ fn repeat(lent: &mut Lent, handled: &mut Handled) -> Result<(), NoMemory>
 
 #[tactic(auto, unfolding(vp_model::specs::Calls::live_call))]
 fn live_call(
-    lent: &mut Lent,
-    at: &Around<'_>,
+    lent: &mut Coordinator,
+    at: &Around<'_, '_>,
     handled: &mut Handled,
     call: &Call,
 ) -> Result<(), NoMemory>
     requires call { call.now ≡ handled.old.pending.call }
     requires waiting { waits handled.old.live ≡ true }
     ensures { OnOk result (lent.new ≡
-        live_call at.now.catalog.now at.now.id (option_copied at.now.held) handled.old.live handled.old.pending (in_place handled.old.live lent.old)) }
+        live_call at.now.catalog.now at.now.id (option_copied at.now.held) handled.old.live handled.old.pending
+        (in_place handled.old.live lent.old)) }
 {
     let txn = handled.txn();
     let number = handled.number();
@@ -179,12 +188,16 @@ fn live_call(
 }
 
 #[tactic(auto, unfolding(vp_model::specs::Calls::on_txn_call))]
-fn on_txn_call(lent: &mut Lent, at: &Around<'_>, asked: &TxnCall<'_>) -> Result<(), NoMemory>
+fn on_txn_call(
+    lent: &mut Coordinator,
+    at: &Around<'_, '_>,
+    asked: &TxnCall<'_>,
+) -> Result<(), NoMemory>
     ensures { OnOk result (lent.new ≡
         on_txn_call at.now.catalog.now at.now.id (option_copied at.now.held) asked.now.port asked.now.txn.now asked.now.number asked.now.call.now lent.old) }
 {
-    let pending = pending_call(lent.coordinator.allocator(), asked)?;
-    match lent.coordinator.take_up(asked.txn) {
+    let pending = pending_call(lent.transactions.allocator(), asked)?;
+    match lent.transactions.take_up(asked.txn) {
         None => ended_call(lent, asked),
         Some(live) => {
             let mut handled = Handled { live, pending };
@@ -195,37 +208,40 @@ fn on_txn_call(lent: &mut Lent, at: &Around<'_>, asked: &TxnCall<'_>) -> Result<
 
 /// Answers a call of a transaction that is not live.
 #[tactic(auto, unfolding(vp_model::specs::Calls::finished_call))]
-fn ended_call(lent: &mut Lent, asked: &TxnCall<'_>) -> Result<(), NoMemory>
+fn ended_call(lent: &mut Coordinator, asked: &TxnCall<'_>) -> Result<(), NoMemory>
     ensures { OnOk result (lent.new ≡
         option_map_or (λ f. finished_call asked.now.port asked.now.number f lent.old) (finished_of asked.now.txn.now lent.old.finished)
         (lent_reply (answer.Unknown asked.now.txn.now) asked.now.port lent.old)) }
 {
-    match lent.coordinator.answer_after(asked.txn, asked.number)? {
+    match lent.transactions.answer_after(asked.txn, asked.number)? {
         None => Ok(()),
         Some(answer) => lent.effects.reply(asked.port, answer),
     }
 }
 
-/// Does what a client's call does to the transactions of its site.
-#[tactic(auto, unfolding(vp_model::specs::Calls::own_call))]
-pub fn own_call(lent: &mut Lent, at: &Around<'_>, port: u16, call: &Call) -> Result<(), NoMemory>
-    ensures { OnOk result (lent.new ≡
-        own_call at.now.catalog.now port call.now (around at.now.id at.now.life at.now.promise (option_copied at.now.held)) lent.old) }
-{
-    match call {
-        Call::Begin => on_begin(lent, at, port),
-        Call::Regroup => Ok(()),
-        Call::Read { txn, number, .. }
-        | Call::Write { txn, number, .. }
-        | Call::Commit { txn, number }
-        | Call::Abort { txn, number } => {
-            let asked = TxnCall {
-                port,
-                txn,
-                number: *number,
-                call,
-            };
-            on_txn_call(lent, at, &asked)
+impl Coordinator {
+    /// Does what the call of the client at this port asks; a call to regroup does nothing here. After want of memory what is lent may
+    /// be changed in part: drop it.
+    #[tactic(auto, unfolding(vp_model::specs::Calls::own_call))]
+    pub fn own_call(&mut self, at: &Around<'_, '_>, port: u16, call: &Call) -> Result<(), NoMemory>
+        ensures { OnOk result (self.new ≡
+            own_call at.now.catalog.now port call.now (around at.now.id at.now.life at.now.promise (option_copied at.now.held)) self.old) }
+    {
+        match call {
+            Call::Begin => on_begin(self, at, port),
+            Call::Regroup => Ok(()),
+            Call::Read { txn, number, .. }
+            | Call::Write { txn, number, .. }
+            | Call::Commit { txn, number }
+            | Call::Abort { txn, number } => {
+                let asked = TxnCall {
+                    port,
+                    txn,
+                    number: *number,
+                    call,
+                };
+                on_txn_call(self, at, &asked)
+            }
         }
     }
 }

@@ -8,7 +8,7 @@ ghost use Rattle.vp_model.specs.Views.{abandon};
 ghost use Rattle.vp_model.specs.Step.{time_out_calls};
 ghost use Rattle.vp_coordinator.specs.Ends.{waits_at, timed_out};
 
-use crate::lent::Lent;
+use crate::coordinator::Coordinator;
 use vp_base::{Ending, Live, NoMemory, SiteId};
 use vp_transactions::LiveTxns;
 
@@ -32,7 +32,7 @@ fn waits_at(t: &Live) -> Option<SiteId>
     }
 }
 
-impl Lent {
+impl Coordinator {
     fn time_out(&mut self, id: SiteId, t: &mut Live) -> Result<(), NoMemory>
         ensures { OnOk result (self.new ≡ timed_out id t.old self.old) }
     {
@@ -51,19 +51,21 @@ impl Lent {
         Ok(())
     }
 
-    /// Aborts the transactions whose calls were pending at the tick before, and marks the other pending calls.
-    pub fn tick(&mut self, id: SiteId) -> Result<(), NoMemory>
+    /// Aborts each transaction whose call was pending at the tick before, and marks the other pending calls. After want of memory what
+    /// is lent may be changed in part: drop it.
+    pub fn time_out_calls(&mut self, id: SiteId) -> Result<(), NoMemory>
         ensures { OnOk result (self.new ≡ time_out_calls id self.old) }
     {
-        let mut late = self.coordinator.late()?;
+        let mut late = self.transactions.late()?;
         self.time_out_each(id, &mut late)?;
-        self.coordinator.mark();
+        self.transactions.mark();
         Ok(())
     }
 
     /// Aborts these transactions, since the site leaves their view.
     fn abort_each(&mut self, id: SiteId, mut live: LiveTxns) -> Result<(), NoMemory>
-        ensures { OnOk result (self.new ≡ close_all id (λ t. ending.ViewChanged id t.view None) live self.old) }
+        ensures { OnOk result (self.new ≡
+            close_all id (λ t. ending.ViewChanged id t.view None) live self.old) }
     {
         while let Some(mut t) = live.take_first() {
             let why = Ending::ViewChanged {
@@ -76,12 +78,12 @@ impl Lent {
         Ok(())
     }
 
-    /// Aborts all live transactions, since the site leaves its view.
+    /// Aborts each live transaction, since the site leaves its view. After want of memory what is lent may be changed in part: drop it.
     #[tactic(auto, using(crate::proofs::Ends::all_left))]
-    pub fn leave(&mut self, id: SiteId) -> Result<(), NoMemory>
+    pub fn abandon(&mut self, id: SiteId) -> Result<(), NoMemory>
         ensures { OnOk result (self.new ≡ abandon id self.old) }
     {
-        let live = self.coordinator.take_all();
+        let live = self.transactions.take_all();
         self.abort_each(id, live)
     }
 }

@@ -8,8 +8,8 @@ ghost use Rattle.vp_model.specs.Calls.{records_read_at, prepare_for, prepare_par
 ghost use Rattle.vp_coordinator.specs.InPlace.{in_place};
 
 use crate::around::Around;
+use crate::coordinator::Coordinator;
 use crate::final_writes::{last_writes, writes_held};
-use crate::lent::Lent;
 use std::alloc::Global;
 use vp_base::{
     Boxed, CopyOf, Effects, Live, Message, NoMemory, Pending, RecId, Recs, SiteId, Sites, Value,
@@ -19,9 +19,15 @@ use vp_lists::put;
 use vp_transactions::Handled;
 
 #[tactic(auto, unfolding(vp_model::specs::Calls::prepare_parts), using(crate::proofs::Operations::waits_in_place))]
-fn prepare_parts(lent: &mut Lent, at: &Around<'_>, handled: &mut Handled) -> Result<(), NoMemory>
+fn prepare_parts(
+    lent: &mut Coordinator,
+    at: &Around<'_, '_>,
+    handled: &mut Handled,
+) -> Result<(), NoMemory>
     requires { is_empty handled.old.live.parts ≡ false }
-    ensures { OnOk result (lent.new ≡ prepare_parts at.now.catalog.now at.now.id handled.old.live handled.old.pending (in_place handled.old.live lent.old)) }
+    ensures { OnOk result (lent.new ≡
+        prepare_parts at.now.catalog.now at.now.id handled.old.live handled.old.pending
+        (in_place handled.old.live lent.old)) }
 {
     let asked = ask_parts(at, handled, &mut lent.effects)?;
     lent.wait_for(handled, asked)
@@ -29,8 +35,14 @@ fn prepare_parts(lent: &mut Lent, at: &Around<'_>, handled: &mut Handled) -> Res
 
 /// Commits the transaction where it has no part at another site; else asks its parts for their votes.
 #[tactic(auto, unfolding(vp_model::specs::Calls::commit), using(crate::proofs::Rows::in_places))]
-pub fn commit(lent: &mut Lent, at: &Around<'_>, handled: &mut Handled) -> Result<(), NoMemory>
-    ensures { OnOk result (lent.new ≡ commit at.now.catalog.now at.now.id handled.old.live handled.old.pending (in_place handled.old.live lent.old)) }
+pub fn commit(
+    lent: &mut Coordinator,
+    at: &Around<'_, '_>,
+    handled: &mut Handled,
+) -> Result<(), NoMemory>
+    ensures { OnOk result (lent.new ≡
+        commit at.now.catalog.now at.now.id handled.old.live handled.old.pending
+        (in_place handled.old.live lent.old)) }
 {
     if handled.live.parts.as_slice().is_empty() {
         handled.attach_call()?;
@@ -41,9 +53,14 @@ pub fn commit(lent: &mut Lent, at: &Around<'_>, handled: &mut Handled) -> Result
 }
 
 /// Asks each part for its vote, and returns the parts.
-fn ask_parts(at: &Around<'_>, handled: &Handled, effects: &mut Effects) -> Result<Sites, NoMemory>
+fn ask_parts(
+    at: &Around<'_, '_>,
+    handled: &Handled,
+    effects: &mut Effects,
+) -> Result<Sites, NoMemory>
     ensures asked { IfOk result (λ asked. asked ≡ handled.now.live.parts) }
-    ensures effects { OnOk result (effects.new ≡ with_each_message at.now.id (prepare_for at.now.catalog.now handled.now.live handled.now.pending) handled.now.live.parts effects.old) }
+    ensures effects { OnOk result (effects.new ≡
+        with_each_message at.now.id (prepare_for at.now.catalog.now handled.now.live handled.now.pending) handled.now.live.parts effects.old) }
 {
     let t = &handled.live;
     let writes = last_writes(t.ops.allocator(), t.ops.as_slice())?;

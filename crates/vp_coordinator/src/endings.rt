@@ -10,8 +10,8 @@ ghost use Rattle.vp_model.specs.Calls.{handling, answer_read, answer_write};
 ghost use Rattle.vp_transactions.specs.Waiting.{waits, standing_for};
 ghost use Rattle.vp_coordinator.specs.InPlace.{in_place};
 
+use crate::coordinator::Coordinator;
 use crate::final_writes::{last_writes, writes_held, writing_parts};
-use crate::lent::Lent;
 use std::mem;
 use vp_base::{
     Answer, Commit, CopyOf, Effects, Ending, Live, LogRecord, Name, NoMemory, Op, Ops, Owner,
@@ -20,20 +20,22 @@ use vp_base::{
 use vp_catalog::Catalog;
 use vp_transactions::{Handled, send_outcome};
 
-impl Lent {
+impl Coordinator {
     /// Puts the transaction back as it was, and leaves in `handled` what was in its place.
     pub fn put_back(&mut self, handled: &mut Handled)
         requires { waits handled.old.live ≡ true }
         ensures row { self.new ≡ in_place handled.old.live self.old }
-        ensures left { handled.new ≡ record handled.old { live = standing_for handled.old.live self.old.live } }
+        ensures left { handled.new ≡
+            record handled.old { live = standing_for handled.old.live self.old.live } }
     {
-        self.coordinator.put_live(&mut handled.live)
+        self.transactions.put_live(&mut handled.live)
     }
 
     /// Gives the call this answer, which is not kept.
     pub fn refuse(&mut self, handled: &mut Handled, answer: Answer) -> Result<(), NoMemory>
         requires { waits handled.old.live ≡ true }
-        ensures { OnOk result (self.new ≡ lent_reply answer handled.old.pending.port (in_place handled.old.live self.old)) }
+        ensures { OnOk result (self.new ≡
+            lent_reply answer handled.old.pending.port (in_place handled.old.live self.old)) }
     {
         let port = handled.pending.port;
         self.put_back(handled);
@@ -48,7 +50,9 @@ impl Lent {
         operation: Op,
         answer: Answer,
     ) -> Result<(), NoMemory>
-        ensures { OnOk result (self.new ≡ complete handled.old.live handled.old.pending operation answer (in_place handled.old.live self.old)) }
+        ensures { OnOk result (self.new ≡
+            complete handled.old.live handled.old.pending operation answer
+            (in_place handled.old.live self.old)) }
     {
         reply_with(handled.pending.port, &answer, &mut self.effects)?;
         add_answer(&mut handled.live, operation, answer)?;
@@ -63,7 +67,8 @@ impl Lent {
         rec: RecId,
         value: Value,
     ) -> Result<(), NoMemory>
-        ensures { OnOk result (self.new ≡ answer_read handled.old.live handled.old.pending rec value (in_place handled.old.live self.old)) }
+        ensures { OnOk result (self.new ≡
+            answer_read handled.old.live handled.old.pending rec value (in_place handled.old.live self.old)) }
     {
         let answer = Answer::Value {
             txn: handled.txn(),
@@ -80,7 +85,9 @@ impl Lent {
         rec: RecId,
         value: &Value,
     ) -> Result<(), NoMemory>
-        ensures { OnOk result (self.new ≡ answer_write handled.old.live handled.old.pending rec value.now (in_place handled.old.live self.old)) }
+        ensures { OnOk result (self.new ≡
+            answer_write handled.old.live handled.old.pending rec value.now
+            (in_place handled.old.live self.old)) }
     {
         let value = value.copy_of()?;
         let answer = Answer::Written {
@@ -97,7 +104,7 @@ impl Lent {
     {
         handled.pending.missing = sites;
         handled.attach_call()?;
-        self.coordinator.put_live(&mut handled.live);
+        self.transactions.put_live(&mut handled.live);
         Ok(())
     }
 
@@ -109,7 +116,7 @@ impl Lent {
     {
         send_outcome(id, &t.txn, false, t.parts.as_slice(), &mut self.effects)?;
         self.here.locks.release(t.txn);
-        self.coordinator.finish(t, why, &mut self.effects)
+        self.transactions.finish(t, why, &mut self.effects)
     }
 
     /// Aborts the transaction, since another owner has a lock on the record of this name.
@@ -121,7 +128,9 @@ impl Lent {
         name: &Name,
         holder: Owner,
     ) -> Result<(), NoMemory>
-        ensures { OnOk result (self.new ≡ close id (handling handled.old.live handled.old.pending) (ending.LockHeld name.now id holder) (in_place handled.old.live self.old)) }
+        ensures { OnOk result (self.new ≡
+            close id (handling handled.old.live handled.old.pending) (ending.LockHeld name.now id holder)
+            (in_place handled.old.live self.old)) }
     {
         let why = Ending::LockHeld {
             name: name.copy_of()?,
@@ -147,7 +156,7 @@ impl Lent {
         let own = writes_held(alloc, catalog, id, writes.as_slice())?;
         self.here.copies.write(&t.view, own.as_slice())?;
         let waiting = writing_parts(alloc, catalog, t, writes.as_slice())?;
-        self.coordinator.keep_decision(&t.txn, waiting.copy_of()?)?;
+        self.transactions.keep_decision(&t.txn, waiting.copy_of()?)?;
         self.effects.force(LogRecord::Commit {
             txn: t.txn,
             view: t.view,
@@ -175,7 +184,7 @@ impl Lent {
     {
         send_commit(id, t, &mut self.effects)?;
         self.here.locks.release(t.txn);
-        self.coordinator
+        self.transactions
             .finish(t, Ending::Committed, &mut self.effects)
     }
 
@@ -201,7 +210,8 @@ fn reply_with(port: u16, answer: &Answer, effects: &mut Effects) -> Result<(), N
 
 /// Adds the operation to the transaction, and keeps its answer.
 fn add_answer(t: &mut Live, operation: Op, answer: Answer) -> Result<(), NoMemory>
-    ensures { OnOk result (t.new ≡ record t.old { ops = t.old.ops ++ operation ∷ []; answers = t.old.answers ++ answer ∷ []; pending = None }) }
+    ensures { OnOk result (t.new ≡
+        record t.old { ops = t.old.ops ++ operation ∷ []; answers = t.old.answers ++ answer ∷ []; pending = None }) }
 {
     t.pending = None;
     t.ops.push(operation)?;
@@ -211,7 +221,8 @@ fn add_answer(t: &mut Live, operation: Op, answer: Answer) -> Result<(), NoMemor
 /// Gives the transaction to the journal, with its operations, and sends its commit to its parts.
 fn send_commit(id: SiteId, t: &mut Live, effects: &mut Effects) -> Result<(), NoMemory>
     ensures live { OnOk result (t.new ≡ record t.old { ops = [] }) }
-    ensures effects { OnOk result (effects.new ≡ with_messages id (message.Outcome t.old.txn true) t.old.parts (with_commit (entry_of t.old) effects.old)) }
+    ensures effects { OnOk result (effects.new ≡
+        with_messages id (message.Outcome t.old.txn true) t.old.parts (with_commit (entry_of t.old) effects.old)) }
 {
     let none = Ops::new(t.ops.allocator());
     let ops = mem::replace(&mut t.ops, none);

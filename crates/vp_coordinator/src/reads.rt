@@ -9,7 +9,7 @@ ghost use Rattle.vp_transactions.specs.Waiting.{waits};
 ghost use Rattle.vp_coordinator.specs.InPlace.{in_place};
 
 use crate::around::Around;
-use crate::lent::Lent;
+use crate::coordinator::Coordinator;
 use crate::records::{NamedValue, copy_here, own_write, usable_record};
 use vp_base::{CopyOf, Live, Message, Name, NoMemory, RecId, SiteId};
 use vp_catalog::alone;
@@ -19,13 +19,14 @@ use vp_transactions::Handled;
 
 #[tactic(auto, unfolding(vp_model::specs::Calls::read_at), using(crate::proofs::Operations::waits_in_place))]
 fn read_at(
-    lent: &mut Lent,
+    lent: &mut Coordinator,
     id: SiteId,
     handled: &mut Handled,
     rec: RecId,
     site: SiteId,
 ) -> Result<(), NoMemory>
-    ensures { OnOk result (lent.new ≡ read_at id handled.old.live handled.old.pending rec site (in_place handled.old.live lent.old)) }
+    ensures { OnOk result (lent.new ≡
+        read_at id handled.old.live handled.old.pending rec site (in_place handled.old.live lent.old)) }
 {
     add_reader(&mut handled.live, rec, site)?;
     let asked = alone(handled.live.parts.allocator(), site)?;
@@ -41,14 +42,15 @@ fn read_at(
 
 /// Asks the lowest holder in the view.
 fn read_there(
-    lent: &mut Lent,
-    at: &Around<'_>,
+    lent: &mut Coordinator,
+    at: &Around<'_, '_>,
     handled: &mut Handled,
     rec: RecId,
 ) -> Result<(), NoMemory>
     requires { waits handled.old.live ≡ true }
     ensures { OnOk result (lent.new ≡
-        for_some (first (other_holders_in at.now.catalog.now at.now.id (option_copied at.now.held) rec)) (read_at at.now.id handled.old.live handled.old.pending rec) (in_place handled.old.live lent.old)) }
+        for_some (first (other_holders_in at.now.catalog.now at.now.id (option_copied at.now.held) rec)) (read_at at.now.id handled.old.live handled.old.pending rec)
+        (in_place handled.old.live lent.old)) }
 {
     match at.catalog.least_other_holder(at.id, at.held, rec) {
         None => {
@@ -62,7 +64,7 @@ fn read_there(
 /// Locks the copy here and reads it.
 #[tactic(auto, unfolding(vp_model::specs::Calls::lock_here, vp_model::specs::Calls::take_lock))]
 fn read_here(
-    lent: &mut Lent,
+    lent: &mut Coordinator,
     id: SiteId,
     handled: &mut Handled,
     found: &NamedValue<'_>,
@@ -80,15 +82,16 @@ fn read_here(
 
 #[tactic(auto, unfolding(vp_model::specs::Calls::read))]
 fn read(
-    lent: &mut Lent,
-    at: &Around<'_>,
+    lent: &mut Coordinator,
+    at: &Around<'_, '_>,
     handled: &mut Handled,
     name: &Name,
     rec: RecId,
 ) -> Result<(), NoMemory>
     requires { waits handled.old.live ≡ true }
     ensures { OnOk result (lent.new ≡
-        read at.now.catalog.now at.now.id (option_copied at.now.held) handled.old.live handled.old.pending name.now rec (in_place handled.old.live lent.old)) }
+        read at.now.catalog.now at.now.id (option_copied at.now.held) handled.old.live handled.old.pending name.now rec
+        (in_place handled.old.live lent.old)) }
 {
     match own_write(&handled.live, rec)? {
         Some(value) => lent.answer_read(handled, rec, value),
@@ -105,15 +108,16 @@ fn read(
 /// Reads the record of this name.
 #[tactic(auto, using(crate::proofs::Operations::record_first))]
 pub fn read_named(
-    lent: &mut Lent,
-    at: &Around<'_>,
+    lent: &mut Coordinator,
+    at: &Around<'_, '_>,
     handled: &mut Handled,
     name: &Name,
 ) -> Result<(), NoMemory>
     requires { waits handled.old.live ≡ true }
     ensures { OnOk result (lent.new ≡
         with_record at.now.catalog.now (option_copied at.now.held) handled.old.live handled.old.pending name.now
-        (read at.now.catalog.now at.now.id (option_copied at.now.held) handled.old.live handled.old.pending name.now) (in_place handled.old.live lent.old)) }
+        (read at.now.catalog.now at.now.id (option_copied at.now.held) handled.old.live handled.old.pending name.now)
+        (in_place handled.old.live lent.old)) }
 {
     match usable_record(at, handled, name)? {
         Ok(rec) => read(lent, at, handled, name, rec),
@@ -123,7 +127,8 @@ pub fn read_named(
 
 /// Makes the site, which is to read the record, a part of the transaction.
 fn add_reader(t: &mut Live, rec: RecId, site: SiteId) -> Result<(), NoMemory>
-    ensures { OnOk result (t.new ≡ record t.old { remote = t.old.remote ++ (site, rec) ∷ []; parts = put_number site t.old.parts }) }
+    ensures { OnOk result (t.new ≡
+        record t.old { remote = t.old.remote ++ (site, rec) ∷ []; parts = put_number site t.old.parts }) }
 {
     t.remote.push((site, rec))?;
     put_in(&mut t.parts, site)

@@ -25,7 +25,7 @@ pub struct NamedValue<'a> {
 }
 
 /// Whether the record is accessible in the held view.
-fn is_usable(alloc: Global, at: &Around<'_>, rec: RecId) -> bool
+fn is_usable(alloc: Global, at: &Around<'_, '_>, rec: RecId) -> bool
     ensures { result ≡ is_usable_in at.now.catalog.now (option_copied at.now.held) rec }
 {
     let none = Sites::new(alloc);
@@ -33,7 +33,7 @@ fn is_usable(alloc: Global, at: &Around<'_>, rec: RecId) -> bool
 }
 
 /// The weight of the record's copies at the members of the held view.
-fn weight_inside(alloc: Global, at: &Around<'_>, rec: RecId) -> u32
+fn weight_inside(alloc: Global, at: &Around<'_, '_>, rec: RecId) -> u32
     ensures { result ≡ inside at.now.catalog.now rec (members_in (option_copied at.now.held)) }
 {
     let none = Sites::new(alloc);
@@ -41,12 +41,13 @@ fn weight_inside(alloc: Global, at: &Around<'_>, rec: RecId) -> u32
 }
 
 fn usable_as(
-    at: &Around<'_>,
+    at: &Around<'_, '_>,
     handled: &Handled,
     name: &Name,
     rec: RecId,
 ) -> Result<Result<RecId, Answer>, NoMemory>
-    ensures { IfOk result (λ found. found ≡ usable_as at.now.catalog.now (option_copied at.now.held) handled.now.live handled.now.pending name.now rec) }
+    ensures { IfOk result (λ found. found ≡
+        usable_as at.now.catalog.now (option_copied at.now.held) handled.now.live handled.now.pending name.now rec) }
 {
     let txn = handled.live.txn;
     let number = handled.number();
@@ -62,12 +63,13 @@ fn usable_as(
 
 /// The answer that the record isn't accessible in the view.
 fn inaccessible(
-    at: &Around<'_>,
+    at: &Around<'_, '_>,
     handled: &Handled,
     name: &Name,
     rec: RecId,
 ) -> Result<Answer, NoMemory>
-    ensures { IfOk result (λ told. told ≡ answer.Inaccessible handled.now.live.txn handled.now.pending.number name.now (inside at.now.catalog.now rec (members_in (option_copied at.now.held))) (total at.now.catalog.now rec)) }
+    ensures { IfOk result (λ told. told ≡
+        answer.Inaccessible handled.now.live.txn handled.now.pending.number name.now (inside at.now.catalog.now rec (members_in (option_copied at.now.held))) (total at.now.catalog.now rec)) }
 {
     Ok(Answer::Inaccessible {
         txn: handled.txn(),
@@ -80,11 +82,12 @@ fn inaccessible(
 
 /// Finds the record of the name, or else gives the answer that refuses its use.
 pub fn usable_record(
-    at: &Around<'_>,
+    at: &Around<'_, '_>,
     handled: &Handled,
     name: &Name,
 ) -> Result<Result<RecId, Answer>, NoMemory>
-    ensures { IfOk result (λ found. found ≡ usable_record at.now.catalog.now (option_copied at.now.held) handled.now.live handled.now.pending name.now) }
+    ensures { IfOk result (λ found. found ≡
+        usable_record at.now.catalog.now (option_copied at.now.held) handled.now.live handled.now.pending name.now) }
 {
     match at.catalog.find(name) {
         None => Ok(Err(Answer::NoRecord {

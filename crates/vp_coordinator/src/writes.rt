@@ -10,7 +10,7 @@ ghost use Rattle.vp_transactions.specs.Waiting.{waits};
 ghost use Rattle.vp_coordinator.specs.InPlace.{in_place};
 
 use crate::around::Around;
-use crate::lent::Lent;
+use crate::coordinator::Coordinator;
 use crate::records::{NamedValue, usable_record, wrote};
 use vp_base::{Effects, Message, Name, NoMemory, RecId, SiteId, Sites, Value};
 use vp_lists::put_in;
@@ -19,14 +19,15 @@ use vp_transactions::Handled;
 
 #[tactic(auto, unfolding(vp_model::specs::Calls::write_at), using(crate::proofs::Operations::waits_in_place))]
 fn write_at(
-    lent: &mut Lent,
+    lent: &mut Coordinator,
     id: SiteId,
     handled: &mut Handled,
     rec: RecId,
     sites: Sites,
 ) -> Result<(), NoMemory>
     requires { is_empty sites ≡ false }
-    ensures { OnOk result (lent.new ≡ write_at id handled.old.live handled.old.pending rec sites (in_place handled.old.live lent.old)) }
+    ensures { OnOk result (lent.new ≡
+        write_at id handled.old.live handled.old.pending rec sites (in_place handled.old.live lent.old)) }
 {
     ask_to_write(id, handled, rec, sites.as_slice(), &mut lent.effects)?;
     put_all(&mut handled.live.parts, sites.as_slice())?;
@@ -35,13 +36,14 @@ fn write_at(
 
 #[tactic(auto, unfolding(vp_model::specs::Calls::write_elsewhere))]
 fn write_elsewhere(
-    lent: &mut Lent,
-    at: &Around<'_>,
+    lent: &mut Coordinator,
+    at: &Around<'_, '_>,
     handled: &mut Handled,
     wanted: &NamedValue<'_>,
 ) -> Result<(), NoMemory>
     ensures { OnOk result (lent.new ≡
-        write_elsewhere at.now.catalog.now at.now.id (option_copied at.now.held) handled.old.live handled.old.pending wanted.now.rec wanted.now.value.now (in_place handled.old.live lent.old)) }
+        write_elsewhere at.now.catalog.now at.now.id (option_copied at.now.held) handled.old.live handled.old.pending wanted.now.rec wanted.now.value.now
+        (in_place handled.old.live lent.old)) }
 {
     let asked = at.catalog.other_holders(at.id, at.held, wanted.rec)?;
     if asked.as_slice().is_empty() {
@@ -54,14 +56,15 @@ fn write_elsewhere(
 /// Locks the copy here, and then writes the record.
 #[tactic(auto, unfolding(vp_model::specs::Calls::lock_here, vp_model::specs::Calls::take_lock))]
 fn write_here(
-    lent: &mut Lent,
-    at: &Around<'_>,
+    lent: &mut Coordinator,
+    at: &Around<'_, '_>,
     handled: &mut Handled,
     wanted: &NamedValue<'_>,
 ) -> Result<(), NoMemory>
     ensures { OnOk result (lent.new ≡
         lock_here at.now.id handled.old.live handled.old.pending wanted.now.name.now wanted.now.rec true
-        (write_elsewhere at.now.catalog.now at.now.id (option_copied at.now.held) handled.old.live handled.old.pending wanted.now.rec wanted.now.value.now) (in_place handled.old.live lent.old)) }
+        (write_elsewhere at.now.catalog.now at.now.id (option_copied at.now.held) handled.old.live handled.old.pending wanted.now.rec wanted.now.value.now)
+        (in_place handled.old.live lent.old)) }
 {
     match lent.here.locks.take_exclusive(wanted.rec, handled.txn()) {
         Ok(()) => write_elsewhere(lent, at, handled, wanted),
@@ -72,13 +75,14 @@ fn write_here(
 
 #[tactic(auto, unfolding(vp_model::specs::Calls::write), using(crate::proofs::Presence::by_presence))]
 fn write(
-    lent: &mut Lent,
-    at: &Around<'_>,
+    lent: &mut Coordinator,
+    at: &Around<'_, '_>,
     handled: &mut Handled,
     wanted: &NamedValue<'_>,
 ) -> Result<(), NoMemory>
     ensures { OnOk result (lent.new ≡
-        write at.now.catalog.now at.now.id (option_copied at.now.held) handled.old.live handled.old.pending wanted.now.name.now wanted.now.value.now wanted.now.rec (in_place handled.old.live lent.old)) }
+        write at.now.catalog.now at.now.id (option_copied at.now.held) handled.old.live handled.old.pending wanted.now.name.now wanted.now.value.now wanted.now.rec
+        (in_place handled.old.live lent.old)) }
 {
     if wrote(&handled.live, wanted.rec) {
         lent.answer_write(handled, wanted.rec, wanted.value)
@@ -92,8 +96,8 @@ fn write(
 /// Writes the record of this name.
 #[tactic(auto, using(crate::proofs::Operations::record_first))]
 pub fn write_named(
-    lent: &mut Lent,
-    at: &Around<'_>,
+    lent: &mut Coordinator,
+    at: &Around<'_, '_>,
     handled: &mut Handled,
     name: &Name,
     value: &Value,
@@ -101,7 +105,8 @@ pub fn write_named(
     requires { waits handled.old.live ≡ true }
     ensures { OnOk result (lent.new ≡
         with_record at.now.catalog.now (option_copied at.now.held) handled.old.live handled.old.pending name.now
-        (write at.now.catalog.now at.now.id (option_copied at.now.held) handled.old.live handled.old.pending name.now value.now) (in_place handled.old.live lent.old)) }
+        (write at.now.catalog.now at.now.id (option_copied at.now.held) handled.old.live handled.old.pending name.now value.now)
+        (in_place handled.old.live lent.old)) }
 {
     match usable_record(at, handled, name)? {
         Ok(rec) => write(lent, at, handled, &NamedValue { name, rec, value }),

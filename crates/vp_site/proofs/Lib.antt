@@ -1,2 +1,3 @@
 pub mod Refreshes
 pub mod Voting
+pub mod Asking

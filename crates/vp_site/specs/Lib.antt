@@ -1,4 +1,4 @@
 pub mod Requests
 pub mod Ballots
 pub mod Starting
-pub mod Lifted
+pub mod Asking

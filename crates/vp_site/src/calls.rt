@@ -3,18 +3,18 @@
 ghost use Rattle.std.specs.Prelude.{◌≡◌, OnOk};
 ghost use Rattle.vp_model.specs.Calls.{on_regroup, on_call};
 
-use crate::state::SiteState;
 use crate::stepped::Stepped;
 use crate::views::invite;
 use vp_base::{Answer, Call, NoMemory};
 use vp_catalog::Catalog;
+use vp_coordinator::Around;
 
 /// Invites to a new view, or replies that the numbers of views are spent.
 #[tactic(auto, unfolding(vp_model::specs::Calls::on_regroup))]
 fn on_regroup(stepped: &mut Stepped, catalog: &Catalog, port: u16) -> Result<(), NoMemory>
     ensures { OnOk result (stepped.new ≡ on_regroup catalog.now port stepped.old) }
 {
-    match stepped.site.views.invitable() {
+    match stepped.views.invitable() {
         Err(spent) => stepped.reply(
             port,
             Answer::Spent {
@@ -41,17 +41,14 @@ pub fn on_call(
     match call {
         Call::Regroup => on_regroup(stepped, catalog, port),
         _ => {
-            let site: &mut SiteState = &mut stepped.site;
-            let promise = site.views.promise();
-            site.coordinator.call(
+            let at = Around {
                 catalog,
-                site.views.held(),
-                promise,
-                &mut site.here,
-                port,
-                call,
-                &mut stepped.effects,
-            )
+                held: stepped.views.held(),
+                id: stepped.id,
+                life: stepped.life,
+                promise: stepped.views.promise(),
+            };
+            stepped.coordinator.own_call(&at, port, call)
         }
     }
 }

@@ -10,7 +10,6 @@ mod messages;
 mod parts;
 mod refresh;
 mod site;
-mod state;
 mod stepped;
 mod tick;
 mod views;

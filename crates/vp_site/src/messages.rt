@@ -1,34 +1,21 @@
 //! What a site does for each input: the rows, by the kind of the call or message. Those for other sites are methods of `Stepped`.
 
 ghost use Rattle.std.specs.Prelude.{◌≡◌, OnOk};
-ghost use Rattle.vp_model.specs.Messages.{answered, on_outcome, on_message};
+ghost use Rattle.vp_model.specs.Messages.{on_message};
 ghost use Rattle.vp_model.specs.Step.{on_input};
 
 use crate::calls::on_call;
 use crate::refresh::RefreshAnswer;
-use crate::state::SiteState;
 use crate::stepped::Stepped;
 use crate::tick::{on_probe, on_tick};
 use crate::views::{on_invite, on_view_commit};
 use vp_base::{Input, Message, NoMemory, SiteId};
 use vp_catalog::Catalog;
+use vp_coordinator::Incoming;
 use vp_participant::{Prepare, Request};
 
-/// Gives the message to the coordinator, which holds the site's own transactions.
-fn answered(
-    stepped: &mut Stepped,
-    catalog: &Catalog,
-    from: SiteId,
-    message: &Message,
-) -> Result<(), NoMemory>
-    ensures { OnOk result (stepped.new ≡ answered catalog.now from message.now stepped.old) }
-{
-    let site: &mut SiteState = &mut stepped.site;
-    site.coordinator.on_answer(catalog, &mut site.here, from, message, &mut stepped.effects)
-}
-
 /// Does what the definitions say for a message of this kind.
-#[tactic(auto, unfolding(vp_model::specs::Messages::on_message, vp_model::specs::Messages::on_accept, vp_model::specs::Messages::on_stale, vp_model::specs::Messages::on_probe_message))]
+#[tactic(auto, unfolding(vp_model::specs::Messages::on_message, vp_model::specs::Messages::on_accept, vp_model::specs::Messages::on_stale, vp_model::specs::Messages::on_probe_message, vp_model::specs::Answers::on_answer))]
 pub fn on_message(
     stepped: &mut Stepped,
     catalog: &Catalog,
@@ -37,11 +24,16 @@ pub fn on_message(
 ) -> Result<(), NoMemory>
     ensures { OnOk result (stepped.new ≡ on_message catalog.now from message.now stepped.old) }
 {
+    let came = Incoming {
+        catalog,
+        from,
+        id: stepped.id,
+    };
     match message {
         Message::Invite { id } => on_invite(stepped, from, *id),
-        Message::Accept { id } => stepped.site.views.on_accept(from, *id),
+        Message::Accept { id } => stepped.views.on_accept(from, *id),
         Message::Stale { promise, .. } => {
-            stepped.site.views.on_stale(*promise);
+            stepped.views.on_stale(*promise);
             Ok(())
         }
         Message::ViewCommit { id, members } => on_view_commit(stepped, catalog, *id, members),
@@ -84,13 +76,21 @@ pub fn on_message(
             stepped.on_refresh_answer(catalog, from, &answer)
         }
         // the row `on_probe_message`
-        Message::Probe { .. } => stepped.site.views.heard(from),
-        Message::ReadAnswer { .. }
-        | Message::WriteAnswer { .. }
-        | Message::Refuse { .. }
-        | Message::Vote { .. }
-        | Message::Ack { .. }
-        | Message::Inquire { .. } => answered(stepped, catalog, from, message),
+        Message::Probe { .. } => stepped.views.heard(from),
+        Message::ReadAnswer { txn, number, value } => {
+            stepped
+                .coordinator
+                .on_read_answer(&came, txn, *number, value.as_ref())
+        }
+        Message::WriteAnswer { txn, number } => stepped
+            .coordinator
+            .on_write_answer(&came, txn, *number),
+        Message::Refuse { txn, number, why } => stepped
+            .coordinator
+            .on_refuse(&came, txn, *number, why),
+        Message::Vote { txn } => stepped.coordinator.on_vote(&came, txn),
+        Message::Ack { txn } => stepped.coordinator.on_ack(from, txn),
+        Message::Inquire { txn } => stepped.coordinator.on_inquire(stepped.id, from, txn),
     }
 }
 

@@ -14,7 +14,6 @@ ghost use Rattle.vp_participant.specs.Refusals.{lock_refusal, lock_refused};
 ghost use Rattle.vp_site.specs.Requests.{asked};
 ghost use Rattle.vp_site.specs.Ballots.{with_ballot};
 
-use crate::state::SiteState;
 use crate::stepped::Stepped;
 use vp_base::{
     Boxed, CallNo, LogRecord, Message, NoMemory, Obstacle, SiteId, TxnId, ViewId, Writes,
@@ -37,17 +36,18 @@ impl Stepped {
 
     /// Locks the record for the transaction, which gets a part here if it has none.
     fn lock(&mut self, request: &Request, exclusive: bool) -> Result<(), PartFault>
-        ensures told { lock_refused result ≡ lock_refusal self.old.site.held request.now.txn request.now.view request.now.rec exclusive self.old.site.participant self.old.site.locks }
-        ensures granted { OnOk result (self.new ≡ self.old |> change_locks (with_lock request.now.rec exclusive (owner.Txn request.now.txn)) |> change_participant (with_part request.now.txn request.now.view)) }
+        ensures told { lock_refused result ≡
+            lock_refusal self.old.site.held request.now.txn request.now.view request.now.rec exclusive self.old.site.participant self.old.site.locks }
+        ensures granted { OnOk result (self.new ≡
+            self.old |> change_locks (with_lock request.now.rec exclusive (owner.Txn request.now.txn)) |> change_participant (with_part request.now.txn request.now.view)) }
         ensures refused { IfSome (lock_refused result) (λ why. self.new ≡ self.old) }
     {
-        let site: &mut SiteState = &mut self.site;
-        let locks = &mut site.here.locks;
-        let held = site.views.held();
+        let locks = &mut self.coordinator.here.locks;
+        let held = self.views.held();
         if exclusive {
-            site.participant.write_request(locks, held, request)
+            self.participant.write_request(locks, held, request)
         } else {
-            site.participant.read_request(locks, held, request)
+            self.participant.read_request(locks, held, request)
         }
     }
 
@@ -74,7 +74,8 @@ impl Stepped {
 
     /// Refuses the request if the site holds another view, and else ignores it: there is no copy of the record here.
     fn pass_over(&mut self, request: &Request, from: SiteId) -> Result<(), NoMemory>
-        ensures { OnOk result (self.new ≡ (if holds_view self.old.site request.now.view then self.old else refuse_view request.now.txn request.now.number from self.old)) }
+        ensures { OnOk result (self.new ≡
+            (if holds_view self.old.site request.now.view then self.old else refuse_view request.now.txn request.now.number from self.old)) }
     {
         if self.holds_view(request.view) {
             return Ok(());
@@ -91,7 +92,8 @@ impl Stepped {
     /// Takes a shared lock on the copy of the record here, and answers with its value.
     #[tactic(auto, unfolding(vp_model::specs::Messages::on_read_request, vp_model::specs::Messages::on_request, vp_model::specs::Messages::lock_copy))]
     pub fn on_read_request(&mut self, from: SiteId, request: &Request) -> Result<(), NoMemory>
-        ensures { OnOk result (self.new ≡ on_read_request from request.now.txn request.now.view request.now.number request.now.rec self.old) }
+        ensures { OnOk result (self.new ≡
+            on_read_request from request.now.txn request.now.view request.now.number request.now.rec self.old) }
     {
         let Request { txn, number, .. } = *request;
         match self.copy_here(request.rec)? {
@@ -111,10 +113,11 @@ impl Stepped {
     /// Takes an exclusive lock on the copy of the record here. The value comes later, with the transaction's prepare message.
     #[tactic(auto, unfolding(vp_model::specs::Messages::on_write_request, vp_model::specs::Messages::on_request, vp_model::specs::Messages::lock_copy))]
     pub fn on_write_request(&mut self, from: SiteId, request: &Request) -> Result<(), NoMemory>
-        ensures { OnOk result (self.new ≡ on_write_request from request.now.txn request.now.view request.now.number request.now.rec self.old) }
+        ensures { OnOk result (self.new ≡
+            on_write_request from request.now.txn request.now.view request.now.number request.now.rec self.old) }
     {
         let Request { txn, number, .. } = *request;
-        if self.site().here.copies.has(request.rec) {
+        if self.coordinator.here.copies.has(request.rec) {
             self.grant(request, true, Message::WriteAnswer { txn, number }, from)
         } else {
             self.pass_over(request, from)
@@ -140,13 +143,11 @@ impl Stepped {
     /// chapter 7). A part that lacks one of its locks, or has ended, sends nothing.
     #[tactic(auto, unfolding(vp_model::specs::Messages::on_prepare), using(crate::proofs::Voting::prepare_row))]
     pub fn on_prepare(&mut self, from: SiteId, asked: &Prepare<'_>) -> Result<(), NoMemory>
-        ensures { OnOk result (self.new ≡ on_prepare from asked.now.txn asked.now.view asked.now.number asked.now.reads.now asked.now.writes.now self.old) }
+        ensures { OnOk result (self.new ≡
+            on_prepare from asked.now.txn asked.now.view asked.now.number asked.now.reads.now asked.now.writes.now self.old) }
     {
-        let site: &mut SiteState = &mut self.site;
-        let voted = site
-            .participant
-            .prepare(&site.here.locks, site.views.held(), asked);
-        match voted {
+        let locks = &self.coordinator.here.locks;
+        match self.participant.prepare(locks, self.views.held(), asked) {
             Ok(voted) => self.cast(asked.txn, voted, from),
             Err(PrepareFault::Ended) => Ok(()),
             Err(PrepareFault::NoMemory) => Err(NoMemory),
@@ -161,12 +162,12 @@ impl Stepped {
 
     /// Ends the part of the transaction, and frees its locks.
     fn end_here(&mut self, txn: TxnId) -> Result<Settled, NoMemory>
-        ensures part { OnOk result (self.new ≡ self.old |> change_participant (with_ended (is_some self.old.site.held) txn) |> change_locks (without_owner (owner.Txn txn))) }
+        ensures part { OnOk result (self.new ≡
+            self.old |> change_participant (with_ended (is_some self.old.site.held) txn) |> change_locks (without_owner (owner.Txn txn))) }
         ensures doubt { IfOk result (λ settled. settled.doubt ≡ doubt_ended txn self.old.site.doubts) }
     {
-        let site: &mut SiteState = &mut self.site;
-        let held = site.views.held();
-        site.participant.outcome(&mut site.here.locks, held, txn)
+        let locks = &mut self.coordinator.here.locks;
+        self.participant.outcome(locks, self.views.held(), txn)
     }
 
     /// Ends the doubt about the transaction: a commit makes its writes copies.
@@ -176,11 +177,14 @@ impl Stepped {
         commit: bool,
         doubt: &(ViewId, Writes),
     ) -> Result<(), NoMemory>
-        ensures { OnOk result (self.new ≡ end_doubt txn commit (record { txn = txn; view = doubt.now.0; writes = doubt.now.1 }) self.old) }
+        ensures { OnOk result (self.new ≡
+            end_doubt txn commit (record { txn = txn; view = doubt.now.0; writes = doubt.now.1 }) self.old) }
     {
         if commit {
-            let site: &mut SiteState = &mut self.site;
-            site.here.copies.write(&doubt.0, doubt.1.as_slice())?;
+            self.coordinator
+                .here
+                .copies
+                .write(&doubt.0, doubt.1.as_slice())?;
         }
         self.force(LogRecord::Outcome { txn, commit })
     }

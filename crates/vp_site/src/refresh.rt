@@ -7,7 +7,6 @@ ghost use Rattle.vp_model.specs.Refresh.{is_doubtful, is_open, refreshing_of, un
 ghost use Rattle.vp_model.specs.Views.{usable_here, refresh_here};
 ghost use Rattle.vp_model.specs.Messages.{on_refresh_request, on_refresh_answer};
 
-use crate::state::SiteState;
 use crate::stepped::Stepped;
 use vp_base::{
     Boxed, CopyOf, LogRecord, Message, NoMemory, RecId, SiteId, Sites, Stored, Value, View, ViewId,
@@ -28,21 +27,22 @@ impl Stepped {
     fn is_doubtful(&self, rec: RecId) -> bool
         ensures { result ≡ is_doubtful self.now.site rec }
     {
-        self.site().participant.doubts(rec)
+        self.participant.doubts(rec)
     }
 
     /// The other holders in the view that have not answered for the copy under refresh; none where the copy is not under refresh.
     fn unanswered(&self, catalog: &Catalog, rec: RecId) -> Result<Option<Sites>, NoMemory>
-        ensures { IfOk result (λ sites. sites ≡ option_map (unanswered catalog.now self.now.site) (refreshing_of rec self.now.site.refresh)) }
+        ensures { IfOk result (λ sites. sites ≡
+            option_map (unanswered catalog.now self.now.site) (refreshing_of rec self.now.site.refresh)) }
     {
-        let site = self.site();
-        site.refresh
-            .missing(catalog, self.id(), site.views.held(), rec)
+        self.refresh
+            .missing(catalog, self.id, self.views.held(), rec)
     }
 
     /// Whether the copy is under refresh, and the site was asked for its copy and has not answered.
     fn awaits(&self, catalog: &Catalog, rec: RecId, from: SiteId) -> Result<bool, NoMemory>
-        ensures { IfOk result (λ awaits. awaits ≡ option_map_or (λ r. has (unanswered catalog.now self.now.site r) from) (refreshing_of rec self.now.site.refresh) false) }
+        ensures { IfOk result (λ awaits. awaits ≡
+            option_map_or (λ r. has (unanswered catalog.now self.now.site r) from) (refreshing_of rec self.now.site.refresh) false) }
     {
         Ok(match self.unanswered(catalog, rec)? {
             None => false,
@@ -52,7 +52,8 @@ impl Stepped {
 
     /// Whether the copy is under refresh, and no answer is missing.
     fn has_all_answers(&self, catalog: &Catalog, rec: RecId) -> Result<bool, NoMemory>
-        ensures { IfOk result (λ all. all ≡ option_map_or (λ r. is_empty (unanswered catalog.now self.now.site r)) (refreshing_of rec self.now.site.refresh) false) }
+        ensures { IfOk result (λ all. all ≡
+            option_map_or (λ r. is_empty (unanswered catalog.now self.now.site r)) (refreshing_of rec self.now.site.refresh) false) }
     {
         Ok(match self.unanswered(catalog, rec)? {
             None => false,
@@ -68,8 +69,7 @@ impl Stepped {
         if !view_comes_before(&own.date, &best.date) {
             return Ok(());
         }
-        let site: &mut SiteState = &mut self.site;
-        site.here.copies.replace(rec, best.copy_of()?)?;
+        self.coordinator.here.copies.replace(rec, best.copy_of()?)?;
         self.force(LogRecord::Copy { rec, stored: best })
     }
 
@@ -78,16 +78,16 @@ impl Stepped {
     fn unlist(&mut self, rec: RecId)
         ensures { self.new ≡ unlist rec self.old }
     {
-        let site: &mut SiteState = &mut self.site;
-        site.here.locks.unguard(rec);
-        site.refresh.unlist(rec);
+        self.coordinator.here.locks.unguard(rec);
+        self.refresh.unlist(rec);
     }
 
     /// Ends the refresh of the copy, which becomes the newest of this copy and the answers.
     fn end_refresh(&mut self, rec: RecId, own: &Stored) -> Result<(), NoMemory>
-        ensures { OnOk result (self.new ≡ for_some (refreshing_of rec self.old.site.refresh) (λ r o. o |> take_newer rec own.now (newest own.now r.answers) |> unlist rec) self.old) }
+        ensures { OnOk result (self.new ≡
+            for_some (refreshing_of rec self.old.site.refresh) (λ r o. o |> take_newer rec own.now (newest own.now r.answers) |> unlist rec) self.old) }
     {
-        match self.site().refresh.newest(rec, own)? {
+        match self.refresh.newest(rec, own)? {
             None => Ok(()),
             Some(best) => {
                 self.take_newer(rec, own, best)?;
@@ -141,13 +141,13 @@ impl Stepped {
     fn start_refresh(&mut self, catalog: &Catalog, view: &View, rec: RecId) -> Result<(), NoMemory>
         ensures { OnOk result (self.new ≡ start_refresh catalog.now view.now rec self.old) }
     {
-        let id = self.id();
-        let site: &mut SiteState = &mut self.site;
-        site.here.locks.guard(rec)?;
-        site.refresh.begin(rec)?;
-        let others = catalog.other_holders(id, site.views.held(), rec)?;
+        self.coordinator.here.locks.guard(rec)?;
+        self.refresh.begin(rec)?;
+        let others = catalog.other_holders(self.id, self.views.held(), rec)?;
         let request = Message::RefreshRequest { view: view.id, rec };
-        self.effects.send_all(id, others.as_slice(), &request)
+        self.coordinator
+            .effects
+            .send_all(self.id, others.as_slice(), &request)
     }
 
     /// Does the same for each of the records.
@@ -170,7 +170,7 @@ impl Stepped {
         ensures { result ≡ is_open catalog.now self.now.site rec }
     {
         let none = Sites::new(catalog.sites().allocator());
-        catalog.accessible(rec, members_of(self.site().views.held(), &none))
+        catalog.accessible(rec, members_of(self.views.held(), &none))
     }
 
     /// Lists the records with a copy here that may be used in the held view.
@@ -178,7 +178,7 @@ impl Stepped {
         ensures { IfOk result (λ recs. recs.items ≡ usable_here catalog.now self.now.site) }
     {
         let mut recs = Vec::new(catalog.sites().allocator());
-        for (rec, _) in self.site().here.copies.as_slice() {
+        for (rec, _) in self.copies().as_slice() {
             if self.is_open(catalog, *rec) {
                 recs.push(*rec)?;
             }
@@ -228,14 +228,14 @@ impl Stepped {
         from: SiteId,
         answer: &RefreshAnswer<'_>,
     ) -> Result<(), NoMemory>
-        ensures { OnOk result (self.new ≡ on_refresh_answer catalog.now from answer.now.view answer.now.rec answer.now.stored.now self.old) }
+        ensures { OnOk result (self.new ≡
+            on_refresh_answer catalog.now from answer.now.view answer.now.rec answer.now.stored.now self.old) }
     {
         let rec = answer.rec;
         if !self.holds_view(answer.view) || !self.awaits(catalog, rec, from)? {
             return Ok(());
         }
-        let site: &mut SiteState = &mut self.site;
-        site.refresh.on_answer(from, rec, answer.stored)?;
+        self.refresh.on_answer(from, rec, answer.stored)?;
         self.settle(catalog, rec)
     }
 }

@@ -1,19 +1,18 @@
 //! A site that is up.
 
 ghost use Rattle.std.specs.Prelude.{◌≡◌, ◌<◌, ◌-◌, ◌^◌, IfOk, option_copied, option_map};
+ghost use Rattle.vp_model.specs.Site.{begin_step};
 ghost use Rattle.vp_model.specs.Generated.{newest};
 ghost use Rattle.vp_model.specs.Step.{start, step, durable_of};
-ghost use Rattle.vp_site.specs.Starting.{Starts};
-ghost use Rattle.vp_site.specs.Lifted.{viewing};
+ghost use Rattle.vp_site.specs.Starting.{Starts, viewing};
 
 use crate::fault::StartFault;
 use crate::messages::on_input;
-use crate::state::SiteState;
 use crate::stepped::Stepped;
 use std::marker::Model;
 use vp_base::{CopyOf, Effects, Input, LogRecord, Newest, NoMemory, OPENING, SiteId, View, ViewId};
 use vp_catalog::Catalog;
-use vp_coordinator::{Coordinator, Here, SiteCopies};
+use vp_coordinator::Coordinator;
 use vp_locks::Locks;
 use vp_participant::Participant;
 use vp_records::Durable;
@@ -21,22 +20,30 @@ use vp_refresh::Refresh;
 use vp_views::Views;
 
 /// A site that is up. Its state is boxed, so that few bytes are moved where a site is passed from call to call.
-#[derive(Drop)]
 pub struct Site {
-    kept: Box<SiteState>,
+    kept: Box<Stepped>,
+}
+
+impl Drop for Site {
+    fn drop(self) {
+        let Site { kept: _ } = self;
+    }
 }
 
 impl Model for Site {
-    ghost use Rattle.vp_model.specs.Site.{SiteState as State};
+    ghost use Rattle.std.specs.Prelude.{◌≡◌};
+    ghost use Rattle.vp_model.specs.Site.{SiteState as State, begin_step};
 
     ghost Value = { State };
 
-    ghost view = { λ s. s.kept.value };
+    ghost view = { λ s. s.kept.value.site };
+
+    ghost invariant = { λ s. s.kept.value ≡ begin_step s.kept.value.site };
 }
 
 impl Site {
-    fn state(&self) -> &SiteState
-        ensures { result.now ≡ self.now }
+    fn state(&self) -> &Stepped
+        ensures { result.now ≡ begin_step self.now }
     {
         &self.kept
     }
@@ -63,10 +70,10 @@ impl Site {
     pub fn step(self, catalog: &Catalog, input: &Input) -> Result<(Site, Effects), NoMemory>
         ensures { IfOk result (λ r. record { site = r.0; effects = r.1 } ≡ step catalog.now self input.now) }
     {
-        let mut stepped = Stepped::begin(catalog.sites().allocator(), self.kept);
-        on_input(&mut stepped, catalog, input)?;
-        let Stepped { site, effects } = stepped;
-        Ok((Site { kept: site }, effects))
+        let Site { mut kept } = self;
+        on_input(&mut kept, catalog, input)?;
+        let effects = kept.take_effects();
+        Ok((Site { kept }, effects))
     }
 
     /// What the site would recover after a crash at this moment, once its log records are forced.
@@ -76,8 +83,8 @@ impl Site {
         let state = self.state();
         Ok(Durable::new(
             state.views.promise(),
-            state.coordinator.life(),
-            state.here.copies.to_list()?,
+            state.life,
+            state.coordinator.here.copies.to_list()?,
             state.participant.in_doubt()?,
             state.coordinator.decisions()?,
         ))
@@ -87,14 +94,14 @@ impl Site {
     pub fn id(&self) -> SiteId
         ensures { result ≡ self.now.id }
     {
-        self.state().coordinator.id()
+        self.state().id
     }
 
     /// The number of the site's life, from 1 on, which its start forces to the log.
     pub fn life(&self) -> u32
         ensures { result ≡ self.now.life }
     {
-        self.state().coordinator.life()
+        self.state().life
     }
 
     /// The view that the site holds, if it holds one.
@@ -131,22 +138,19 @@ fn views_at_start(catalog: &Catalog, id: SiteId, durable: &Durable) -> Result<Vi
 
 /// Makes the state with which the site begins its next life.
 #[tactic(auto, unfolding(vp_model::specs::Step::start))]
-fn live(catalog: &Catalog, id: SiteId, durable: Durable) -> Result<Box<SiteState>, NoMemory>
+fn live(catalog: &Catalog, id: SiteId, durable: Durable) -> Result<Box<Stepped>, NoMemory>
     requires { durable.life < 2 ^ 32 - 1 }
-    ensures { IfOk result (λ kept. kept.value ≡ start catalog.now id durable) }
+    ensures { IfOk result (λ kept. kept.value ≡ begin_step (start catalog.now id durable)) }
 {
     let alloc = catalog.sites().allocator();
-    let coordinator = Coordinator::restore(alloc, id, durable.life() + 1, &durable)?;
     let mut locks = Locks::new(alloc);
-    let state = SiteState {
+    let kept = Stepped {
+        id,
+        life: durable.life() + 1,
         participant: Participant::restore(alloc, &durable, &mut locks)?,
         views: views_at_start(catalog, id, &durable)?,
         refresh: Refresh::none(alloc),
-        coordinator,
-        here: Here {
-            locks,
-            copies: SiteCopies::new(durable.into_copies()),
-        },
+        coordinator: Coordinator::restore(alloc, durable, locks)?,
     };
-    Ok(Box::new(alloc, state)?)
+    Ok(Box::new(alloc, kept)?)
 }

@@ -1,23 +1,23 @@
 //! What a site does as time passes: it ends invitations and pending calls, and asks and answers again what may have been lost.
 
-ghost use Rattle.std.specs.Prelude.{◌≡◌, OnOk};
+ghost use Rattle.std.specs.Prelude.{◌≡◌, OnOk, option_copied};
 ghost use Rattle.std.specs.Option.{option_map_or};
-ghost use Rattle.vp_site.specs.Lifted.{in_step};
-ghost use Rattle.vp_model.specs.Step.{fix_view, ask_again, ask_again_all, time_out, tick_view, inquire_all, on_tick, on_probe};
+ghost use Rattle.vp_site.specs.Asking.{ask, ask_each};
+ghost use Rattle.vp_model.specs.Step.{fix_view, ask_again_all, time_out, tick_view, inquire_all, on_tick, on_probe};
 
-use crate::state::SiteState;
 use crate::stepped::Stepped;
 use crate::views::invite;
-use vp_base::{Effects, Message, NoMemory, View, ViewId};
+use vp_base::{Effects, Message, NoMemory, SiteId, View, ViewId};
 use vp_catalog::Catalog;
 use vp_refresh::RefreshEntry;
 
 /// Ends the invitation: the sites that have accepted are the members of the view, which this site then holds.
 #[tactic(auto, unfolding(vp_model::specs::Step::fix_view, vp_model::specs::Step::fix, vp_model::specs::Views::hold))]
 fn fix_view(stepped: &mut Stepped, catalog: &Catalog) -> Result<(), NoMemory>
-    ensures { OnOk result (stepped.new ≡ option_map_or (λ inviting. fix_view catalog.now inviting stepped.old) stepped.old.site.inviting stepped.old) }
+    ensures { OnOk result (stepped.new ≡
+        option_map_or (λ inviting. fix_view catalog.now inviting stepped.old) stepped.old.site.inviting stepped.old) }
 {
-    if !stepped.site.views.fix(&mut stepped.effects)? {
+    if !stepped.views.fix(&mut stepped.coordinator.effects)? {
         return Ok(());
     }
     match stepped.held_view()? {
@@ -31,9 +31,8 @@ fn fix_view(stepped: &mut Stepped, catalog: &Catalog) -> Result<(), NoMemory>
 fn time_out(stepped: &mut Stepped, catalog: &Catalog, view: &View) -> Result<(), NoMemory>
     ensures { OnOk result (stepped.new ≡ time_out catalog.now view.now stepped.old) }
 {
-    let site: &mut SiteState = &mut stepped.site;
-    site.coordinator.tick(&mut site.here, &mut stepped.effects)?;
-    ask_again_all(site, catalog, view.id, &mut stepped.effects)
+    stepped.coordinator.time_out_calls(stepped.id)?;
+    ask_again_all(stepped, catalog, view.id)
 }
 
 /// Does the part of a tick that depends on whether the site holds a view, waits for one or invites to one.
@@ -41,11 +40,11 @@ fn time_out(stepped: &mut Stepped, catalog: &Catalog, view: &View) -> Result<(),
 fn tick_view(stepped: &mut Stepped, catalog: &Catalog) -> Result<(), NoMemory>
     ensures { OnOk result (stepped.new ≡ tick_view catalog.now stepped.old) }
 {
-    if stepped.site.views.inviting().is_some() {
+    if stepped.views.inviting().is_some() {
         return fix_view(stepped, catalog);
     }
-    if stepped.site.views.waiting().is_some() {
-        stepped.site.views.stop_waiting();
+    if stepped.views.waiting().is_some() {
+        stepped.views.stop_waiting();
         return Ok(());
     }
     match stepped.held_view()? {
@@ -59,7 +58,7 @@ fn tick_view(stepped: &mut Stepped, catalog: &Catalog) -> Result<(), NoMemory>
 fn inquire_all(stepped: &mut Stepped) -> Result<(), NoMemory>
     ensures { OnOk result (stepped.new ≡ inquire_all stepped.old) }
 {
-    let txns = stepped.site.participant.known()?;
+    let txns = stepped.participant.known()?;
     for txn in txns.as_slice() {
         stepped.send(txn.site, Message::Inquire { txn: *txn })?;
     }
@@ -73,7 +72,7 @@ pub fn on_tick(stepped: &mut Stepped, catalog: &Catalog) -> Result<(), NoMemory>
     ensures { OnOk result (stepped.new ≡ on_tick catalog.now stepped.old) }
 {
     tick_view(stepped, catalog)?;
-    stepped.site.coordinator.resend(&mut stepped.effects)?;
+    stepped.coordinator.resend(stepped.id)?;
     inquire_all(stepped)
 }
 
@@ -83,43 +82,59 @@ pub fn on_tick(stepped: &mut Stepped, catalog: &Catalog) -> Result<(), NoMemory>
 pub fn on_probe(stepped: &mut Stepped, catalog: &Catalog) -> Result<(), NoMemory>
     ensures { OnOk result (stepped.new ≡ on_probe catalog.now stepped.old) }
 {
-    if stepped.site.views.wants_view() {
+    if stepped.views.wants_view() {
         invite(stepped, catalog)
     } else {
-        stepped.site.views.probe(catalog, &mut stepped.effects)
+        stepped
+            .views
+            .probe(catalog, &mut stepped.coordinator.effects)
+    }
+}
+
+/// What is said again of each copy under refresh to the other holders that have not answered for it.
+#[derive(Clone, Copy)]
+struct Asking<'c, 'v> {
+    catalog: &'c Catalog,
+    held: Option<&'v View>,
+    id: SiteId,
+    view: ViewId,
+}
+
+impl Asking<'_, '_> {
+    fn ask(&self, asked: &RefreshEntry, effects: &mut Effects) -> Result<(), NoMemory>
+        ensures { OnOk result (effects.new ≡
+            ask self.now.catalog.now self.now.id (option_copied self.now.held) self.now.view asked.now effects.old) }
+    {
+        let missing = asked.missing(self.catalog, self.id, self.held)?;
+        let request = Message::RefreshRequest {
+            view: self.view,
+            rec: asked.rec(),
+        };
+        effects.send_all(self.id, missing.as_slice(), &request)
+    }
+
+    fn ask_each(&self, refresh: &[RefreshEntry], effects: &mut Effects) -> Result<(), NoMemory>
+        ensures { OnOk result (effects.new ≡
+            ask_each self.now.catalog.now self.now.id (option_copied self.now.held) self.now.view refresh.now effects.old) }
+    {
+        for asked in refresh {
+            self.ask(asked, effects)?;
+        }
+        Ok(())
     }
 }
 
 /// Asks again for the copies of the other holders that have not answered.
-fn ask_again_all(
-    site: &SiteState,
-    catalog: &Catalog,
-    view: ViewId,
-    effects: &mut Effects,
-) -> Result<(), NoMemory>
-    ensures { OnOk result (in_step site.now effects.new ≡ ask_again_all catalog.now view site.now.refresh (in_step site.now effects.old)) }
+fn ask_again_all(stepped: &mut Stepped, catalog: &Catalog, view: ViewId) -> Result<(), NoMemory>
+    ensures { OnOk result (stepped.new ≡
+        ask_again_all catalog.now view stepped.old.site.refresh stepped.old) }
 {
-    for asked in site.refresh.as_slice() {
-        ask_again(site, catalog, view, asked, effects)?;
-    }
-    Ok(())
-}
-
-#[tactic(auto, unfolding(vp_model::specs::Step::ask_again))]
-fn ask_again(
-    site: &SiteState,
-    catalog: &Catalog,
-    view: ViewId,
-    asked: &RefreshEntry,
-    effects: &mut Effects,
-) -> Result<(), NoMemory>
-    ensures { OnOk result (in_step site.now effects.new ≡ ask_again catalog.now view asked.now (in_step site.now effects.old)) }
-{
-    let id = site.coordinator.id();
-    let missing = asked.missing(catalog, id, site.views.held())?;
-    let request = Message::RefreshRequest {
+    let asking = Asking {
+        catalog,
+        held: stepped.views.held(),
+        id: stepped.id,
         view,
-        rec: asked.rec(),
     };
-    effects.send_all(id, missing.as_slice(), &request)
+    asking.ask_each(stepped.refresh.as_slice(), &mut stepped.coordinator.effects)?;
+    Ok(())
 }

@@ -5,7 +5,6 @@ ghost use Rattle.vp_model.specs.Views.{leave, invite};
 ghost use Rattle.vp_model.specs.Messages.{on_invite, on_view_commit};
 ghost use Rattle.vp_views.specs.Viewing.{IsApart};
 
-use crate::state::SiteState;
 use crate::stepped::Stepped;
 use vp_base::{CopyOf, NoMemory, SiteId, Sites, View, ViewId};
 use vp_catalog::Catalog;
@@ -19,12 +18,13 @@ pub fn leave(stepped: &mut Stepped) -> Result<(), NoMemory>
     ensures row { OnOk result (stepped.new ≡ leave stepped.old) }
     ensures apart { OnOk result (IsApart stepped.new.site.views) }
 {
-    let site: &mut SiteState = &mut stepped.site;
-    site.coordinator
-        .leave(&mut site.here, &mut stepped.effects)?;
-    site.participant.leave(&mut site.here.locks);
-    site.refresh.clear();
-    site.views.leave();
+    let id = stepped.id;
+    stepped.coordinator.abandon(id)?;
+    stepped
+        .participant
+        .leave(&mut stepped.coordinator.here.locks);
+    stepped.refresh.clear();
+    stepped.views.leave();
     Ok(())
 }
 
@@ -33,11 +33,14 @@ pub fn leave(stepped: &mut Stepped) -> Result<(), NoMemory>
 pub fn invite(stepped: &mut Stepped, catalog: &Catalog) -> Result<(), NoMemory>
     ensures { OnOk result (stepped.new ≡ invite catalog.now stepped.old) }
 {
-    if stepped.site.views.invitable().is_err() {
+    if stepped.views.invitable().is_err() {
         return Ok(());
     }
     leave(stepped)?;
-    match stepped.site.views.invite(catalog, &mut stepped.effects) {
+    match stepped
+        .views
+        .invite(catalog, &mut stepped.coordinator.effects)
+    {
         Err(InviteFault::NoMemory) => Err(NoMemory),
         _ => Ok(()),
     }
@@ -48,13 +51,12 @@ pub fn invite(stepped: &mut Stepped, catalog: &Catalog) -> Result<(), NoMemory>
 pub fn on_invite(stepped: &mut Stepped, from: SiteId, id: ViewId) -> Result<(), NoMemory>
     ensures { OnOk result (stepped.new ≡ on_invite from id stepped.old) }
 {
-    if view_comes_before(&stepped.site.views.promise(), &id) {
+    if view_comes_before(&stepped.views.promise(), &id) {
         leave(stepped)?;
     }
     stepped
-        .site
         .views
-        .on_invite(from, id, &mut stepped.effects)?;
+        .on_invite(from, id, &mut stepped.coordinator.effects)?;
     Ok(())
 }
 
@@ -70,7 +72,7 @@ pub fn on_view_commit(
 {
     let members = members.copy_of()?;
     let view = View { id, members };
-    if stepped.site.views.on_commit(&view)? {
+    if stepped.views.on_commit(&view)? {
         stepped.refresh_here(catalog, &view)
     } else {
         Ok(())

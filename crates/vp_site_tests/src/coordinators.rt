@@ -2,11 +2,9 @@
 
 use std::alloc::Global;
 use std::process::Abort;
-use vp_base::{
-    Boxed, Call, CallNo, Copies, CopyOf, Effects, Message, Name, SiteId, TxnId, Value, View, ViewId,
-};
+use vp_base::{Boxed, Call, CallNo, CopyOf, Message, Name, SiteId, TxnId, Value, View, ViewId};
 use vp_catalog::Catalog;
-use vp_coordinator::{Coordinator, Here, SiteCopies};
+use vp_coordinator::{Around, Coordinator, Incoming};
 use vp_locks::Locks;
 use vp_records::Durable;
 
@@ -23,70 +21,70 @@ fn txn() -> TxnId {
     }
 }
 
-/// Site 1 in a view of the three sites, and the effects of its coordinator.
+/// Site 1 in a view of the three sites, with what it lends to its coordinator.
 #[derive(Drop)]
 struct Bench {
     catalog: Catalog,
     held: View,
     coordinator: Coordinator,
-    here: Here,
-    effects: Effects,
 }
 
 /// Each method but the last says whether it is done, and whether there are so many replies and messages by then.
 impl Bench {
     fn does(&mut self, call: Call, replies: usize, messages: usize) -> bool {
-        let done = self.coordinator.call(
-            &self.catalog,
-            Some(&self.held),
-            ID,
-            &mut self.here,
-            7009,
-            &call,
-            &mut self.effects,
-        );
+        let at = Around {
+            catalog: &self.catalog,
+            held: Some(&self.held),
+            id: SiteId::of(1),
+            life: 1,
+            promise: ID,
+        };
+        let done = self.coordinator.own_call(&at, 7009, &call);
         done.is_ok() && self.has_given(replies, messages)
     }
 
     fn hears(&mut self, from: SiteId, message: Message, replies: usize, messages: usize) -> bool {
-        let done = self.coordinator.on_answer(
-            &self.catalog,
-            &mut self.here,
+        let came = Incoming {
+            catalog: &self.catalog,
             from,
-            &message,
-            &mut self.effects,
-        );
+            id: SiteId::of(1),
+        };
+        let done = match &message {
+            Message::ReadAnswer { txn, number, value } => {
+                self.coordinator
+                    .on_read_answer(&came, txn, *number, value.as_ref())
+            }
+            Message::WriteAnswer { txn, number } => self
+                .coordinator
+                .on_write_answer(&came, txn, *number),
+            Message::Vote { txn } => self.coordinator.on_vote(&came, txn),
+            Message::Ack { txn } => self.coordinator.on_ack(from, txn),
+            _ => return false,
+        };
         done.is_ok() && self.has_given(replies, messages)
     }
 
     fn ticks(&mut self, replies: usize, messages: usize) -> bool {
-        let done = self.coordinator.tick(&mut self.here, &mut self.effects);
+        let done = self.coordinator.time_out_calls(SiteId::of(1));
         done.is_ok() && self.has_given(replies, messages)
     }
 
     fn resends(&mut self, replies: usize, messages: usize) -> bool {
-        let done = self.coordinator.resend(&mut self.effects);
+        let done = self.coordinator.resend(SiteId::of(1));
         done.is_ok() && self.has_given(replies, messages)
     }
 
     fn has_given(&self, replies: usize, messages: usize) -> bool {
-        self.effects.replies.as_slice().len() == replies
-            && self.effects.messages.as_slice().len() == messages
+        self.coordinator.effects.replies.as_slice().len() == replies
+            && self.coordinator.effects.messages.as_slice().len() == messages
     }
 }
 
-/// Site 1 before anything ran.
-fn unlocked(rt: &impl Abort, alloc: Global, catalog: &Catalog) -> Here {
+/// What site 1 lends before anything ran.
+fn restored(rt: &impl Abort, alloc: Global, catalog: &Catalog) -> Coordinator {
     let copies = catalog.copies(SiteId::of(1)).expect(rt, "memory");
-    Here {
-        locks: Locks::new(alloc),
-        copies: SiteCopies::new(copies),
-    }
-}
-
-fn restored(rt: &impl Abort, alloc: Global) -> Coordinator {
-    let durable = Durable::empty(Copies::new(alloc));
-    Coordinator::restore(alloc, SiteId::of(1), 1, &durable).expect(rt, "memory")
+    let restored = Coordinator::restore(alloc, Durable::empty(copies), Locks::new(alloc));
+    restored.expect(rt, "memory")
 }
 
 fn first_site(rt: &impl Abort, alloc: Global) -> Bench {
@@ -94,9 +92,7 @@ fn first_site(rt: &impl Abort, alloc: Global) -> Bench {
     let members = catalog.sites().copy_of().expect(rt, "memory");
     Bench {
         held: View { id: ID, members },
-        coordinator: restored(rt, alloc),
-        here: unlocked(rt, alloc, &catalog),
-        effects: Effects::none(alloc),
+        lent: restored(rt, alloc, &catalog),
         catalog,
     }
 }
@@ -197,7 +193,7 @@ fn a_transaction_reads_writes_and_commits(rt: HostRuntime) {
 /// Whether a transaction that has begun is gone once the view is left.
 fn view_is_left(site: &mut Bench) -> bool {
     let begun = site.does(Call::Begin, 3, 2) && site.coordinator.newest().is_some();
-    let left = site.coordinator.leave(&mut site.here, &mut site.effects);
+    let left = site.coordinator.abandon(SiteId::of(1));
     begun && left.is_ok() && site.coordinator.newest().is_none()
 }
 

@@ -1,7 +1,5 @@
 use Rattle.std.proofs.Common.{◌≡◌, ◌∙◌, true, false, ap, sym}
-use Rattle.vp_model.specs.Site.{SiteState}
 use Rattle.vp_model.specs.Refresh.{is_open}
-use Rattle.vp_site.specs.declared.state.SiteState.TheInside.{Inside}
 use Rattle.vp_site.proofs.Refreshes.{passes, fails}
 use Rattle.vp_site.proofs.stepped.Stepped.usable_here.Goals as goal
 use Rattle.vp_site.proofs.stepped.Stepped.usable_here.Goals.{then-is_open+in_ok-push, else-is_open}
@@ -9,8 +7,7 @@ use Rattle.vp_site.proofs.stepped.Stepped.usable_here.Goals.{then-is_open+in_ok-
 pub loop-rec-preserved : goal.loop-rec-preserved
 loop-rec-preserved c =
     let site = c.args.self.now.site in
-    let same : c.as_slice-rec-items.result.now ≡ site.copies =
-    c.as_slice-rec-items.ensures ∙ ap (λ (i : Inside). i.here.copies) c.site-2.view_is ∙ ap (λ (s : SiteState). s.copies) (c.after-self.view_is ∙ c.site.ensures) in
+    let same : c.as_slice-rec-items.result.now ≡ site.copies = c.as_slice-rec-items.ensures ∙ c.copies.ensures in
     elim c.if-is_open.branch [
       | then-is_open+in_ok-push w ↦
           let yes : is_open c.args.catalog.now site c.loop-rec-item.result.0 ≡ true = sym c.is_open.ensures ∙ w.if-is_open.true in

@@ -1,7 +1,7 @@
 use Rattle.std.proofs.Common.{◌≡◌, take, drop}
 use Rattle.vp_model.specs.Words.{for_each}
 use Rattle.vp_coordinator.specs.Ends.{timed_out}
-use Rattle.vp_coordinator.proofs.lent.Lent.time_out_each.Given as goal
+use Rattle.vp_coordinator.proofs.coordinator.Coordinator.time_out_each.Given as goal
 
 abbrev pub invariant-loop-t : goal.invariant-loop-t
 invariant-loop-t l =

@@ -6,7 +6,7 @@ use Rattle.vp_model.specs.Step.{is_marked_call, with_marks}
 use Rattle.vp_transactions.specs.Waiting.{all_wait}
 use Rattle.vp_coordinator.specs.Ends.{timed_out}
 use Rattle.vp_coordinator.proofs.Ends.{time_out_is}
-use Rattle.vp_coordinator.proofs.lent.Lent.tick.Goals as goal
+use Rattle.vp_coordinator.proofs.coordinator.Coordinator.time_out_calls.Goals as goal
 
 pub returns : goal.returns
 returns c =

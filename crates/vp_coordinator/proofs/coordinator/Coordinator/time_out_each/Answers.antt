@@ -1,7 +1,7 @@
 use Rattle.std.proofs.Common.{◌∙◌, ap}
 use Rattle.vp_coordinator.specs.Ends.{timed_out}
 use Rattle.vp_coordinator.proofs.Each.{done_more, rest_more}
-use Rattle.vp_coordinator.proofs.lent.Lent.time_out_each.Goals as goal
+use Rattle.vp_coordinator.proofs.coordinator.Coordinator.time_out_each.Goals as goal
 
 pub loop-t-preserved : goal.loop-t-preserved
 loop-t-preserved c = (

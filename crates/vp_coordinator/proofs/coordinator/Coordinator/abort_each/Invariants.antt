@@ -2,7 +2,7 @@ use Rattle.std.proofs.Common.{◌≡◌, None, length}
 use Rattle.vp_base.specs.declared.site.Ending.TheVariants.{ViewChanged}
 use Rattle.vp_model.specs.Types.{Live}
 use Rattle.vp_model.specs.Transactions.{close_all}
-use Rattle.vp_coordinator.proofs.lent.Lent.abort_each.Given as goal
+use Rattle.vp_coordinator.proofs.coordinator.Coordinator.abort_each.Given as goal
 
 -- ending what is left gives what ending all of them gives
 abbrev pub invariant-loop-t : goal.invariant-loop-t

@@ -2,7 +2,7 @@ use Rattle.std.proofs.Common.{◌∙◌, None}
 use Rattle.vp_base.specs.declared.site.Ending.TheVariants.{ViewChanged}
 use Rattle.vp_model.specs.Types.{Live}
 use Rattle.vp_coordinator.proofs.Ends.{all_closed, closed_first, fewer_left}
-use Rattle.vp_coordinator.proofs.lent.Lent.abort_each.Goals as goal
+use Rattle.vp_coordinator.proofs.coordinator.Coordinator.abort_each.Goals as goal
 
 pub loop-t-preserved : goal.loop-t-preserved
 loop-t-preserved c =
