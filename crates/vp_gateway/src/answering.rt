@@ -4,10 +4,13 @@ ghost use Rattle.std.specs.Prelude.{◌≡◌, ◌++◌, ◌∷◌, [], ◌≤�
 ghost use Rattle.vp_base.specs.Calls.{IsCall};
 ghost use Rattle.vp_model.specs.Texts.Answers.{answer_text};
 ghost use Rattle.vp_outside.specs.Links.{StaysBound};
+ghost use Rattle.vp_gateway.specs.Causes.{RisesAt};
+ghost use Rattle.vp_gateway.specs.Ends.{end_of};
 ghost use Rattle.vp_gateway.specs.Lines.{line_as, bad_line};
 ghost use Rattle.vp_gateway.specs.Sessions.{talk};
 ghost use Rattle.vp_gateway.specs.Answering.{Says, AnswersLine};
 ghost use Rattle.vp_gateway.specs.declared.asked.LineRequest.TheVariants as asked;
+ghost use Rattle.vp_gateway.specs.declared.end.GateEnd.TheVariants as ends;
 
 use crate::asked::{LineRequest, read_line};
 use crate::end::GateEnd;
@@ -34,6 +37,7 @@ pub fn answer<K: Sink, L: Link>(
     requires bound { IsTrue (L.state link.old).bound }
     ensures answers { AnswersLine port site turns (line_as newline line.now)
         (talk (K.state sink.old) (K.state sink.new) (L.state link.old) (L.state link.new)) result }
+    ensures cause { RisesAt ends.WriteFault (end_of result) (K.state sink.old).faults (K.state sink.new).faults }
     ensures stays { StaysBound (L.state link.old) (L.state link.new) }
 {
     let text = said(alloc, link, port, site, turns, line, newline)?;

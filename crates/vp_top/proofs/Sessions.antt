@@ -60,7 +60,7 @@ module _ (sink sink' : SinkState) (told : Status) where
 -- ---- a session of these bytes
 
 -- what was taken begins what there was
-taken_front : (left after : Option (List ℕ)) (given bytes : List ℕ) → left ≡ Some given → Consumes left after bytes → (rest : List ℕ) × (given ≡ bytes ++ rest)
+pub taken_front : (left after : Option (List ℕ)) (given bytes : List ℕ) → left ≡ Some given → Consumes left after bytes → (rest : List ℕ) × (given ≡ bytes ++ rest)
 taken_front None after given bytes e gone = absurd cc
 taken_front (Some xs) None given bytes e gone = absurd gone
 taken_front (Some xs) (Some ys) given bytes e gone = let same : given ≡ xs = cc in (ys, same ∙ gone)

@@ -1,6 +1,7 @@
 -- How the command that runs a gateway ends: how serving the session ended, and what was printed after the answers.
 use Rattle.std.specs.Prelude.{◌≡◌, ℕ, List, codes, Option, Some, None, Result, Ok, Err}
 use Rattle.vp_outside.specs.Output.{SinkState}
+use Rattle.vp_gateway.specs.Causes.{RisesAt}
 use Rattle.vp_gateway.specs.Served.{Gate, Serves}
 use Rattle.vp_gateway.specs.declared.end.GateEnd.{GateEnd}
 use Rattle.vp_gateway.specs.declared.end.GateEnd.TheVariants as ends
@@ -47,9 +48,13 @@ abbrev pub PrintsDefined : {E : Type 0} → Result RunOutput E → SinkState →
 PrintsDefined (Ok it) sink sink' told = Prints it.status it.text.items sink sink' told
 PrintsDefined (Err e) sink sink' told = (told ≡ status.NoMemory) × (sink' ≡ sink)
 
--- The session was served, and its end was told.
+-- The session was served, and its end was told. The source's count and the sink's rose from the start where the status says so, and else
+-- not at all.
 pub record GatewayEnds (own turns site : ℕ) (g : Gate) (told : Status) : Type 0 where
   pub end : GateEnd
   pub sink : SinkState
   pub serves : Serves own site turns (record g { sink' = sink }) end
+  pub put : RisesAt ends.WriteFault end g.sink.faults sink.faults
   pub tells : PrintsLine (status_of end) (last_line end) sink g.sink' told
+  pub source_cause : RisesAt status.SourceFault told g.source.faults g.source'.faults
+  pub sink_cause : RisesAt status.SinkFault told g.sink.faults g.sink'.faults
