@@ -45,16 +45,16 @@ output_rises T output.NoMemory before now h = stays ends.WriteFault before now e
 
 -- an input's fault is none of the sink's
 pub input_unput : (e : InputFault) → end_of_input e ≡ ends.WriteFault → ⊥
-input_unput input.Failed e = cc
-input_unput input.TooLong e = cc
-input_unput input.NoMemory e = cc
+input_unput input.Failed e = let no : ends.ReadFault ≡ ends.WriteFault = e in cc
+input_unput input.TooLong e = let no : ends.Limit ≡ ends.WriteFault = e in cc
+input_unput input.NoMemory e = let no : ends.NoMemory ≡ ends.WriteFault = e in cc
 
 -- a catalogue's fault is none of the source's
 pub catalog_untaken : (e : CatalogFault) → end_of_catalog e ≡ ends.ReadFault → ⊥
-catalog_untaken (lines.BadLine line at) e = cc
-catalog_untaken (lines.Twice line) e = cc
-catalog_untaken (lines.TooMany line limit) e = cc
-catalog_untaken lines.NoMemory e = cc
+catalog_untaken (lines.BadLine line at) e = let no : ends.BadLine line at ≡ ends.ReadFault = e in cc
+catalog_untaken (lines.Twice line) e = let no : ends.Twice line ≡ ends.ReadFault = e in cc
+catalog_untaken (lines.TooMany line limit) e = let no : ends.TooMany line limit ≡ ends.ReadFault = e in cc
+catalog_untaken lines.NoMemory e = let no : ends.NoMemory ≡ ends.ReadFault = e in cc
 
 -- ---- the ends of a line
 
@@ -71,10 +71,10 @@ said_unput port site turns view line old new ends.ReadFault h e = h
 said_unput port site turns view line old new ends.Limit h e = h
 
 pub answered_untaken : (port site turns : ℕ) (line : LineRequest) (t : Talk) (r : Result (Unit {0}) GateEnd) → AnswersLine port site turns line t r → end_of r ≡ ends.ReadFault → ⊥
-answered_untaken port site turns line t (Ok u) h e = cc
-answered_untaken port site turns line t (Err ends.WriteFault) h e = cc
-answered_untaken port site turns line t (Err ends.LinkFault) h e = cc
-answered_untaken port site turns line t (Err ends.NoMemory) h e = cc
+answered_untaken port site turns line t (Ok u) h e = let no : ends.Done ≡ ends.ReadFault = e in cc
+answered_untaken port site turns line t (Err ends.WriteFault) h e = let no : ends.WriteFault ≡ ends.ReadFault = e in cc
+answered_untaken port site turns line t (Err ends.LinkFault) h e = let no : ends.LinkFault ≡ ends.ReadFault = e in cc
+answered_untaken port site turns line t (Err ends.NoMemory) h e = let no : ends.NoMemory ≡ ends.ReadFault = e in cc
 answered_untaken port site turns line t (Err ends.Done) h e = h
 answered_untaken port site turns line t (Err (ends.BadLine l at)) h e = h
 answered_untaken port site turns line t (Err (ends.Twice l)) h e = h

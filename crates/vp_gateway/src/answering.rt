@@ -22,7 +22,7 @@ use vp_text::print_number;
 use vp_trace::print_answer;
 
 /// Answers a line: asks the site, if the line is a call, and puts the answer to the sink.
-#[tactic(auto, using(crate::proofs::OneLine::unsaid, crate::proofs::OneLine::put_whole, crate::proofs::OneLine::put_part))]
+#[tactic(auto, using(crate::proofs::OneLine::unsaid, crate::proofs::OneLine::put_whole, crate::proofs::OneLine::put_part, crate::proofs::Counting::output_rises))]
 pub fn answer<K: Sink, L: Link>(
     alloc: Global,
     sink: &mut K,

@@ -4,7 +4,6 @@ use Rattle.vp_outside.specs.Input.{SourceState}
 use Rattle.vp_lines.specs.Ahead.{Ahead, fitting, HasLine, HasRest}
 use Rattle.vp_lines.specs.Lines.{Split, split}
 use Rattle.vp_lines.specs.declared.unread.LineFound.{LineFound}
-use Rattle.vp_lines.specs.declared.unread.LineFound.TheVariants as found
 
 abbrev pub parts : List (List ℕ) → List ℕ → Split
 parts lines rest = record { lines = lines; rest = rest }
