@@ -25,6 +25,9 @@ begin = asked.Call call.Begin
 abbrev pub read : LineRequest
 read = asked.Call (call.Read txn 1 (codes "x"))
 
+abbrev pub all : List LineRequest
+all = begin ∷ read ∷ asked.Bad 1 ∷ []
+
 -- what is asked once each of these pieces has come after the bytes before
 abbrev pub asked_after : List ℕ → List (List ℕ) → List (List LineRequest)
 asked_after before [] = []

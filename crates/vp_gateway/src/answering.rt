@@ -37,7 +37,8 @@ pub fn answer<K: Sink, L: Link>(
     requires bound { IsTrue (L.state link.old).bound }
     ensures answers { AnswersLine port site turns (line_as newline line.now)
         (talk (K.state sink.old) (K.state sink.new) (L.state link.old) (L.state link.new)) result }
-    ensures cause { RisesAt ends.WriteFault (end_of result) (K.state sink.old).faults (K.state sink.new).faults }
+    ensures cause { RisesAt ends.WriteFault (end_of result) (K.state sink.old).faults
+        (K.state sink.new).faults }
     ensures stays { StaysBound (L.state link.old) (L.state link.new) }
 {
     let text = said(alloc, link, port, site, turns, line, newline)?;
@@ -58,7 +59,8 @@ fn said<L: Link>(
 ) -> Result<Vec<u8>, GateEnd>
     requires short { length line.now ≤ 4097 }
     requires bound { IsTrue (L.state link.old).bound }
-    ensures says { Says port site turns (λ text. text.items) (line_as newline line.now) (L.state link.old) (L.state link.new) result }
+    ensures says { Says port site turns (λ text. text.items) (line_as newline line.now) (L.state link.old)
+        (L.state link.new) result }
     ensures stays { StaysBound (L.state link.old) (L.state link.new) }
 {
     match read_line(alloc, line, newline)? {
@@ -80,7 +82,8 @@ fn asked<L: Link>(
 ) -> Result<Vec<u8>, GateEnd>
     requires bound { IsTrue (L.state link.old).bound }
     requires call { IsCall call.now }
-    ensures says { Says port site turns (λ text. text.items) (asked.Call call.now) (L.state link.old) (L.state link.new) result }
+    ensures says { Says port site turns (λ text. text.items) (asked.Call call.now) (L.state link.old)
+        (L.state link.new) result }
     ensures stays { StaysBound (L.state link.old) (L.state link.new) }
 {
     match ask(alloc, link, port, site, call, turns) {

@@ -28,7 +28,8 @@ pub fn open<S: Source>(
 ) -> Result<u16, GateEnd>
     requires { unread.old ≡ untaken }
     ensures opens { Opens site unread.new (S.state source.old) (S.state source.new) result }
-    ensures cause { RisesAt ends.ReadFault (end_of result) (S.state source.old).faults (S.state source.new).faults }
+    ensures cause { RisesAt ends.ReadFault (end_of result) (S.state source.old).faults
+        (S.state source.new).faults }
 {
     match find_port(alloc, source, unread, site) {
         Ok(port) => Ok(port),
@@ -58,7 +59,8 @@ fn find_port<S: Source>(
 ) -> Result<u16, GateEnd>
     requires { unread.old ≡ untaken }
     ensures finds { FindsPort site unread.new (S.state source.old) (S.state source.new) result }
-    ensures cause { RisesAt ends.ReadFault (end_of result) (S.state source.old).faults (S.state source.new).faults }
+    ensures cause { RisesAt ends.ReadFault (end_of result) (S.state source.old).faults
+        (S.state source.new).faults }
 {
     let mut head = Head::new(alloc);
     let mut line = Vec::new(alloc);

@@ -31,7 +31,8 @@ pub fn serve<S: Source, K: Sink, L: Link>(
     requires fresh { (L.state link.old).asked ≡ None }
     ensures serves { Serves own site turns
         (gate (S.state source.old) (S.state source.new) (K.state sink.old) (K.state sink.new) (L.state link.old) (L.state link.new)) result }
-    ensures source_cause { RisesAt ends.ReadFault result (S.state source.old).faults (S.state source.new).faults }
+    ensures source_cause { RisesAt ends.ReadFault result (S.state source.old).faults
+        (S.state source.new).faults }
     ensures sink_cause { RisesAt ends.WriteFault result (K.state sink.old).faults (K.state sink.new).faults }
 {
     let mut unread = ReadBuffer::new();
@@ -63,8 +64,10 @@ fn answer_lines<S: Source, K: Sink, L: Link>(
     requires bound { IsTrue (L.state link.old).bound }
     ensures answers { AnswersLines port site turns unread.old (S.state source.old) (S.state source.new)
         (talk (K.state sink.old) (K.state sink.new) (L.state link.old) (L.state link.new)) result }
-    ensures source_cause { RisesAt ends.ReadFault (end_of result) (S.state source.old).faults (S.state source.new).faults }
-    ensures sink_cause { RisesAt ends.WriteFault (end_of result) (K.state sink.old).faults (K.state sink.new).faults }
+    ensures source_cause { RisesAt ends.ReadFault (end_of result) (S.state source.old).faults
+        (S.state source.new).faults }
+    ensures sink_cause { RisesAt ends.WriteFault (end_of result) (K.state sink.old).faults
+        (K.state sink.new).faults }
 {
     let mut line = Vec::new(alloc);
     'lines: loop {

@@ -8,15 +8,15 @@ ghost use Rattle.vp_model.specs.Types.answer;
 
 /// Two calls, and a line that is no call from its first byte on.
 pub fn lines_of_a_session()
-    ensures { all_lines worked.session ≡ worked.begin ∷ worked.read ∷ asked.Bad 1 ∷ [] }
+    ensures { all_lines worked.session ≡ worked.all }
 {}
 
 /// Wherever the session is cut, a line is answered once its newline has come.
 pub fn sessions_in_pieces()
     ensures within { worked.asked_after [] (codes "beg" ∷ codes "in\n1.1.1 1 re" ∷ codes "ad x\nfoo" ∷ codes "\n" ∷ [])
-        ≡ [] ∷ (worked.begin ∷ []) ∷ (worked.begin ∷ worked.read ∷ []) ∷ (worked.begin ∷ worked.read ∷ asked.Bad 1 ∷ []) ∷ [] }
+        ≡ [] ∷ (worked.begin ∷ []) ∷ (worked.begin ∷ worked.read ∷ []) ∷ worked.all ∷ [] }
     ensures at_newlines { worked.asked_after [] (codes "begin" ∷ codes "\n1.1.1 1 read x\n" ∷ codes "foo\n" ∷ [])
-        ≡ [] ∷ (worked.begin ∷ worked.read ∷ []) ∷ (worked.begin ∷ worked.read ∷ asked.Bad 1 ∷ []) ∷ [] }
+        ≡ [] ∷ (worked.begin ∷ worked.read ∷ []) ∷ worked.all ∷ [] }
 {}
 
 /// The place at which a line is no call: no call goes on so, or has such a number; something follows a call; or nothing is there.
@@ -45,7 +45,9 @@ pub fn long_lines()
 
 /// The answers of a session, by what its site replies.
 pub fn answers_of_a_session()
-    ensures answered { worked.IsAnsweredBy worked.replies worked.session (codes "begun 1.1.1 0@0\nvalue 1.1.1 1 10\nbad at 1\n") }
-    ensures unanswered { worked.IsAnsweredBy (worked.reply answer.TooManyLive ∷ []) (codes "1.1.1 1 commit\nbeg") (codes "no answer\nbad at 4\n") }
+    ensures answered { worked.IsAnsweredBy worked.replies worked.session
+        (codes "begun 1.1.1 0@0\nvalue 1.1.1 1 10\nbad at 1\n") }
+    ensures unanswered { worked.IsAnsweredBy (worked.reply answer.TooManyLive ∷ []) (codes "1.1.1 1 commit\nbeg")
+        (codes "no answer\nbad at 4\n") }
     ensures long { worked.IsAnsweredBy [] (worked.many 4097) (codes "long\n") }
 {}

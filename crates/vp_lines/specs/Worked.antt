@@ -8,6 +8,9 @@ use Rattle.vp_lines.specs.declared.unread.LineFound.{LineFound}
 abbrev pub parts : List (List ℕ) → List ℕ → Split
 parts lines rest = record { lines = lines; rest = rest }
 
+abbrev pub two : List (List ℕ)
+two = codes "begin" ∷ codes "foo" ∷ []
+
 -- which lines are whole once each of these pieces has come after the bytes before
 abbrev pub whole_after : List ℕ → List (List ℕ) → List (List (List ℕ))
 whole_after before [] = []

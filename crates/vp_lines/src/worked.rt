@@ -18,9 +18,9 @@ pub fn texts_in_lines()
 /// Wherever a text is cut, a line is there once its newline has come.
 pub fn texts_in_pieces()
     ensures within { worked.whole_after [] (codes "be" ∷ codes "gin\nfo" ∷ codes "o\nbeg" ∷ [])
-        ≡ [] ∷ (codes "begin" ∷ []) ∷ (codes "begin" ∷ codes "foo" ∷ []) ∷ [] }
+        ≡ [] ∷ (codes "begin" ∷ []) ∷ worked.two ∷ [] }
     ensures at_newlines { worked.whole_after [] (codes "begin" ∷ codes "\nfoo\n" ∷ [] ∷ codes "beg" ∷ [])
-        ≡ [] ∷ (codes "begin" ∷ codes "foo" ∷ []) ∷ (codes "begin" ∷ codes "foo" ∷ []) ∷ (codes "begin" ∷ codes "foo" ∷ []) ∷ [] }
+        ≡ [] ∷ worked.two ∷ worked.two ∷ worked.two ∷ [] }
     ensures one_by_one { worked.whole_after [] (codes "a" ∷ codes "\n" ∷ codes "\n" ∷ codes "b" ∷ [])
         ≡ [] ∷ (codes "a" ∷ []) ∷ (codes "a" ∷ [] ∷ []) ∷ (codes "a" ∷ [] ∷ []) ∷ [] }
 {}
