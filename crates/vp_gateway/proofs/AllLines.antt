@@ -18,7 +18,7 @@ use Rattle.vp_lines.proofs.Finding.{take_none, took_none, took_then, fitting_mor
 use Rattle.vp_gateway.specs.declared.end.GateEnd.{GateEnd}
 use Rattle.vp_gateway.specs.declared.end.GateEnd.TheVariants as ends
 use Rattle.vp_gateway.specs.declared.asked.LineRequest.{LineRequest}
-use Rattle.vp_gateway.specs.Ends.{end_of_input}
+use Rattle.vp_gateway.specs.Ends.{end_of, end_of_input}
 use Rattle.vp_gateway.specs.Lines.{line_as, whole_lines, last_line, all_lines}
 use Rattle.vp_gateway.specs.Sessions.{Talk, talk, HasAnswered, HasLost, HasCut, HasRunOut}
 use Rattle.vp_gateway.specs.Opening.{most, HasTaken, HasOpened, Opens, IsRefused, HasFailed, HasTakenTooMany}
@@ -239,11 +239,6 @@ module _ (port site turns : ℕ) (old : Ahead) (source : SourceState) (sink : Si
       ends_with r a = by r (subst (λ (x : LineRequest). AnswersLine port site turns x last_talk r) same_last a)
 
 -- ---- the whole
-
--- the end of a session whose lines were answered, or broken off
-abbrev pub end_of : Result (Unit {0}) GateEnd → GateEnd
-end_of (Ok u) = ends.Done
-end_of (Err end) = end
 
 abbrev link_of : Option (List Datagram) → ℕ → Option (List Dispatch) → Option ℕ → Bool → ℕ → ℕ → LinkState
 link_of left given handed asked bound faults losses =

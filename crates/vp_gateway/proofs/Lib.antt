@@ -1,7 +1,9 @@
 mod Splitting
+mod Counting
 mod Reading
 mod Talking
 mod OneLine
 mod Heading
 mod Added
 mod AllLines
+mod WorkedSessions

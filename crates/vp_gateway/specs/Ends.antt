@@ -1,4 +1,5 @@
--- The end of a gateway that a fault of the catalogue becomes.
+-- The end of a gateway that a result or a fault becomes.
+use Rattle.std.specs.Prelude.{Result, Ok, Err}
 use Rattle.vp_catalog.specs.declared.fault.CatalogFault.{CatalogFault}
 use Rattle.vp_catalog.specs.declared.fault.CatalogFault.TheVariants as lines
 use Rattle.vp_outside.specs.declared.source.InputFault.{InputFault}
@@ -7,6 +8,11 @@ use Rattle.vp_outside.specs.declared.sink.OutFault.{OutFault}
 use Rattle.vp_outside.specs.declared.sink.OutFault.TheVariants as output
 use Rattle.vp_gateway.specs.declared.end.GateEnd.{GateEnd}
 use Rattle.vp_gateway.specs.declared.end.GateEnd.TheVariants as ends
+
+-- the end of a session that goes on to the end of its input, or is broken off
+abbrev pub end_of : {T : Type 0} → Result T GateEnd → GateEnd
+end_of (Ok it) = ends.Done
+end_of (Err end) = end
 
 abbrev pub end_of_input : InputFault → GateEnd
 end_of_input input.Failed = ends.ReadFault

@@ -4,10 +4,13 @@ ghost use Rattle.std.specs.Prelude.{◌≡◌, ◌++◌, ◌∷◌, [], ◌≤�
 ghost use Rattle.vp_base.specs.Calls.{IsCall};
 ghost use Rattle.vp_model.specs.Texts.Answers.{answer_text};
 ghost use Rattle.vp_outside.specs.Links.{StaysBound};
+ghost use Rattle.vp_gateway.specs.Causes.{RisesAt};
+ghost use Rattle.vp_gateway.specs.Ends.{end_of};
 ghost use Rattle.vp_gateway.specs.Lines.{line_as, bad_line};
 ghost use Rattle.vp_gateway.specs.Sessions.{talk};
 ghost use Rattle.vp_gateway.specs.Answering.{Says, AnswersLine};
 ghost use Rattle.vp_gateway.specs.declared.asked.LineRequest.TheVariants as asked;
+ghost use Rattle.vp_gateway.specs.declared.end.GateEnd.TheVariants as ends;
 
 use crate::asked::{LineRequest, read_line};
 use crate::end::GateEnd;
@@ -19,7 +22,7 @@ use vp_text::print_number;
 use vp_trace::print_answer;
 
 /// Answers a line: asks the site, if the line is a call, and puts the answer to the sink.
-#[tactic(auto, using(crate::proofs::OneLine::unsaid, crate::proofs::OneLine::put_whole, crate::proofs::OneLine::put_part))]
+#[tactic(auto, using(crate::proofs::OneLine::unsaid, crate::proofs::OneLine::put_whole, crate::proofs::OneLine::put_part, crate::proofs::Counting::output_rises))]
 pub fn answer<K: Sink, L: Link>(
     alloc: Global,
     sink: &mut K,
@@ -34,6 +37,8 @@ pub fn answer<K: Sink, L: Link>(
     requires bound { IsTrue (L.state link.old).bound }
     ensures answers { AnswersLine port site turns (line_as newline line.now)
         (talk (K.state sink.old) (K.state sink.new) (L.state link.old) (L.state link.new)) result }
+    ensures cause { RisesAt ends.WriteFault (end_of result) (K.state sink.old).faults
+        (K.state sink.new).faults }
     ensures stays { StaysBound (L.state link.old) (L.state link.new) }
 {
     let text = said(alloc, link, port, site, turns, line, newline)?;
@@ -54,7 +59,8 @@ fn said<L: Link>(
 ) -> Result<Vec<u8>, GateEnd>
     requires short { length line.now ≤ 4097 }
     requires bound { IsTrue (L.state link.old).bound }
-    ensures says { Says port site turns (λ text. text.items) (line_as newline line.now) (L.state link.old) (L.state link.new) result }
+    ensures says { Says port site turns (λ text. text.items) (line_as newline line.now) (L.state link.old)
+        (L.state link.new) result }
     ensures stays { StaysBound (L.state link.old) (L.state link.new) }
 {
     match read_line(alloc, line, newline)? {
@@ -76,7 +82,8 @@ fn asked<L: Link>(
 ) -> Result<Vec<u8>, GateEnd>
     requires bound { IsTrue (L.state link.old).bound }
     requires call { IsCall call.now }
-    ensures says { Says port site turns (λ text. text.items) (asked.Call call.now) (L.state link.old) (L.state link.new) result }
+    ensures says { Says port site turns (λ text. text.items) (asked.Call call.now) (L.state link.old)
+        (L.state link.new) result }
     ensures stays { StaysBound (L.state link.old) (L.state link.new) }
 {
     match ask(alloc, link, port, site, call, turns) {

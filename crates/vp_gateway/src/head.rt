@@ -4,7 +4,10 @@ ghost use Rattle.std.specs.Prelude.{◌≡◌, ◌⊎◌, false, OnOk};
 ghost use Rattle.vp_text.specs.Documents.{HasNoNewline, IsLine};
 ghost use Rattle.vp_catalog.specs.Document.{IsCatalogueSoFar};
 ghost use Rattle.vp_lines.specs.Ahead.{untaken};
+ghost use Rattle.vp_gateway.specs.Causes.{RisesAt};
+ghost use Rattle.vp_gateway.specs.Ends.{end_of};
 ghost use Rattle.vp_gateway.specs.Opening.{text_of, limited, TakesLine, FindsPort, Opens};
+ghost use Rattle.vp_gateway.specs.declared.end.GateEnd.TheVariants as ends;
 
 use crate::end::GateEnd;
 use std::alloc::Global;
@@ -24,7 +27,9 @@ pub fn open<S: Source>(
     site: SiteId,
 ) -> Result<u16, GateEnd>
     requires { unread.old ≡ untaken }
-    ensures { Opens site unread.new (S.state source.old) (S.state source.new) result }
+    ensures opens { Opens site unread.new (S.state source.old) (S.state source.new) result }
+    ensures cause { RisesAt ends.ReadFault (end_of result) (S.state source.old).faults
+        (S.state source.new).faults }
 {
     match find_port(alloc, source, unread, site) {
         Ok(port) => Ok(port),
@@ -53,7 +58,9 @@ fn find_port<S: Source>(
     site: SiteId,
 ) -> Result<u16, GateEnd>
     requires { unread.old ≡ untaken }
-    ensures { FindsPort site unread.new (S.state source.old) (S.state source.new) result }
+    ensures finds { FindsPort site unread.new (S.state source.old) (S.state source.new) result }
+    ensures cause { RisesAt ends.ReadFault (end_of result) (S.state source.old).faults
+        (S.state source.new).faults }
 {
     let mut head = Head::new(alloc);
     let mut line = Vec::new(alloc);

@@ -6,6 +6,7 @@ mod asked;
 mod end;
 mod head;
 mod serving;
+mod worked;
 
 pub use end::GateEnd;
 pub use serving::serve;

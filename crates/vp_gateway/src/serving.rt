@@ -1,9 +1,12 @@
 //! Serving a session: the lines of a source.
 
 ghost use Rattle.std.specs.Prelude.{◌≡◌, None, IsTrue};
+ghost use Rattle.vp_gateway.specs.Causes.{RisesAt};
+ghost use Rattle.vp_gateway.specs.Ends.{end_of};
 ghost use Rattle.vp_gateway.specs.Sessions.{talk};
 ghost use Rattle.vp_gateway.specs.Answering.{AnswersLines};
 ghost use Rattle.vp_gateway.specs.Served.{Serves, gate};
+ghost use Rattle.vp_gateway.specs.declared.end.GateEnd.TheVariants as ends;
 
 use crate::answering::answer;
 use crate::asked::MOST_LINE;
@@ -28,6 +31,9 @@ pub fn serve<S: Source, K: Sink, L: Link>(
     requires fresh { (L.state link.old).asked ≡ None }
     ensures serves { Serves own site turns
         (gate (S.state source.old) (S.state source.new) (K.state sink.old) (K.state sink.new) (L.state link.old) (L.state link.new)) result }
+    ensures source_cause { RisesAt ends.ReadFault result (S.state source.old).faults
+        (S.state source.new).faults }
+    ensures sink_cause { RisesAt ends.WriteFault result (K.state sink.old).faults (K.state sink.new).faults }
 {
     let mut unread = ReadBuffer::new();
     match open(alloc, source, &mut unread, site) {
@@ -56,8 +62,12 @@ fn answer_lines<S: Source, K: Sink, L: Link>(
     turns: u64,
 ) -> Result<(), GateEnd>
     requires bound { IsTrue (L.state link.old).bound }
-    ensures { AnswersLines port site turns unread.old (S.state source.old) (S.state source.new)
+    ensures answers { AnswersLines port site turns unread.old (S.state source.old) (S.state source.new)
         (talk (K.state sink.old) (K.state sink.new) (L.state link.old) (L.state link.new)) result }
+    ensures source_cause { RisesAt ends.ReadFault (end_of result) (S.state source.old).faults
+        (S.state source.new).faults }
+    ensures sink_cause { RisesAt ends.WriteFault (end_of result) (K.state sink.old).faults
+        (K.state sink.new).faults }
 {
     let mut line = Vec::new(alloc);
     'lines: loop {

@@ -1,2 +1,3 @@
 mod Newlines
+mod CutTexts
 pub mod Finding

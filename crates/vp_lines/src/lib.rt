@@ -2,5 +2,6 @@
 #![tactic(auto)]
 
 mod unread;
+mod worked;
 
 pub use unread::{LineFound, MOST_TAKEN, ReadBuffer};

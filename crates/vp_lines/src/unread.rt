@@ -1,6 +1,7 @@
 //! Bytes that were taken from a source and not passed yet.
 
 ghost use Rattle.std.specs.Prelude.{◌≡◌, ◌==◌, ◌≤◌, ◌<◌, ◌++◌, length, take, vec_len, position, OnOk};
+ghost use Rattle.vp_outside.specs.Input.{HasInputCause};
 ghost use Rattle.vp_lines.specs.Ahead.{untaken, rest_found, Passes, Fills, Finds};
 
 use std::alloc::AllocError;
@@ -74,8 +75,9 @@ impl ReadBuffer {
         most: usize,
     ) -> Result<LineFound, InputFault>
         requires some { 0 < most }
-        ensures { Finds most self.old self.new line.new.items (S.state source.old) (S.state source.new)
+        ensures finds { Finds most self.old self.new line.new.items (S.state source.old) (S.state source.new)
             result }
+        ensures cause { HasInputCause (S.state source.old).faults (S.state source.new).faults result }
     {
         line.clear();
         loop {
@@ -114,7 +116,8 @@ impl ReadBuffer {
     /// Takes the next piece where nothing is unread, and returns whether there was one: at the end of input there is none.
     fn fill<S: Source>(&mut self, source: &mut S) -> Result<bool, InputFault>
         requires { length self.old.unread ≡ 0 }
-        ensures { Fills self.old self.new (S.state source.old) (S.state source.new) result }
+        ensures fills { Fills self.old self.new (S.state source.old) (S.state source.new) result }
+        ensures cause { HasInputCause (S.state source.old).faults (S.state source.new).faults result }
     {
         if self.credit == 0 {
             return Err(InputFault::TooLong);

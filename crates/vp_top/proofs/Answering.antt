@@ -8,7 +8,7 @@ use Rattle.vp_outside.specs.Input.{SourceState, IsEnded}
 use Rattle.vp_serving.specs.Serving.{Outside}
 use Rattle.vp_words.specs.Commands.{command_of}
 use Rattle.vp_top.specs.Complete.{IsGiven}
-use Rattle.vp_top.specs.Ends.{Ends, EndsAsAudit, EndsAsGateway, EndsAsNode, EndsInText, EndsOnDisk, IsPrinted}
+use Rattle.vp_top.specs.Ends.{Defines, Ends, EndsAsAudit, EndsAsGateway, EndsAsNode, EndsInText, EndsOnDisk, IsPrinted}
 use Rattle.vp_top.specs.Program.{AreOf, CallsDisk, HasRead, IsAnswer, IsAnswered, IsDefined, IsForGateway, IsNoCommand, IsTooLong, Reads, most_bytes, usage_text}
 use Rattle.vp_status.specs.declared.status.Status.{Status}
 use Rattle.vp_status.specs.declared.status.Status.TheVariants as status
@@ -118,14 +118,18 @@ module _ (words : List (List ℕ)) (source source' : SourceState) (o : Outside) 
         let same = same_command words c a.command w a.words_are in
         (subst (λ c. HasRead c bytes ended) same a.read, subst (λ c. IsAnswer c bytes o.link o.link' end text) same a.answer)
 
-    -- what was printed is the answer to what was taken, where that is not too long
-    pub answer_to : (end : Status) (p : Printed end) → (IsTooLong words p.defines.bytes p.text → ⊥) → HasRead c p.defines.bytes (IsEnded source') × IsAnswer c p.defines.bytes o.link o.link' end p.text
-    answer_to end p short = go (defined_is p.defines.bytes (IsEnded source') end p.text p.defines.defined)
+    -- what is defined is the answer to what was taken, where that is not too long
+    pub answer_defined : (end : Status) (text : List ℕ) (d : Defines words source source' o.link o.link' end text) → (IsTooLong words d.bytes text → ⊥) → HasRead c d.bytes (IsEnded source') × IsAnswer c d.bytes o.link o.link' end text
+    answer_defined end text d short = go (defined_is d.bytes (IsEnded source') end text d.defined)
       where
-        go : Cases p.defines.bytes (IsEnded source') end p.text → HasRead c p.defines.bytes (IsEnded source') × IsAnswer c p.defines.bytes o.link o.link' end p.text
+        go : Cases d.bytes (IsEnded source') end text → HasRead c d.bytes (IsEnded source') × IsAnswer c d.bytes o.link o.link' end text
         go (inl none) = absurd (no_command words c w none.0.0)
         go (inr (inl long)) = absurd (short long.0)
-        go (inr (inr answered)) = answered_by p.defines.bytes (IsEnded source') end p.text answered
+        go (inr (inr answered)) = answered_by d.bytes (IsEnded source') end text answered
+
+    -- and so is what was printed
+    pub answer_to : (end : Status) (p : Printed end) → (IsTooLong words p.defines.bytes p.text → ⊥) → HasRead c p.defines.bytes (IsEnded source') × IsAnswer c p.defines.bytes o.link o.link' end p.text
+    answer_to end p short = answer_defined end p.text p.defines short
 
     -- a command that reads nothing
     module _ (unread : Reads c → ⊥) (calm : Rose o.sink.faults o.sink'.faults → ⊥) (Told : Status → List ℕ → Type 0) (tells : (bytes : List ℕ) (end : Status) (text : List ℕ) → IsAnswer c bytes o.link o.link' end text → Told end text) where

@@ -6,3 +6,4 @@ pub mod Audits
 pub mod Completing
 pub mod Ending
 pub mod Sessions
+pub mod ToldSessions

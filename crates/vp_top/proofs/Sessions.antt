@@ -7,6 +7,7 @@ use Rattle.std.proofs.lemmas.List.{take_all}
 use Rattle.vp_base.specs.declared.memory.NoMemory.{NoMemory}
 use Rattle.vp_catalog.specs.declared.fault.CatalogFault.{CatalogFault}
 use Rattle.vp_catalog.specs.declared.fault.CatalogFault.TheVariants as faults
+use Rattle.vp_gateway.specs.Causes.{RisesAt}
 use Rattle.vp_gateway.specs.Ends.{end_of_catalog}
 use Rattle.vp_gateway.specs.Lines.{all_lines}
 use Rattle.vp_gateway.specs.Opening.{IsRefused}
@@ -16,6 +17,7 @@ use Rattle.vp_gateway.specs.declared.end.GateEnd.{GateEnd}
 use Rattle.vp_gateway.specs.declared.end.GateEnd.TheVariants as ends
 use Rattle.vp_outside.specs.Causes.{Rose}
 use Rattle.vp_outside.specs.Input.{SourceState, Took}
+use Rattle.vp_outside.specs.Links.{LinkState}
 use Rattle.vp_outside.specs.Output.{SinkState}
 use Rattle.vp_serving.specs.Serving.{Outside}
 use Rattle.vp_status.specs.Printing.{Prints}
@@ -26,7 +28,7 @@ use Rattle.vp_words.specs.Commands.{command_of}
 use Rattle.vp_words.specs.declared.words.Command.TheVariants as commands
 use Rattle.vp_top.specs.Complete.{Fits, IsRefusedSession, IsSessionOf}
 use Rattle.vp_top.specs.Ends.{Ends, EndsInText, IsPrinted}
-use Rattle.vp_top.specs.GatewayEnds.{PrintsDefined, PrintsLine, last_line, status_of}
+use Rattle.vp_top.specs.GatewayEnds.{GatewayEnds, PrintsDefined, PrintsLine, RoseIf, last_line, status_of}
 use Rattle.vp_top.specs.Program.{Reads, TellsFault}
 use Rattle.vp_top.proofs.Answering.{answer_to, are_of, no_disk, same_command, taken_all, taken_few}
 
@@ -57,10 +59,75 @@ module _ (sink sink' : SinkState) (told : Status) where
   refusal_told (faults.TooMany line limit) (Err e) t p = unprinted status.Limit _ p.0 p.1
   refusal_told faults.NoMemory (Err e) t p = p
 
+-- ---- which counts rose
+
+-- a status that is neither that of the text nor one that cut it
+unlike : (mid sink' : SinkState) (end told at : Status) (text : List ℕ) → Prints end text mid sink' told → (end ≡ at → ⊥) → (status.SinkFault ≡ at → ⊥) → (status.NoMemory ≡ at → ⊥) → told ≡ at → ⊥
+unlike mid sink' end told at text (inl all) no_end no_sink no_memory is = no_end (sym all.0 ∙ is)
+unlike mid sink' end told at text (inr (inl failed)) no_end no_sink no_memory is = no_sink (sym failed.0 ∙ is)
+unlike mid sink' end told at text (inr (inr memory)) no_end no_sink no_memory is = no_memory (sym memory.0 ∙ is)
+
+module _ (sink mid sink' : SinkState) (told : Status) where
+  -- the sink's count after a line was printed
+  by_printing : (end : Status) (text : List ℕ) → (end ≡ status.SinkFault → ⊥) → mid.faults ≡ sink.faults → Prints end text mid sink' told → RoseIf (told ≡ status.SinkFault) sink.faults sink'.faults
+  by_printing end text other same (inl all) = record { rose = λ is. absurd (other (sym all.0 ∙ is)); same = λ _. all.2 ∙ same }
+  by_printing end text other same (inr (inl failed)) = record { rose = λ _. subst (λ n. Rose n sink'.faults) same failed.2; same = λ no. absurd (no failed.0) }
+  by_printing end text other same (inr (inr memory)) =
+      record { rose = λ is. absurd (let no : status.NoMemory ≡ status.SinkFault = sym memory.0 ∙ is in cc); same = λ _. memory.2 ∙ same }
+
+  -- and where there was none
+  unprinted_still : (end : Status) → (end ≡ status.SinkFault → ⊥) → mid.faults ≡ sink.faults → told ≡ end → sink' ≡ mid → RoseIf (told ≡ status.SinkFault) sink.faults sink'.faults
+  unprinted_still end other same is still = record { rose = λ e. absurd (other (sym is ∙ e)); same = λ _. ap (λ (s : SinkState). s.faults) still ∙ same }
+
+  put_then : (end : GateEnd) → RisesAt ends.WriteFault end sink.faults mid.faults → PrintsLine (status_of end) (last_line end) mid sink' told → RoseIf (told ≡ status.SinkFault) sink.faults sink'.faults
+  put_then ends.Done r t = unprinted_still status.Done (λ (e : status.Done ≡ status.SinkFault). cc) (r.same (λ (e : ends.Done ≡ ends.WriteFault). cc)) t.0 t.1
+  put_then (ends.BadLine line at) r t = by_printing status.BadLine _ (λ (e : status.BadLine ≡ status.SinkFault). cc) (r.same (λ (e : ends.BadLine line at ≡ ends.WriteFault). cc)) t
+  put_then (ends.Twice line) r t = by_printing status.BadLine _ (λ (e : status.BadLine ≡ status.SinkFault). cc) (r.same (λ (e : ends.Twice line ≡ ends.WriteFault). cc)) t
+  put_then (ends.TooMany line limit) r t = by_printing status.Limit _ (λ (e : status.Limit ≡ status.SinkFault). cc) (r.same (λ (e : ends.TooMany line limit ≡ ends.WriteFault). cc)) t
+  put_then ends.NoSite r t = by_printing status.Usage _ (λ (e : status.Usage ≡ status.SinkFault). cc) (r.same (λ (e : ends.NoSite ≡ ends.WriteFault). cc)) t
+  put_then ends.ReadFault r t = unprinted_still status.SourceFault (λ (e : status.SourceFault ≡ status.SinkFault). cc) (r.same (λ (e : ends.ReadFault ≡ ends.WriteFault). cc)) t.0 t.1
+  put_then ends.WriteFault r t = record { rose = λ _. subst (λ (s : SinkState). Rose sink.faults s.faults) (sym t.1) (r.rose refl); same = λ no. absurd (no t.0) }
+  put_then ends.LinkFault r t = by_printing status.LinkFault _ (λ (e : status.LinkFault ≡ status.SinkFault). cc) (r.same (λ (e : ends.LinkFault ≡ ends.WriteFault). cc)) t
+  put_then ends.Limit r t = by_printing status.Limit _ (λ (e : status.Limit ≡ status.SinkFault). cc) (r.same (λ (e : ends.Limit ≡ ends.WriteFault). cc)) t
+  put_then ends.NoMemory r t = unprinted_still status.NoMemory (λ (e : status.NoMemory ≡ status.SinkFault). cc) (r.same (λ (e : ends.NoMemory ≡ ends.WriteFault). cc)) t.0 t.1
+
+  module _ (before now : ℕ) where
+    -- the source's count, at a status that isn't its own
+    still : (end : GateEnd) → (end ≡ ends.ReadFault → ⊥) → (told ≡ status.SourceFault → ⊥) → RisesAt ends.ReadFault end before now → RoseIf (told ≡ status.SourceFault) before now
+    still end other unlike r = record { rose = λ is. absurd (unlike is); same = λ _. r.same other }
+
+    unlike_source : (end : Status) (text : List ℕ) → (end ≡ status.SourceFault → ⊥) → Prints end text mid sink' told → told ≡ status.SourceFault → ⊥
+    unlike_source end text other p = unlike mid sink' end told status.SourceFault text p other (λ (e : status.SinkFault ≡ status.SourceFault). cc) (λ (e : status.NoMemory ≡ status.SourceFault). cc)
+
+    taken_then : (end : GateEnd) → RisesAt ends.ReadFault end before now → PrintsLine (status_of end) (last_line end) mid sink' told → RoseIf (told ≡ status.SourceFault) before now
+    taken_then ends.Done r t = still ends.Done (λ (e : ends.Done ≡ ends.ReadFault). cc) (λ is. let no : status.Done ≡ status.SourceFault = sym t.0 ∙ is in cc) r
+    taken_then (ends.BadLine line at) r t = still (ends.BadLine line at) (λ (e : ends.BadLine line at ≡ ends.ReadFault). cc) (unlike_source status.BadLine _ (λ (e : status.BadLine ≡ status.SourceFault). cc) t) r
+    taken_then (ends.Twice line) r t = still (ends.Twice line) (λ (e : ends.Twice line ≡ ends.ReadFault). cc) (unlike_source status.BadLine _ (λ (e : status.BadLine ≡ status.SourceFault). cc) t) r
+    taken_then (ends.TooMany line limit) r t = still (ends.TooMany line limit) (λ (e : ends.TooMany line limit ≡ ends.ReadFault). cc) (unlike_source status.Limit _ (λ (e : status.Limit ≡ status.SourceFault). cc) t) r
+    taken_then ends.NoSite r t = still ends.NoSite (λ (e : ends.NoSite ≡ ends.ReadFault). cc) (unlike_source status.Usage _ (λ (e : status.Usage ≡ status.SourceFault). cc) t) r
+    taken_then ends.ReadFault r t = record { rose = λ _. r.rose refl; same = λ no. absurd (no t.0) }
+    taken_then ends.WriteFault r t = still ends.WriteFault (λ (e : ends.WriteFault ≡ ends.ReadFault). cc) (λ is. let no : status.SinkFault ≡ status.SourceFault = sym t.0 ∙ is in cc) r
+    taken_then ends.LinkFault r t = still ends.LinkFault (λ (e : ends.LinkFault ≡ ends.ReadFault). cc) (unlike_source status.LinkFault _ (λ (e : status.LinkFault ≡ status.SourceFault). cc) t) r
+    taken_then ends.Limit r t = still ends.Limit (λ (e : ends.Limit ≡ ends.ReadFault). cc) (unlike_source status.Limit _ (λ (e : status.Limit ≡ status.SourceFault). cc) t) r
+    taken_then ends.NoMemory r t = still ends.NoMemory (λ (e : ends.NoMemory ≡ ends.ReadFault). cc) (λ is. let no : status.NoMemory ≡ status.SourceFault = sym t.0 ∙ is in cc) r
+
+pub gateway_ends : (own turns site : ℕ) (source source' : SourceState) (sink mid sink' : SinkState) (link link' : LinkState) (end : GateEnd) (told : Status) →
+    Serves own site turns (gate source source' sink mid link link') end → RisesAt ends.ReadFault end source.faults source'.faults → RisesAt ends.WriteFault end sink.faults mid.faults
+    → PrintsLine (status_of end) (last_line end) mid sink' told → GatewayEnds own turns site (gate source source' sink sink' link link') told
+gateway_ends own turns site source source' sink mid sink' link link' end told s took put tells = record {
+  end = end;
+  sink = mid;
+  serves = s;
+  put = put;
+  tells = tells;
+  source_cause = taken_then sink mid sink' told source.faults source'.faults end took tells;
+  sink_cause = put_then sink mid sink' told end put tells;
+}
+
 -- ---- a session of these bytes
 
 -- what was taken begins what there was
-taken_front : (left after : Option (List ℕ)) (given bytes : List ℕ) → left ≡ Some given → Consumes left after bytes → (rest : List ℕ) × (given ≡ bytes ++ rest)
+pub taken_front : (left after : Option (List ℕ)) (given bytes : List ℕ) → left ≡ Some given → Consumes left after bytes → (rest : List ℕ) × (given ≡ bytes ++ rest)
 taken_front None after given bytes e gone = absurd cc
 taken_front (Some xs) None given bytes e gone = absurd gone
 taken_front (Some xs) (Some ys) given bytes e gone = let same : given ≡ xs = cc in (ys, same ∙ gone)

@@ -41,6 +41,7 @@ use Rattle.vp_words.specs.declared.words.Command.TheVariants as commands
 use Rattle.vp_words.specs.declared.words.Signal.{Signal}
 use Rattle.vp_top.specs.Ends.{Ends}
 use Rattle.vp_top.specs.GatewayEnds.{last_line, status_of}
+use Rattle.vp_top.specs.SessionTexts.{IsToldSession}
 use Rattle.vp_top.specs.Program.{AreOf, IsNoCatalogue, Reads, has_all, most_bytes, usage_text}
 use Rattle.vp_status.specs.Refused.{limit_text}
 use Rattle.vp_status.specs.declared.status.Status.{Status}
@@ -221,14 +222,19 @@ module _ {D : Type 0} (state : D → DiskState) where
         command_of words ≡ Some (commands.Audit logs) → Fits bytes → Answered bytes (Ok catalogue) → has_all catalogue logs ≡ false →
         EndsWith words (IsGiven bytes) status.Usage usage_text
 
-  -- A session of no more bytes than an input has, of a source that doesn't fail, is answered line by line to its end, or its head is refused.
-  abbrev pub SessionsAreAnswered : Type 0
-  SessionsAreAnswered =
-      (words : List (List ℕ)) (own turns site : ℕ) (bytes : List ℕ) →
-      command_of words ≡ Some (commands.Gateway own turns site) → Fits bytes →
-      (source source' : SourceState) (link link' : LinkState) (sink sink' : SinkState) (disk disk' : D) (end : Status) →
-      Ends words source source' (outside link link' sink sink' (state disk) (state disk')) end → source.left ≡ Some bytes → (Rose source.faults source'.faults → ⊥)
-      → IsSessionOf own turns site bytes source' (outside link link' sink sink' (state disk) (state disk')) end
+  -- Of a session of any bytes it is told, whatever ends it, which lines were answered, and with what. One of no more bytes than an input
+  -- has, of a source that doesn't fail, is answered line by line to its end, or its head is refused.
+  pub record SessionsAreAnswered : Type 0 where
+    pub told : (words : List (List ℕ)) (own turns site : ℕ) (bytes : List ℕ) →
+        command_of words ≡ Some (commands.Gateway own turns site) →
+        (source source' : SourceState) (link link' : LinkState) (sink sink' : SinkState) (disk disk' : D) (end : Status) →
+        Ends words source source' (outside link link' sink sink' (state disk) (state disk')) end → source.left ≡ Some bytes
+        → IsToldSession own turns site bytes source source' (outside link link' sink sink' (state disk) (state disk')) end
+    pub calm : (words : List (List ℕ)) (own turns site : ℕ) (bytes : List ℕ) →
+        command_of words ≡ Some (commands.Gateway own turns site) → Fits bytes →
+        (source source' : SourceState) (link link' : LinkState) (sink sink' : SinkState) (disk disk' : D) (end : Status) →
+        Ends words source source' (outside link link' sink sink' (state disk) (state disk')) end → source.left ≡ Some bytes → (Rose source.faults source'.faults → ⊥)
+        → IsSessionOf own turns site bytes source' (outside link link' sink sink' (state disk) (state disk')) end
 
   -- ---- what can't be done is refused
 

@@ -46,9 +46,9 @@ module _ (words : List (List ℕ)) (source source' : SourceState) (link link' : 
     pub defines : Defines words source source' link link' end text
     pub appended : AppendsPrefix sink.held sink'.held text
 
-  -- nothing went to the sink
+  -- the sink was not called
   abbrev pub IsSilent : Type 0
-  IsSilent = Appends sink.held sink'.held []
+  IsSilent = sink' ≡ sink
 
   abbrev pub EndsInText : Status → Type 0
   EndsInText status.SourceFault = AreOf Reads words × Rose source.faults source'.faults × IsSilent × (link' ≡ link)

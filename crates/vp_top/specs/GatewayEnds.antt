@@ -1,6 +1,8 @@
 -- How the command that runs a gateway ends: how serving the session ended, and what was printed after the answers.
 use Rattle.std.specs.Prelude.{◌≡◌, ℕ, List, codes, Option, Some, None, Result, Ok, Err}
+use Rattle.vp_outside.specs.Causes.{Rose}
 use Rattle.vp_outside.specs.Output.{SinkState}
+use Rattle.vp_gateway.specs.Causes.{RisesAt}
 use Rattle.vp_gateway.specs.Served.{Gate, Serves}
 use Rattle.vp_gateway.specs.declared.end.GateEnd.{GateEnd}
 use Rattle.vp_gateway.specs.declared.end.GateEnd.TheVariants as ends
@@ -47,9 +49,18 @@ abbrev pub PrintsDefined : {E : Type 0} → Result RunOutput E → SinkState →
 PrintsDefined (Ok it) sink sink' told = Prints it.status it.text.items sink sink' told
 PrintsDefined (Err e) sink sink' told = (told ≡ status.NoMemory) × (sink' ≡ sink)
 
--- The session was served, and its end was told.
+-- The count rose where this is so, and is as it was where it is not.
+pub record RoseIf (so : Type 0) (before now : ℕ) : Type 0 where
+  pub rose : so → Rose before now
+  pub same : (so → ⊥) → now ≡ before
+
+-- The session was served, and its end was told. From its start to its end the source's count rose at a fault of the source alone, and the
+-- sink's at a fault of the sink alone.
 pub record GatewayEnds (own turns site : ℕ) (g : Gate) (told : Status) : Type 0 where
   pub end : GateEnd
   pub sink : SinkState
   pub serves : Serves own site turns (record g { sink' = sink }) end
+  pub put : RisesAt ends.WriteFault end g.sink.faults sink.faults
   pub tells : PrintsLine (status_of end) (last_line end) sink g.sink' told
+  pub source_cause : RoseIf (told ≡ status.SourceFault) g.source.faults g.source'.faults
+  pub sink_cause : RoseIf (told ≡ status.SinkFault) g.sink.faults g.sink'.faults

@@ -3,6 +3,7 @@ pub mod Audits
 pub mod Claims
 pub mod NodeEnds
 pub mod GatewayEnds
+pub mod SessionTexts
 pub mod Complete
 pub mod Ends
 pub mod Plans

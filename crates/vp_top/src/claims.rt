@@ -58,8 +58,9 @@ pub fn logs_are_audited<D: Disk>()
     ensures { LogsAreAudited D.state }
 {}
 
-/// Whoever runs `gateway` on a session of no more bytes than an input has, where the source doesn't fail, gets the answers to all its lines, or is
-/// told the fault of its head, unless the sink, the link or memory fails.
+/// Whoever runs `gateway` gets, whatever ends it, the answers to the lines before that, and the line of the end, or a beginning of these if
+/// the sink fails or memory runs out. On a session of no more bytes than an input has, if the source doesn't fail, these are the answers to
+/// all lines, or the fault of the head, unless the sink, the link or memory fails.
 pub fn sessions_are_answered<D: Disk>()
     ensures { SessionsAreAnswered D.state }
 {}

@@ -13,6 +13,7 @@ use vp_outside::{Link, Sink, Source};
 use vp_status::{RunOutput, Status};
 
 /// Answers the session of the source as this gateway, and prints why it ended after the answers.
+#[tactic(auto, using(crate::proofs::Sessions::gateway_ends))]
 pub fn serve_session<S: Source, K: Sink, L: Link>(
     alloc: Global,
     source: &mut S,
