@@ -92,7 +92,7 @@ fn first_site(rt: &impl Abort, alloc: Global) -> Bench {
     let members = catalog.sites().copy_of().expect(rt, "memory");
     Bench {
         held: View { id: ID, members },
-        lent: restored(rt, alloc, &catalog),
+        coordinator: restored(rt, alloc, &catalog),
         catalog,
     }
 }

@@ -2,7 +2,7 @@
 use Rattle.std.proofs.Common.{false}
 use Rattle.vp_serving.specs.Serving.{outside}
 use Rattle.vp_serving.proofs.Served.{SoFar}
-use Rattle.vp_serving.proofs.serving.served.Given as goal
+use Rattle.vp_serving.proofs.serving.serve.Given as goal
 
 abbrev pub invariant-loop : goal.invariant-loop
 invariant-loop g l = record {
