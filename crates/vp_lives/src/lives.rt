@@ -28,7 +28,7 @@ pub fn serve_a_life<L: Link, D: Disk, K: Sink>(
     ensures served { Serves catalog.now id turns
         (outside (L.state link.old) (L.state link.new) (K.state sink.old) (K.state sink.new) (D.state disk.old) (D.state disk.new)) (either result) }
     ensures lives { LivesIn catalog.now id
-        (outside (L.state link.old) (L.state link.new) (K.state sink.old) (K.state sink.new) (D.state disk.old) (D.state disk.new)) result }
+        (outside (L.state link.old) (L.state link.new) (K.state sink.old) (K.state sink.new) (D.state disk.old) (D.state disk.new)) (either result) }
 {
     halves_are_one_log();
     runs_are_handed_over();
