@@ -5,7 +5,7 @@ ghost use Rattle.vp_model.specs.Words.{has};
 ghost use Rattle.vp_model.specs.Catalogue.{sites_of};
 ghost use Rattle.vp_status.specs.Lines.{bad_log_text};
 ghost use Rattle.vp_status.specs.Printing.{Prints};
-ghost use Rattle.vp_serving.specs.Serving.{outside};
+ghost use Rattle.vp_serving.specs.Serving.{either, outside};
 ghost use Rattle.vp_top.specs.NodeEnds.{DecidedIfCalm, HasCause, NodeEnds, last_line, status_of};
 
 use std::alloc::Global;
@@ -36,19 +36,20 @@ pub fn serve_log<L: Link, D: Disk, K: Sink>(
         (outside (L.state link.old) (L.state link.new) (K.state sink.old) (K.state sink.new) (D.state disk.old) (D.state disk.new)) result }
 {
     let end = match disk.attach(log) {
-        Ok(()) => match serve(catalog, id, link, disk, sink, turns) {
-            Ok(end) | Err(end) => end,
-        },
-        Err(OutFault::Failed) => End::DiskFault,
-        Err(OutFault::NoMemory) => End::NoMemory,
+        Ok(()) => serve(catalog, id, link, disk, sink, turns),
+        Err(OutFault::Failed) => Err(End::DiskFault),
+        Err(OutFault::NoMemory) => Err(End::NoMemory),
     };
-    tell(catalog.sites().allocator(), sink, end)
+    report_end(catalog.sites().allocator(), sink, end)
 }
 
 /// Prints the line after the recording, and returns the status.
-fn tell<K: Sink>(alloc: Global, sink: &mut K, end: End) -> Status
-    ensures { Prints (status_of end) (last_line end) (K.state sink.old) (K.state sink.new) result }
+fn report_end<K: Sink>(alloc: Global, sink: &mut K, end: Result<End, End>) -> Status
+    ensures { Prints (status_of (either end)) (last_line (either end)) (K.state sink.old) (K.state sink.new) result }
 {
+    let end = match end {
+        Ok(end) | Err(end) => end,
+    };
     match last_line(alloc, end) {
         Ok(text) => RunOutput {
             status: status_of(end),
