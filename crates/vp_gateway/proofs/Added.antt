@@ -1,5 +1,5 @@
 -- A text is added to a head as its next line.
-use Rattle.std.proofs.Common.{◌≡◌, ◌∙◌, ◌⊎◌, ℕ, ◌+◌, ◌-◌, ◌≤◌, List, [], ◌++◌, length, refl, sym, subst, append-nil, inl, inr, Result, Ok, Err, false}
+use Rattle.std.proofs.Common.{◌≡◌, ◌∙◌, ◌⊎◌, ℕ, ◌+◌, ◌-◌, ◌≤◌, List, [], length, refl, sym, subst, append-nil, inl, inr, Result, Ok, Err, false}
 use Rattle.vp_text.specs.Documents.{HasNoNewline, IsLine}
 use Rattle.vp_text.proofs.Exact.{Exact}
 use Rattle.vp_text.proofs.Lists.{fault_no_line}

@@ -1,17 +1,17 @@
 -- The lines of a session are answered one by one.
-use Rattle.std.proofs.Common.{◌≡◌, ◌∙◌, ◌⊎◌, ℕ, ◌+◌, ◌-◌, ◌≤◌, ◌<◌, Bool, true, false, List, [], ◌∷◌, ◌++◌, length, take, refl, sym, ap, subst, arith, append_assoc, append-nil, inl, inr, Result, Ok, Err}
-use Rattle.std.specs.Prelude.{Option, Some, None}
+use Rattle.std.proofs.Common.{◌≡◌, ◌∙◌, ℕ, ◌+◌, ◌-◌, ◌≤◌, ◌<◌, Bool, true, false, List, [], ◌∷◌, ◌++◌, length, take, refl, sym, ap, subst, arith, append_assoc, append-nil, inl, inr, Result, Ok, Err}
+use Rattle.std.specs.Prelude.{Option}
 use Rattle.std.proofs.lemmas.List.{length-append, length-take, take_all}
 use Rattle.vp_text.specs.Documents.{HasNoNewline}
 use Rattle.vp_outside.specs.Causes.{Rose}
-use Rattle.vp_outside.specs.Input.{SourceState, IsEnded, Took}
+use Rattle.vp_outside.specs.Input.{SourceState, Took}
 use Rattle.vp_outside.specs.Output.{SinkState}
 use Rattle.vp_outside.specs.Links.{LinkState, Binds}
 use Rattle.vp_outside.specs.declared.datagram.Datagram.{Datagram}
 use Rattle.vp_outside.specs.declared.datagram.Dispatch.{Dispatch}
 use Rattle.vp_outside.specs.declared.source.InputFault.{InputFault}
 use Rattle.vp_outside.specs.declared.source.InputFault.TheVariants as input
-use Rattle.vp_lines.specs.Ahead.{Ahead, untaken, fitting, rest_found, HasLine, HasNoLine, HasRest, Finds}
+use Rattle.vp_lines.specs.Ahead.{Ahead, fitting, rest_found, HasLine, HasNoLine, HasRest, Finds}
 use Rattle.vp_lines.specs.declared.unread.LineFound.{LineFound}
 use Rattle.vp_lines.specs.declared.unread.LineFound.TheVariants as found
 use Rattle.vp_lines.proofs.Finding.{take_none, took_none, took_then, fitting_more}
@@ -21,9 +21,9 @@ use Rattle.vp_gateway.specs.declared.asked.LineRequest.{LineRequest}
 use Rattle.vp_gateway.specs.Ends.{end_of, end_of_input}
 use Rattle.vp_gateway.specs.Lines.{line_as, whole_lines, last_line, all_lines}
 use Rattle.vp_gateway.specs.Sessions.{Talk, talk, HasAnswered, HasLost, HasCut, HasRunOut}
-use Rattle.vp_gateway.specs.Opening.{most, HasTaken, HasOpened, Opens, IsRefused, HasFailed, HasTakenTooMany}
+use Rattle.vp_gateway.specs.Opening.{most, HasTaken, HasOpened, Opens}
 use Rattle.vp_gateway.specs.Answering.{AnswersLine, AnswersLines}
-use Rattle.vp_gateway.specs.Served.{Gate, gate, bound_at, IsUncalled, HasBegun, IsUnbound, Serves}
+use Rattle.vp_gateway.specs.Served.{Gate, gate, bound_at, IsUncalled, HasBegun, Serves}
 use Rattle.vp_gateway.proofs.Splitting.{Asks, asks_none, asks_more, none_whole, last_alone, kept_as}
 use Rattle.vp_gateway.proofs.Talking.{nothing_answered, answered_then, lost_then, cut_then, run_out_then, run_out_here}
 

@@ -1,5 +1,5 @@
 -- At which end a count of failures rises.
-use Rattle.std.proofs.Common.{◌≡◌, ◌∙◌, ℕ, ◌≤◌, Bool, true, false, List, refl, sym, subst, arith, Result, Ok, Err}
+use Rattle.std.proofs.Common.{◌≡◌, ℕ, ◌≤◌, Bool, true, false, List, refl, subst, arith, Result, Ok, Err}
 use Rattle.vp_catalog.specs.declared.fault.CatalogFault.{CatalogFault}
 use Rattle.vp_catalog.specs.declared.fault.CatalogFault.TheVariants as lines
 use Rattle.vp_outside.specs.Causes.{Rose}

@@ -1,11 +1,11 @@
 -- Reading the head of a session, line by line.
-use Rattle.std.proofs.Common.{◌≡◌, ◌∙◌, ◌⊎◌, ℕ, ◌+◌, ◌-◌, ◌≤◌, ◌<◌, Bool, true, false, ◌==◌, List, [], ◌∷◌, ◌++◌, length, take, refl, sym, ap, subst, arith, append_assoc, append-nil, inl, inr, Result, Ok, Err, if◌then◌else◌}
-use Rattle.std.specs.Prelude.{codes, Option, Some, None}
+use Rattle.std.proofs.Common.{◌≡◌, ◌∙◌, ◌⊎◌, ℕ, ◌+◌, ◌-◌, ◌≤◌, ◌<◌, Bool, true, false, ◌==◌, List, [], ◌∷◌, ◌++◌, length, take, refl, sym, ap, subst, arith, append_assoc, append-nil, inl, inr, Ok, Err}
+use Rattle.std.specs.Prelude.{codes, Some, None}
 use Rattle.std.proofs.lemmas.Bool.{false≢true, ne_eqb, eqb-true}
 use Rattle.std.proofs.lemmas.List.{length-append, length-take, take_all}
 use Rattle.vp_text.specs.Meaning.{IsLongest}
-use Rattle.vp_text.specs.Documents.{HasNoNewline, IsLine, first_line, IsBadLine, IsFaultyLine}
-use Rattle.vp_text.proofs.Items.{all_at, all_append}
+use Rattle.vp_text.specs.Documents.{HasNoNewline, IsLine, first_line, IsFaultyLine}
+use Rattle.vp_text.proofs.Items.{all_at}
 use Rattle.vp_text.proofs.Newlines.{key_line}
 use Rattle.vp_text.proofs.Determined.{same_line, Divided, IsLast}
 use Rattle.vp_model.specs.Words.{value_at}
@@ -31,7 +31,7 @@ use Rattle.vp_heads.proofs.Apart.{no_head, bad_no_head, repeats_no_head, overfil
 use Rattle.vp_gateway.specs.declared.end.GateEnd.{GateEnd}
 use Rattle.vp_gateway.specs.declared.end.GateEnd.TheVariants as ends
 use Rattle.vp_gateway.specs.Ends.{end_of_input, end_of_catalog}
-use Rattle.vp_gateway.specs.Opening.{most, key, IsHead, LacksSite, IsBad, Refuses, LacksHead, HasTaken, HasFailed, HasTakenTooMany, HasOpened, HasRefused, FindsPort, IsRefused, Opens, limited, text_of, IsNoLine, TakesLine}
+use Rattle.vp_gateway.specs.Opening.{most, key, IsBad, Refuses, LacksHead, HasTaken, HasTakenTooMany, HasRefused, FindsPort, IsRefused, Opens, limited, text_of, IsNoLine, TakesLine}
 
 pub key_is : IsKey key
 key_is = record { line = key_line (codes "session") refl; no_site = refl; no_record = refl }

@@ -1,16 +1,14 @@
 -- Answering one line.
-use Rattle.std.proofs.Common.{◌≡◌, ◌∙◌, ◌⊎◌, ℕ, List, [], ◌∷◌, ◌++◌, refl, sym, ap, subst, inl, inr, Ok, Err}
-use Rattle.std.specs.Prelude.{Option, Some, None, Result, OnOk, OnErr}
+use Rattle.std.proofs.Common.{◌≡◌, ℕ, List, [], ◌∷◌, refl, sym, ap, subst, inl, inr, Ok, Err}
+use Rattle.std.specs.Prelude.{Some, None, Result}
 use Rattle.std.specs.Io.KnownBytes.{Appends}
 use Rattle.std.proofs.KnownBytes.{Appends-nil}
 use Rattle.vp_model.specs.Types.{Answer, Call}
-use Rattle.vp_outside.specs.Causes.{Rose}
 use Rattle.vp_outside.specs.Output.{SinkState, AppendsPrefix, HasOutCause}
 use Rattle.vp_outside.specs.Links.{LinkState}
 use Rattle.vp_outside.specs.declared.sink.OutFault.{OutFault}
 use Rattle.vp_outside.specs.declared.sink.OutFault.TheVariants as output
 use Rattle.vp_client.specs.Asked.{Asks}
-use Rattle.vp_client.specs.Conversations.{as_asked}
 use Rattle.vp_client.specs.declared.asking.AskFault.TheVariants as faults
 use Rattle.vp_gateway.specs.declared.end.GateEnd.{GateEnd}
 use Rattle.vp_gateway.specs.declared.end.GateEnd.TheVariants as ends
@@ -18,7 +16,7 @@ use Rattle.vp_gateway.specs.declared.asked.LineRequest.{LineRequest}
 use Rattle.vp_gateway.specs.declared.asked.LineRequest.TheVariants as asked
 use Rattle.vp_gateway.specs.Ends.{end_of_output}
 use Rattle.vp_gateway.specs.Lines.{said_line, bad_line, long_line}
-use Rattle.vp_gateway.specs.Sessions.{IsSession, Talk, talk, HasAnswered, HasLost, HasCut, HasRunOut}
+use Rattle.vp_gateway.specs.Sessions.{IsSession, talk}
 use Rattle.vp_gateway.specs.Answering.{Says, AnswersLine}
 use Rattle.vp_gateway.proofs.Talking.{asked_one, bad_one, long_one, no_lines, none_prefix}
 

@@ -1,5 +1,5 @@
 -- What a line asks, by the result of reading it as a call.
-use Rattle.std.proofs.Common.{◌≡◌, ◌∙◌, ℕ, ◌+◌, ◌-◌, ◌≤◌, Bool, true, false, List, [], length, refl, sym, ap, arith, Result, Ok, Err}
+use Rattle.std.proofs.Common.{◌≡◌, ◌∙◌, ℕ, ◌+◌, ◌-◌, ◌≤◌, Bool, true, false, List, length, refl, ap, arith, Result, Ok, Err}
 use Rattle.std.proofs.lemmas.Bool.{lt-ltb, le-ltb}
 use Rattle.vp_text.specs.Meaning.{IsRefused}
 use Rattle.vp_text.specs.Reading.{whole}
@@ -10,7 +10,6 @@ use Rattle.vp_model.specs.Types.{Call}
 use Rattle.vp_schedule.specs.Grammar.{IsCallText}
 use Rattle.vp_schedule.specs.Reading.{call_at}
 use Rattle.vp_schedule.proofs.Exact.{call_exact}
-use Rattle.vp_gateway.specs.declared.asked.LineRequest.{LineRequest}
 use Rattle.vp_gateway.specs.declared.asked.LineRequest.TheVariants as asked
 use Rattle.vp_gateway.specs.Lines.{read_as, line_as}
 

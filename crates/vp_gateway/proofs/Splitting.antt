@@ -1,5 +1,5 @@
 -- The lines of bytes that come one after the other.
-use Rattle.std.proofs.Common.{◌≡◌, ◌∙◌, ℕ, ◌+◌, ◌≤◌, ◌<◌, min, Bool, true, false, List, [], ◌∷◌, ◌++◌, length, take, map, refl, sym, ap, arith, append_assoc, inl, inr}
+use Rattle.std.proofs.Common.{◌≡◌, ◌∙◌, ℕ, ◌<◌, Bool, true, List, [], ◌∷◌, ◌++◌, length, take, map, refl, sym, ap, arith, append_assoc, inl, inr}
 use Rattle.std.proofs.lemmas.Bool.{ne_eqb, cases_lt, lt-ltb}
 use Rattle.std.proofs.lemmas.List.{take_all, length-take}
 use Rattle.vp_text.specs.Documents.{HasNoNewline}

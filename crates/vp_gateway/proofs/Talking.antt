@@ -1,6 +1,6 @@
 -- Sessions that continue.
-use Rattle.std.proofs.Common.{◌≡◌, ◌∙◌, ◌⊎◌, ℕ, ◌+◌, ◌≤◌, List, [], ◌∷◌, ◌++◌, length, take, refl, sym, ap, subst, arith, append_assoc, append-nil, inl, inr}
-use Rattle.std.specs.Prelude.{Option, Some, None, Err}
+use Rattle.std.proofs.Common.{◌≡◌, ◌∙◌, ℕ, ◌+◌, List, [], ◌∷◌, ◌++◌, length, take, refl, sym, ap, subst, arith, append_assoc, append-nil, inl, inr}
+use Rattle.std.specs.Prelude.{Option}
 use Rattle.std.specs.Io.KnownBytes.{Appends}
 use Rattle.std.proofs.KnownBytes.{Appends-trans, Appends-nil}
 use Rattle.std.proofs.Math.Seq.{take-append-add}
@@ -9,8 +9,7 @@ use Rattle.vp_model.specs.Types.{Answer, Call}
 use Rattle.vp_outside.specs.Output.{SinkState, AppendsPrefix}
 use Rattle.vp_outside.specs.Links.{LinkState}
 use Rattle.vp_client.specs.Asked.{Asks}
-use Rattle.vp_client.specs.Conversations.{Exchange, as_asked, Conversed}
-use Rattle.vp_client.specs.declared.asking.AskFault.TheVariants as faults
+use Rattle.vp_client.specs.Conversations.{Exchange, as_asked}
 use Rattle.vp_client.proofs.Conversations.{conversations_join}
 use Rattle.vp_gateway.specs.declared.asked.LineRequest.{LineRequest}
 use Rattle.vp_gateway.specs.declared.asked.LineRequest.TheVariants as asked

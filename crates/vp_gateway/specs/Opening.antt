@@ -1,5 +1,5 @@
 -- Reading the head of a session: a catalogue and the line `session`.
-use Rattle.std.specs.Prelude.{◌≡◌, ◌⊎◌, ⊤, ℕ, ◌+◌, ◌-◌, ◌≤◌, ◌<◌, Bool, true, false, List, [], ◌∷◌, ◌++◌, length, take, codes, Some, None, Result, Ok, Err}
+use Rattle.std.specs.Prelude.{◌≡◌, ◌⊎◌, ⊤, ℕ, ◌+◌, ◌-◌, ◌≤◌, ◌<◌, Bool, true, List, [], ◌∷◌, ◌++◌, length, take, codes, Some, None, Result, Ok, Err}
 use Rattle.vp_text.specs.Meaning.{IsLongest}
 use Rattle.vp_text.specs.Documents.{IsLine, first_line, IsBadLine, IsFaultyLine}
 use Rattle.vp_model.specs.Words.{value_at}

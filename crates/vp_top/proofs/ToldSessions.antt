@@ -1,5 +1,5 @@
 -- What a gateway prints for the bytes that its source has.
-use Rattle.std.proofs.Common.{◌≡◌, ◌∙◌, ◌⊎◌, ℕ, ◌+◌, ◌≤◌, ◌<◌, List, [], ◌∷◌, ◌++◌, length, take, refl, sym, ap, subst, arith, append-nil, inl, inr}
+use Rattle.std.proofs.Common.{◌≡◌, ◌∙◌, ◌⊎◌, ℕ, ◌+◌, List, [], ◌++◌, length, take, refl, sym, ap, subst, arith, append-nil, inl, inr}
 use Rattle.std.specs.Prelude.{Option, Some, None}
 use Rattle.std.specs.Io.KnownBytes.{Appends, Consumes}
 use Rattle.std.proofs.KnownBytes.{Appends-nil, Appends-trans}
@@ -8,10 +8,9 @@ use Rattle.std.proofs.lemmas.List.{length-append, take_all}
 use Rattle.vp_outside.specs.Causes.{Rose}
 use Rattle.vp_outside.specs.Input.{SourceState, Took}
 use Rattle.vp_outside.specs.Output.{SinkState, AppendsPrefix}
-use Rattle.vp_outside.specs.Links.{LinkState}
 use Rattle.vp_client.specs.declared.asking.AskFault.TheVariants as faults
 use Rattle.vp_gateway.specs.Causes.{RisesAt}
-use Rattle.vp_gateway.specs.Lines.{all_lines, whole_lines}
+use Rattle.vp_gateway.specs.Lines.{all_lines}
 use Rattle.vp_gateway.specs.Opening.{HasTaken, IsRefused as HasRefused, LacksHead}
 use Rattle.vp_gateway.specs.Served.{Gate, HasBegun, IsUncalled, Serves, bound_at, gate}
 use Rattle.vp_gateway.specs.Sessions.{HasLost, HasRunOut, IsSession, Talk, talk}

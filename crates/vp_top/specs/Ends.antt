@@ -1,5 +1,5 @@
 -- How a run ends: what was taken from the source, what the sink got, the states of the link and the disk, and which count rose.
-use Rattle.std.specs.Prelude.{◌≡◌, ◌≤◌, ◌⊎◌, ℕ, true, List, [], length, Some}
+use Rattle.std.specs.Prelude.{◌≡◌, ◌≤◌, ◌⊎◌, ℕ, true, List, length, Some}
 use Rattle.std.specs.Io.KnownBytes.{Appends}
 use Rattle.vp_model.specs.Catalogue.{Catalogue}
 use Rattle.vp_outside.specs.Causes.{Rose}

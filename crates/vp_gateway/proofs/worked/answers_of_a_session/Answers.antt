@@ -1,5 +1,6 @@
 use Rattle.std.proofs.Common.{◌∙◌, ℕ, List, [], ◌∷◌, ◌++◌, ap}
 use Rattle.std.specs.Prelude.{codes}
+use Rattle.vp_bytes.specs.Reading.{u64_at, view_at}
 use Rattle.vp_model.specs.Types.answer
 use Rattle.vp_model.specs.Types.call
 use Rattle.vp_model.specs.Words.{opening}
@@ -7,13 +8,13 @@ use Rattle.vp_model.proofs.Computed.{computes}
 use Rattle.vp_runs.specs.Asking.{answer_of}
 use Rattle.vp_runs.proofs.WorkedRuns.{spells}
 use Rattle.vp_gateway.specs.Lines.{bad_line, long_line}
-use Rattle.vp_gateway.specs.Worked.{begin, read, reply, txn}
+use Rattle.vp_gateway.specs.Worked.{read, reply, txn}
 use Rattle.vp_gateway.specs.declared.asked.LineRequest.TheVariants as asked
 use Rattle.vp_gateway.proofs.WorkedSessions.{reads, bad_more, call_more, long_more, none_more}
 use Rattle.vp_gateway.proofs.worked.answers_of_a_session.Goals as goal
 
 pub returns-clause-answered : goal.returns-clause-answered
-unfolding computes spells reads answer_of
+unfolding computes spells reads u64_at view_at answer_of
 returns-clause-answered c old new said has s =
     let one = call_more 7001 1 call.Begin (reply (answer.Begun txn opening)) (reply (answer.Value txn 1 (codes "10")) ∷ []) (read ∷ asked.Bad 1 ∷ []) said old new has s in
     let two = call_more 7001 1 (call.Read txn 1 (codes "x")) (reply (answer.Value txn 1 (codes "10"))) [] (asked.Bad 1 ∷ []) one.rest one.mid new one.left_is one.session in
