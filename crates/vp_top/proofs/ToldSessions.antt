@@ -70,7 +70,7 @@ module _ (words : List (List ℕ)) (own turns site : ℕ) (bytes : List ℕ) (w 
   abbrev Of : Status → Type 0
   Of told = IsToldSession own turns site bytes source source' o told
 
-  taking : (taken : List ℕ) → Took taken source source' → IsTaken bytes source'
+  abbrev taking : (taken : List ℕ) → Took taken source source' → IsTaken bytes source'
   taking taken t =
       let it = taken_of source.left source'.left bytes taken left t.bytes_gone in
       record { taken = taken; rest = it.0; parts = it.1; left = it.2 }
@@ -107,13 +107,13 @@ module _ (words : List (List ℕ)) (own turns site : ℕ) (bytes : List ℕ) (w 
     abbrev g : Gate
     g = gate source source' o.sink mid o.link o.link'
 
-    opened : HasBegun own site turns g → IsOpened own turns site bytes source source' o
+    abbrev opened : HasBegun own site turns g → IsOpened own turns site bytes source source' o
     opened b = record { it = taking b.bytes b.took; head = b.head; port = b.port; is = b.is; body = b.body; split = b.parts }
 
     unasked : IsUncalled own site turns g → IsUnasked own turns site bytes source source' o []
     unasked u = record { none_said = refl; uncalled = u.link }
 
-    unopened : IsUncalled own site turns g → (h : HasTaken source source') → LacksHead site (take 16777216 h.bytes) → IsUnopened own turns site bytes source source' o []
+    abbrev unopened : IsUncalled own site turns g → (h : HasTaken source source') → LacksHead site (take 16777216 h.bytes) → IsUnopened own turns site bytes source source' o []
     unopened u h lacks = record { it = taking h.bytes h.took; lacks = lacks; unasked = unasked u }
 
     refused : (end : GateEnd) → IsUncalled own site turns g → HasRefused site source source' end → IsRefused own turns site bytes source source' o end []
