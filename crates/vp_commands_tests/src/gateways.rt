@@ -50,10 +50,15 @@ impl Outcome {
 
 /// This input, in which no call fails.
 pub(crate) fn calm<'a>(input: &'a [u8]) -> Given<'a> {
+    within(input, "2")
+}
+
+/// The same, where so many datagrams are awaited.
+pub(crate) fn within<'a>(input: &'a [u8], turns: &'static str) -> Given<'a> {
     Given {
         input,
         most: 8192,
-        turns: "2",
+        turns,
         take: 0,
         put: 0,
         call: 0,

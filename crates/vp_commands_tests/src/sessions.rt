@@ -1,7 +1,7 @@
 //! Sessions that a gateway answers.
 
 use crate::fixtures::BEGIN;
-use crate::gateways::{ANSWERS, HEAD, LINES, calm, joined, served};
+use crate::gateways::{ANSWERS, HEAD, LINES, calm, joined, served, within};
 use std::alloc::Global;
 use std::process::Abort;
 use vp_outside::Dispatch;
@@ -56,9 +56,10 @@ fn answers(rt: &impl Abort, alloc: Global, count: usize) -> Vec<u8> {
 
 #[test]
 fn an_input_that_ends_within_the_lines_is_answered_as_far_as_it_goes(rt: HostRuntime) {
-    let input = joined(&rt, rt.alloc(), &[HEAD, LINES]);
     for count in 0..=LINES.len() {
-        let outcome = served(&rt, rt.alloc(), &calm(&input[..HEAD.len() + count]));
+        let (lines, _) = LINES.split_at(count.min(LINES.len()));
+        let input = joined(&rt, rt.alloc(), &[HEAD, lines]);
+        let outcome = served(&rt, rt.alloc(), &calm(&input));
         let text = answers(&rt, rt.alloc(), count);
         assert!(rt;
             outcome.end == Status::Done && outcome.sink.bytes() == text.as_slice(),
@@ -100,26 +101,18 @@ fn a_long_line_is_passed_over(rt: HostRuntime) {
 #[test]
 fn as_many_datagrams_without_the_answer_are_told(rt: HostRuntime) {
     let input = joined(&rt, rt.alloc(), &[HEAD, b"begin\nregroup\n"]);
-    let rows: &[(&str, &[u8])] = &[
-        ("1", b"begun 1.1.1 0@0\nno answer\n"),
-        ("0", b"no answer\nno answer\n"),
-    ];
-    for (turns, answers) in rows {
-        let mut given = calm(&input);
-        given.turns = turns;
-        assert!(rt;
-            served(&rt, rt.alloc(), &given).is(Status::Done, answers, 2),
-            "{turns}"
-        );
-    }
+    let begun = served(&rt, rt.alloc(), &within(&input, "1"));
+    assert!(rt; begun.is(Status::Done, b"begun 1.1.1 0@0\nno answer\n", 2));
+    let silent = served(&rt, rt.alloc(), &within(&input, "0"));
+    assert!(rt; silent.is(Status::Done, b"no answer\nno answer\n", 2));
 }
 
 #[test]
 fn more_bytes_than_there_may_be_are_not_answered(rt: HostRuntime) {
     let front = joined(&rt, rt.alloc(), &[HEAD, b"foo\n"]);
-    let mut input = vec![in rt.alloc(); b'a'; 16_777_216].expect(&rt, "memory");
-    input[..front.len()].copy_from_slice(&front);
-    input.push(b'\n').expect(&rt, "memory");
+    let most = 16_777_216_usize.saturating_sub(front.len());
+    let line = vec![in rt.alloc(); b'a'; most].expect(&rt, "memory");
+    let input = joined(&rt, rt.alloc(), &[&front, &line, b"\n"]);
     let outcome = served(&rt, rt.alloc(), &calm(&input));
     assert!(rt; outcome.is(Status::Limit, b"bad at 1\nlimit bytes 16777216\n", 0));
 }
