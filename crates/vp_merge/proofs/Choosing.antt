@@ -25,9 +25,10 @@ sites_in ts = map (λ (t : Track). t.site) ts
 module _ (recordings : List Recording) where
   apart_others : (ts : List Track) (n : ℕ) → (Has (sites_in ts) n → ⊥) → AllByRecursion (λ (t : Track). t.site ≢ n) ts
   apart_others [] n none = tt
-  apart_others (t ∷ ts) n none =
-      ((λ (e : t.site ≡ n). none (subst (Has (sites_in (t ∷ ts))) e (has_first t.site (sites_in ts)))),
-      apart_others ts n (λ h. none (has_more t.site (sites_in ts) n h)))
+  apart_others (t ∷ ts) n none = (
+    (λ (e : t.site ≡ n). none (subst (Has (sites_in (t ∷ ts))) e (has_first t.site (sites_in ts)))),
+    apart_others ts n (λ h. none (has_more t.site (sites_in ts) n h)),
+  )
 
   later : (t : Track) (ts xs : List Track) → AllByRecursion (λ (x : Track). x.site ≢ t.site) xs → AllByRecursion (λ (x : Track). left_of recordings ts x.site ≡ track_of x) xs → AllByRecursion (λ (x : Track). left_of recordings (t ∷ ts) x.site ≡ track_of x) xs
   later t ts [] apart h = tt

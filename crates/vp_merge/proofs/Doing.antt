@@ -98,11 +98,12 @@ stops_first site old (faults.Differs s turn) h = h
 stops_first site old faults.NoMemory h = tt
 
 pub stops_second : (site : ℕ) (old mid : Played) (fault : MergeFault) → Quiet site (event.Crash site) old mid → Ends {A = PlayedStep} (refused world_limits mid.world.catalogue (event.Restart site) mid.world.world) (Err fault) → StartsLives site 1 old (Err fault)
-stops_second site old mid (faults.Limit what limit) a h =
-    (λ own made.
-    a.on (event.Restart site ∷ own) made
-    ∙ subst (λ (k : Catalogue). done_from world_limits k site (event.Restart site ∷ own) (done_at mid made) ≡ Err what) a.catalogue (done_over mid.world.catalogue site (event.Restart site) own (done_at mid made) what h.0),
-    h.1)
+stops_second site old mid (faults.Limit what limit) a h = (
+  λ own made.
+      a.on (event.Restart site ∷ own) made
+      ∙ subst (λ (k : Catalogue). done_from world_limits k site (event.Restart site ∷ own) (done_at mid made) ≡ Err what) a.catalogue (done_over mid.world.catalogue site (event.Restart site) own (done_at mid made) what h.0),
+  h.1,
+)
 stops_second site old mid (faults.Unsent s turn) a h = h
 stops_second site old mid (faults.Differs s turn) a h = h
 stops_second site old mid faults.NoMemory a h = tt
@@ -133,14 +134,15 @@ lives_more site n old mid new a b =
 pub lives_stop : (site n lives : ℕ) (old mid : Played) (fault : MergeFault) → Lives site n old mid → n < lives → StartsLives site 1 mid (Err fault) → StartsLives site lives old (Err fault)
 lives_stop site n lives old mid (faults.Limit what limit) a lt h =
     let left = lives - (n + 1) in
-    let e : lives ≡ n + (1 + left) = omega (arith, lt) in
-    (λ own made.
-    ap (λ k. done_from world_limits old.world.catalogue site (restarts_then site k own) (done_at old made)) e
-    ∙ ap (λ (events : List Event). done_from world_limits old.world.catalogue site events (done_at old made)) (restarts_add site n (1 + left) own)
-    ∙ a.on (restarts_then site (1 + left) own) made
-    ∙ ap (λ (events : List Event). done_from world_limits old.world.catalogue site events (done_at mid made)) (restarts_add site 1 left own)
-    ∙ subst (λ (k : Catalogue). done_from world_limits k site (restarts_then site 1 (restarts_then site left own)) (done_at mid made) ≡ Err what) a.catalogue (h.0 (restarts_then site left own) made),
-    h.1)
+    let e : lives ≡ n + (1 + left) = omega (arith, lt) in (
+      λ own made.
+          ap (λ k. done_from world_limits old.world.catalogue site (restarts_then site k own) (done_at old made)) e
+          ∙ ap (λ (events : List Event). done_from world_limits old.world.catalogue site events (done_at old made)) (restarts_add site n (1 + left) own)
+          ∙ a.on (restarts_then site (1 + left) own) made
+          ∙ ap (λ (events : List Event). done_from world_limits old.world.catalogue site events (done_at mid made)) (restarts_add site 1 left own)
+          ∙ subst (λ (k : Catalogue). done_from world_limits k site (restarts_then site 1 (restarts_then site left own)) (done_at mid made) ≡ Err what) a.catalogue (h.0 (restarts_then site left own) made),
+      h.1,
+    )
 lives_stop site n lives old mid (faults.Unsent s turn) a lt h = h
 lives_stop site n lives old mid (faults.Differs s turn) a lt h = h
 lives_stop site n lives old mid faults.NoMemory a lt h = tt

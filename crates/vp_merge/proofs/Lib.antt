@@ -6,3 +6,4 @@ mod Reached
 mod Doing
 mod Choosing
 mod Going
+mod Starting

@@ -168,12 +168,14 @@ module _ (catalogue : Catalogue) (w : WorldState) (events : List Event) (e : Eve
       let o = step catalogue x given in
       let f = (steps_are_shaped catalogue x given h.catalogue_is shaped form).1 in
       let sent : v.sent ≡ w.sent = ap (λ scene. scene.sent) same in
-      let count = length-append v.sent o.effects.messages in
-      ((ap (λ (all : List Sent). length all + 1) sent, ap (λ (all : List Sent). all ++ o.effects.messages) sent),
-      λ few.
-      (all_each (IsSent x.id) (λ (m : Sent). IsFrame (message_frame m)) (λ m g. sent_is_frame catalogue x.id m h.catalogue_is shaped.listed g) o.effects.messages f.messages_are,
-      all_each IsReply (λ (reply : Reply). IsFrame (reply_frame site reply)) (λ reply g. reply_is_frame catalogue site reply h.catalogue_is listed g) o.effects.replies f.replies_are,
-      omega (arith, few, count)))
+      let count = length-append v.sent o.effects.messages in (
+        (ap (λ (all : List Sent). length all + 1) sent, ap (λ (all : List Sent). all ++ o.effects.messages) sent),
+        λ few. (
+          all_each (IsSent x.id) (λ (m : Sent). IsFrame (message_frame m)) (λ m g. sent_is_frame catalogue x.id m h.catalogue_is shaped.listed g) o.effects.messages f.messages_are,
+          all_each IsReply (λ (reply : Reply). IsFrame (reply_frame site reply)) (λ reply g. reply_is_frame catalogue site reply h.catalogue_is listed g) o.effects.replies f.replies_are,
+          omega (arith, few, count),
+        ),
+      )
 
   shaped_at : (s : ℕ) (x : SiteState) → site_of w s ≡ Some x → IsShaped catalogue x
   shaped_at s x up =

@@ -1,5 +1,5 @@
 -- A merge in progress.
-use Rattle.std.specs.Prelude.{◌≡◌, ⊤, ℕ, ◌+◌, ◌==◌, if◌then◌else◌, List, [], ◌∷◌, map, Option, Some, None, option_map, Result, Ok, Err}
+use Rattle.std.specs.Prelude.{◌≡◌, ⊤, ℕ, ◌+◌, ◌<◌, ◌==◌, if◌then◌else◌, List, [], ◌∷◌, map, Option, Some, None, option_map, Result, Ok, Err}
 use Rattle.std.specs.List.{AllByRecursion}
 use Rattle.std.specs.Option.{option_map_or}
 use Rattle.vp_model.specs.Catalogue.{Catalogue, sites_of}
@@ -7,7 +7,7 @@ use Rattle.vp_model.specs.Limits.{world_limits}
 use Rattle.vp_world.specs.Limits.{limit_of}
 use Rattle.vp_recording.specs.declared.recording.Recording.{Recording}
 use Rattle.vp_fitting.specs.Asked.{Due}
-use Rattle.vp_fitting.specs.Merged.{Track as Left, Merging as MergingState, Merge, Choice, first_track, merged_from}
+use Rattle.vp_fitting.specs.Merged.{Track as Left, Merging as MergingState, Merge, Choice, first_track, merged_from, turns_left}
 use Rattle.vp_merge.specs.Dues.{due_of, dues_left}
 use Rattle.vp_merge.specs.Tracks.{track_of, IsTrack}
 use Rattle.vp_merge.specs.Numbers.{HasFrame, IsIndex}
@@ -49,6 +49,7 @@ abbrev pub TakesTurn : Catalogue → List Recording → Merging → Result Mergi
 TakesTurn catalogue recordings old (Ok new) =
     IsMerging catalogue new
     × ((turns : ℕ) → merged_from (turns + 1) world_limits catalogue (state_of recordings old) ≡ merged_from turns world_limits catalogue (state_of recordings new))
+    × (turns_left (sites_of catalogue) (left_of recordings new.tracks.items) < turns_left (sites_of catalogue) (left_of recordings old.tracks.items))
 TakesTurn catalogue recordings old (Err (faults.Differs site turn)) =
     (turns : ℕ) → merged_from (turns + 1) world_limits catalogue (state_of recordings old) ≡ Merge.unlike site turn
 TakesTurn catalogue recordings old (Err (faults.Limit what limit)) =

@@ -1,6 +1,6 @@
 //! A merge in progress.
 
-ghost use Rattle.std.specs.Prelude.{◌≡◌, List, [], IfOk, Some, map, position};
+ghost use Rattle.std.specs.Prelude.{◌≡◌, ℕ, List, [], IfOk, OnOk, Some, map, position};
 ghost use Rattle.std.specs.List.{AllByRecursion};
 ghost use Rattle.vp_model.specs.Catalogue.{sites_of};
 ghost use Rattle.vp_catalog.specs.Document.{IsCatalogue};
@@ -19,7 +19,7 @@ use bytes::BytesMut;
 use std::alloc::Global;
 use vp_base::NoMemory;
 use vp_catalog::Catalog;
-use vp_recording::Recording;
+use vp_recording::{Recording, Turn};
 
 /// Room for a frame of most kinds, in bytes.
 const ROOM: usize = 64;
@@ -34,6 +34,18 @@ pub struct Merging<'a> {
     pub room: BytesMut,
 }
 
+/// Adds the frames of turns, without numbers.
+fn add_frames(alloc: Global, turns: &[Turn], numbers: &mut FrameNumbers) -> Result<(), NoMemory>
+    ensures index { OnOk result (IsIndex numbers.old [] → IsIndex numbers.new []) }
+    ensures there { OnOk result (AllByRecursion (λ turn. HasFrame numbers.new turn.frame) turns.now) }
+    ensures kept { OnOk result ((bytes : List ℕ) → HasFrame numbers.old bytes → HasFrame numbers.new bytes) }
+{
+    for turn in turns {
+        numbers.add(alloc, turn.frame.as_slice())?;
+    }
+    Ok(())
+}
+
 /// The frames of all turns, without numbers.
 fn frames_of(alloc: Global, recordings: &[Recording]) -> Result<FrameNumbers, NoMemory>
     ensures index { IfOk result (λ n. IsIndex n []) }
@@ -41,9 +53,7 @@ fn frames_of(alloc: Global, recordings: &[Recording]) -> Result<FrameNumbers, No
 {
     let mut numbers = FrameNumbers::new(alloc);
     for recording in recordings {
-        for turn in recording.turns.as_slice() {
-            numbers.add(alloc, turn.frame.as_slice())?;
-        }
+        add_frames(alloc, recording.turns.as_slice(), &mut numbers)?;
     }
     Ok(numbers)
 }
@@ -85,7 +95,9 @@ impl<'a> Merging<'a> {
     pub fn ready(&self) -> Option<usize>
         ensures { result ≡ position (can_go self.now.numbers) self.now.tracks.items }
     {
-        self.tracks.iter().position(|track| track.can_go(&self.numbers))
+        self.tracks
+            .iter()
+            .position(|track| track.can_go(&self.numbers))
     }
 
     /// The lowest site with turns left waits in its next one.

@@ -22,7 +22,7 @@ pub fn merge(catalog: &Catalog, recordings: &Recordings) -> Result<Schedule, Mer
     merged_schedules_fit();
     what_is_unsent_is_never_sent();
     let mut merging = Merging::start(catalog, recordings.as_slice())?;
-    while let Some(place) = merging.ready() {
+    'turns: while let Some(place) = merging.ready() {
         merging = merging.take_turn(place)?;
     }
     if let Some(fault) = merging.waiting() {

@@ -7,7 +7,8 @@ use vp_recording::parse;
 use vp_schedule::print;
 
 /// A site's recording with a call to begin and its answer.
-const BEGIN: &[u8] = b"node 1\nstart 1\nin 560120000101\nout 560121010001010000000100000001000000000000000000\nend\n";
+const BEGIN: &[u8] =
+    b"node 1\nstart 1\nin 560120000101\nout 560121010001010000000100000001000000000000000000\nend\n";
 
 fn put_line(text: &mut Vec<u8>, word: &[u8], number: u64) -> Result<(), NoMemory> {
     text.extend_from_slice(word)?;
@@ -54,15 +55,31 @@ fn ends_with(text: &[u8], end: &[u8]) -> bool {
 fn recordings_are_merged(rt: HostRuntime) {
     let cases: [(usize, &[u8], &[u8]); 6] = [
         (1, BEGIN, b"events\ncall 1 begin\n"),
-        (2, b"node 2\nstart 1\nin 56010b0102010000000100000001\nend\n", b"unsent 2 1"),
+        (
+            2,
+            b"node 2\nstart 1\nin 56010b0102010000000100000001\nend\n",
+            b"unsent 2 1",
+        ),
         (
             2,
             b"node 2\nstart 1\nin 560122000200\nin 56010b0102010000000100000001\nend\n",
             b"differs 2 1",
         ),
-        (1, b"node 1\nstart 1\nin 560120000101\nend\n", b"differs 1 1"),
-        (1, b"node 1\nstart 1\nin 560120000101\n", b"events\ncall 1 begin\n"),
-        (1, b"node 1\nstart 3\nin 560120000101\n", b"events\ncrash 1\nrestart 1\ncrash 1\nrestart 1\ncall 1 begin\n"),
+        (
+            1,
+            b"node 1\nstart 1\nin 560120000101\nend\n",
+            b"differs 1 1",
+        ),
+        (
+            1,
+            b"node 1\nstart 1\nin 560120000101\n",
+            b"events\ncall 1 begin\n",
+        ),
+        (
+            1,
+            b"node 1\nstart 3\nin 560120000101\n",
+            b"events\ncrash 1\nrestart 1\ncrash 1\nrestart 1\ncall 1 begin\n",
+        ),
     ];
     for (sites, lines, end) in cases {
         let text = merged(rt.alloc(), sites, lines).expect(&rt, "memory");
