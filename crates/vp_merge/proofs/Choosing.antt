@@ -2,6 +2,7 @@
 use Rattle.std.proofs.Common.{◌≡◌, ◌≢◌, ◌∙◌, ap, sym, subst, Bool, true, false, cond, ℕ, zero, suc, ◌+◌, ◌<◌, List, [], ◌∷◌, Some, None, length, map, set, refl, arith}
 use Rattle.std.specs.Prelude.{Option, ◌==◌, position, slice_get, option_map}
 use Rattle.std.specs.List.{AllByRecursion, Contains, position_from}
+use Rattle.std.specs.Option.{option_map_or}
 use Rattle.std.proofs.lemmas.Bool.{false≢true, eqb-true}
 use Rattle.vp_laws.specs.Catalogues.{AreApart}
 use Rattle.vp_laws.proofs.Lists.Members.{Has, contains, has_first, has_more}
@@ -41,11 +42,11 @@ module _ (recordings : List Recording) where
   -- at first
   first_left : (ts : List Track) → AllByRecursion (λ (t : Track). track_of t ≡ first_track recordings t.site) ts → (id : ℕ) → left_of recordings ts id ≡ first_track recordings id
   first_left [] h id = refl
-  first_left (t ∷ ts) h id = go (id == t.site) refl
+  first_left (t ∷ ts) h id = go (id == t.site) refl (first_left ts h.1 id)
     where
-      go : (b : Bool) → (id == t.site) ≡ b → cond b (track_of t) (left_of recordings ts id) ≡ first_track recordings id
-      go true e = h.0 ∙ ap (first_track recordings) (sym (eqb-true id t.site e))
-      go false e = first_left ts h.1 id
+      go : (b : Bool) → (id == t.site) ≡ b → left_of recordings ts id ≡ first_track recordings id → cond b (track_of t) (left_of recordings ts id) ≡ first_track recordings id
+      go true e rest = h.0 ∙ ap (first_track recordings) (sym (eqb-true id t.site e))
+      go false e rest = rest
 
   pub left_first : (ts : List Track) → AllByRecursion (λ (t : Track). track_of t ≡ first_track recordings t.site) ts → left_of recordings ts ≡ first_track recordings
   left_first ts h = λ i id. first_left ts h id i
@@ -116,12 +117,12 @@ module _ (numbers : FrameNumbers) (passes : ℕ → Due → Bool) (left : ℕ �
     pub next_is : track.next ≡ Some next
     pub choice : first_of passes (sites_in ts) left ≡ choice_at track
 
-  goes : (t : Track) (b : Bool) → can_go numbers t ≡ b → b ≡ true → (n : NextTurn) × (t.next ≡ Some n)
-  goes t b e yes = by t.next refl (sym (ap (λ z. z) e) ∙ refl)
+  goes : (t : Track) → can_go numbers t ≡ true → (n : NextTurn) × (t.next ≡ Some n)
+  goes t e = by t.next refl
     where
-      by : (o : Option NextTurn) → t.next ≡ o → b ≡ can_go numbers t → (n : NextTurn) × (t.next ≡ Some n)
-      by None p q = absurd (false≢true (sym (q ∙ rw p refl) ∙ yes))
-      by (Some n) p q = (n, p)
+      by : (o : Option NextTurn) → t.next ≡ o → (n : NextTurn) × (t.next ≡ Some n)
+      by None p = absurd (false≢true (sym (ap (λ (o : Option NextTurn). option_map_or (λ (n : NextTurn). is_ready_by numbers t.site n.due.turn.now.frame n.asked) o false) p) ∙ e))
+      by (Some n) p = (n, p)
 
   -- the site of the first one, whose turn passes or not
   one : (t : Track) (other : Option Choice) → Agrees t → chosen passes t.site (left t.site).dues other ≡ cond (can_go numbers t) (choice_at t) other
@@ -131,37 +132,45 @@ module _ (numbers : FrameNumbers) (passes : ℕ → Due → Bool) (left : ℕ �
       by None p = rw (a.left_is, p) refl
       by (Some n) p = rw (a.left_is, p, a.passes_is n p) refl
 
+  none_first : (t : Track) (ts : List Track) (b : Bool) → can_go numbers t ≡ b → (i : ℕ) → Agrees t → (position_from (can_go numbers) (i + 1) ts ≡ None → first_of passes (sites_in ts) left ≡ None)
+      → cond b (Some i) (position_from (can_go numbers) (i + 1) ts) ≡ None → first_of passes (sites_in (t ∷ ts)) left ≡ None
+  none_first t ts true p i a rest z = absurd cc
+  none_first t ts false p i a rest z = one t (first_of passes (sites_in ts) left) a ∙ ap (λ b. cond b (choice_at t) (first_of passes (sites_in ts) left)) p ∙ rest z
+
   pub none_goes : (ts : List Track) (i : ℕ) → AllByRecursion Agrees ts → position_from (can_go numbers) i ts ≡ None → first_of passes (sites_in ts) left ≡ None
   none_goes [] i a e = refl
-  none_goes (t ∷ ts) i a e = go (can_go numbers t) refl e
-    where
-      go : (b : Bool) → can_go numbers t ≡ b → cond b (Some i) (position_from (can_go numbers) (i + 1) ts) ≡ None → first_of passes (sites_in (t ∷ ts)) left ≡ None
-      go true p z = absurd cc
-      go false p z = one t (first_of passes (sites_in ts) left) a.0 ∙ ap (λ b. cond b (choice_at t) (first_of passes (sites_in ts) left)) p ∙ none_goes ts (i + 1) a.1 z
+  none_goes (t ∷ ts) i a e = none_first t ts (can_go numbers t) refl i a.0 (none_goes ts (i + 1) a.1) e
 
   pub record PickedFrom (ts : List Track) (j i : ℕ) : Type 0 where
     pub place : ℕ
     pub is : i ≡ j + place
     pub picked : Picked ts place
 
+  some_first : (t : Track) (ts : List Track) (b : Bool) → can_go numbers t ≡ b → (j i : ℕ) → Agrees t → (position_from (can_go numbers) (j + 1) ts ≡ Some i → PickedFrom ts (j + 1) i)
+      → cond b (Some j) (position_from (can_go numbers) (j + 1) ts) ≡ Some i → PickedFrom (t ∷ ts) j i
+  some_first t ts true p j i a rest z =
+      let same : j ≡ i = cc in
+      let n = goes t p in
+      record {
+        place = 0;
+        is = omega (arith, same);
+        picked = record { track = t; at = refl; next = n.0; next_is = n.1; choice = one t (first_of passes (sites_in ts) left) a ∙ ap (λ b. cond b (choice_at t) (first_of passes (sites_in ts) left)) p };
+      }
+  some_first t ts false p j i a rest z =
+      let r = rest z in
+      let q = r.picked in
+      record {
+        place = suc r.place;
+        is = (let w = r.is in omega (arith, w));
+        picked = record { track = q.track; at = q.at; next = q.next; next_is = q.next_is; choice = one t (first_of passes (sites_in ts) left) a ∙ ap (λ b. cond b (choice_at t) (first_of passes (sites_in ts) left)) p ∙ q.choice };
+      }
+
   pub some_goes : (ts : List Track) (j i : ℕ) → AllByRecursion Agrees ts → position_from (can_go numbers) j ts ≡ Some i → PickedFrom ts j i
   some_goes [] j i a e = absurd cc
-  some_goes (t ∷ ts) j i a e = go (can_go numbers t) refl e
-    where
-      first : first_of passes (sites_in (t ∷ ts)) left ≡ cond (can_go numbers t) (choice_at t) (first_of passes (sites_in ts) left)
-      first = one t (first_of passes (sites_in ts) left) a.0
+  some_goes (t ∷ ts) j i a e = some_first t ts (can_go numbers t) refl j i a.0 (some_goes ts (j + 1) i a.1) e
 
-      go : (b : Bool) → can_go numbers t ≡ b → cond b (Some j) (position_from (can_go numbers) (j + 1) ts) ≡ Some i → PickedFrom (t ∷ ts) j i
-      go true p z =
-          let same : j ≡ i = cc in
-          let n = goes t true p refl in
-          record { place = 0; is = omega (arith, same); picked = record { track = t; at = refl; next = n.0; next_is = n.1; choice = first ∙ ap (λ b. cond b (choice_at t) (first_of passes (sites_in ts) left)) p } }
-      go false p z =
-          let r = some_goes ts (j + 1) i a.1 z in
-          let q = r.picked in
-          record { place = suc r.place; is = (let w = r.is in omega (arith, w)); picked = record { track = q.track; at = q.at; next = q.next; next_is = q.next_is; choice = first ∙ ap (λ b. cond b (choice_at t) (first_of passes (sites_in ts) left)) p ∙ q.choice } }
-
-  pub picks : (ts : List Track) (i : ℕ) → AllByRecursion Agrees ts → position (can_go numbers) ts ≡ Some i → Picked ts i
+  -- where a place is found
+  pub picks : (ts : List Track) (i : ℕ) → AllByRecursion Agrees ts → position_from (can_go numbers) 0 ts ≡ Some i → Picked ts i
   picks ts i a e =
       let r = some_goes ts 0 i a e in
       let same : r.place ≡ i = (let w = r.is in omega (arith, w)) in

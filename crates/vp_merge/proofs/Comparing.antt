@@ -1,9 +1,10 @@
 -- Comparing frame by frame.
-use Rattle.std.proofs.Common.{◌≡◌, ◌∙◌, ap, sym, Bool, true, false, ℕ, List, [], ◌∷◌, ◌++◌, refl, map, append_assoc}
+use Rattle.std.proofs.Common.{◌≡◌, ◌∙◌, ap, sym, Bool, true, false, ℕ, ◌==◌, length, List, [], ◌∷◌, ◌++◌, refl, append_assoc, append-nil}
 use Rattle.std.specs.Prelude.{◌&&◌, ◌||◌}
 use Rattle.std.specs.Str.{bytes_eq}
 use Rattle.vp_fitting.specs.Merged.{tells}
-use Rattle.vp_merge.specs.Telling.{agrees}
+use Rattle.vp_outside.specs.declared.datagram.Datagram.{Datagram}
+use Rattle.vp_merge.specs.Telling.{agrees, bytes_of}
 use Rattle.vp_merge.specs.declared.comparison.Comparison.{Comparison}
 
 and_assoc : (a b c : Bool) → a && (b && c) ≡ (a && b) && c
@@ -20,10 +21,17 @@ unrecorded true true frame made = refl
 unrecorded true false frame made = refl
 unrecorded false short frame made = refl
 
-pub at_end : (alike short : Bool) (outs : List (List ℕ)) → (tells short outs []) ≡ tells short outs []
-at_end alike short outs = refl
-
 -- one frame more
 pub agrees_more : (c d e : Comparison) (xs : List (List ℕ)) (frame : List ℕ) → ((made : List (List ℕ)) → agrees c (xs ++ made) ≡ agrees d made) → ((made : List (List ℕ)) → agrees d (frame ∷ made) ≡ agrees e made)
     → (made : List (List ℕ)) → agrees c ((xs ++ frame ∷ []) ++ made) ≡ agrees e made
 agrees_more c d e xs frame so_far now made = ap (agrees c) (append_assoc xs (frame ∷ []) made) ∙ so_far (frame ∷ made) ∙ now made
+
+-- where no frame is left
+pub ends : (short : Bool) (outs : List Datagram) → (length outs == 0) ≡ tells short (bytes_of outs) []
+ends true [] = refl
+ends false [] = refl
+ends short (out ∷ outs) = refl
+
+-- all frames of a step
+pub told_step : (c d e : Comparison) (xs ys : List (List ℕ)) → ((made : List (List ℕ)) → agrees c (xs ++ made) ≡ agrees d made) → ((made : List (List ℕ)) → agrees d (ys ++ made) ≡ agrees e made) → agrees e [] ≡ agrees c (xs ++ ys)
+told_step c d e xs ys a b = sym (a ys ∙ ap (agrees d) (sym (append-nil ys)) ∙ b [])

@@ -1,6 +1,6 @@
 mod Entries
 mod Index
-mod Asking
+mod OwnEvents
 mod Comparing
 mod Reached
 mod Doing

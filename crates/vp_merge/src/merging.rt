@@ -119,7 +119,7 @@ impl<'a> Merging<'a> {
     pub fn take_turn(self, place: usize) -> Result<Merging<'a>, MergeFault>
         requires merging { IsMerging self.played.world.catalogue self }
         requires ready { position (can_go self.numbers) self.tracks.items ≡ Some place }
-        ensures { (recordings : List Recording) → TakesTurn self.played.world.catalogue recordings self result }
+        ensures { (recordings : List Recording) → TakesTurn self.entry.played.world.catalogue recordings self.entry result }
     {
         let Merging {
             played,
@@ -127,6 +127,7 @@ impl<'a> Merging<'a> {
             mut numbers,
             mut room,
         } = self;
+        let alloc = *tracks.allocator();
         let track = &mut tracks[place];
         let Some(next) = track.next.take() else {
             unreachable!()
@@ -150,7 +151,7 @@ impl<'a> Merging<'a> {
                 turn: due.number,
             });
         }
-        track.advance(*tracks.allocator(), due.life)?;
+        track.advance(alloc, due.life)?;
         Ok(Merging {
             played,
             tracks,

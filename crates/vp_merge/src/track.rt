@@ -1,11 +1,9 @@
 //! What a site has left.
 
-ghost use Rattle.std.specs.Prelude.{◌≡◌, IfOk, OnOk, IfSome};
-ghost use Rattle.std.specs.List.{AllByRecursion};
+ghost use Rattle.std.specs.Prelude.{◌≡◌, ℕ, IfOk, OnOk};
 ghost use Rattle.vp_fitting.specs.Merged.{first_track, is_own};
-ghost use Rattle.vp_schedule.specs.Events.{IsEvent};
 ghost use Rattle.vp_merge.specs.Dues.{dues_left};
-ghost use Rattle.vp_merge.specs.Tracks.{IsNext, IsTrack, TakesNext, can_go, is_ready_by, own_event, track_of};
+ghost use Rattle.vp_merge.specs.Tracks.{IsTrack, TakesNext, can_go, is_ready_by, own_event, track_of};
 
 use crate::asking::asked;
 use crate::dues::{Due, Dues};

@@ -29,16 +29,15 @@ module _ (numbers : FrameNumbers) (all : List Sent) (index : IsIndex numbers all
       by None e some = absurd (false≢true some)
       by (Some number) e some = index frame number e
 
-  module _ (given : Input) where
-    by_asked : AskedBy site frame given → event_by numbers site frame given ≡ event_of all site given
-    unfolding lowest
-    by_asked (AskedBy.called words call) = refl
-    by_asked (AskedBy.sent from m fr is) = ap (option_map event.Deliver) (number_is ∙ ap (λ bytes. number_of bytes all) is)
-    by_asked AskedBy.ticked = refl
-    by_asked AskedBy.probed = refl
+  by_asked : (given : Input) → AskedBy site frame given → event_by numbers site frame given ≡ event_of all site given
+  unfolding lowest
+  by_asked _ (AskedBy.called words call) = refl
+  by_asked _ (AskedBy.sent from m fr is) = ap (option_map event.Deliver) (number_is ∙ ap (λ bytes. number_of bytes all) is)
+  by_asked _ AskedBy.ticked = refl
+  by_asked _ AskedBy.probed = refl
 
-    same_event : asks site frame ≡ Gives given → event_by numbers site frame given ≡ event_of all site given
-    same_event e = by_asked (asked_by site frame given e)
+  same_event : (given : Input) → asks site frame ≡ Gives given → event_by numbers site frame given ≡ event_of all site given
+  same_event given e = by_asked given (asked_by site frame given e)
 
   pub same_ready : (a : Arrival) → asks site frame ≡ a → is_ready_by numbers site frame a ≡ is_ready all site a
   same_ready (Gives given) e = ap is_some (same_event given e)
@@ -56,10 +55,10 @@ module _ (numbers : FrameNumbers) (all : List Sent) (index : IsIndex numbers all
   module _ (sites : List ℕ) (known : has sites site ≡ true) (few : length all ≤ 2000000) where
     delivered : (o : Option ℕ) → number_of frame all ≡ o → IfSome (option_map event.Deliver o) (IsPut sites)
     delivered None e = tt
-    delivered (Some k) e = let w = position-within _ all 1 k e in (tt, omega (arith, w.0), omega (arith, w.1, few))
+    delivered (Some k) e = let w = position-within _ all 1 k e in (tt, (omega (arith, w.0), omega (arith, w.1, few)))
 
     pub event_is_put : (a : Arrival) → IsArrival a → IfSome (own_event numbers site frame a) (IsPut sites)
-    event_is_put (Gives (input.Call port words)) form = (tt, known, form.1)
+    event_is_put (Gives (input.Call port words)) form = (tt, (known, form.1))
     event_is_put (Gives (input.Message from message)) form = subst (λ (o : Option ℕ). IfSome (option_map event.Deliver o) (IsPut sites)) (sym number_is) (delivered (number_of frame all) refl)
     event_is_put (Gives input.Tick) form = (tt, known)
     event_is_put (Gives input.Probe) form = (tt, known)

@@ -1,0 +1,51 @@
+use Rattle.std.proofs.Common.{rules, ◌≡◌, ◌∙◌, ap, sym, subst, Result, Err, Ok, Some, None, true, [], List}
+use Rattle.std.specs.Prelude.{IfSome, Option}
+use Rattle.vp_model.specs.Types.{Event}
+use Rattle.vp_model.specs.Catalogue.{Catalogue, sites_of}
+use Rattle.vp_model.specs.Words.{has}
+use Rattle.vp_merge.specs.Merging.{TakesTurn}
+use Rattle.vp_merge.specs.Played.{IsPut}
+use Rattle.vp_merge.proofs.Going.{no_next, site_listed, event_put, lives_end, event_ends, unlike, taken}
+use Rattle.vp_merge.proofs.merging.Merging.take_turn.Goals as goal
+
+pub unreachable-requires : goal.unreachable-requires
+unreachable-requires c =
+    no_next [] c.args.self c.requires.merging c.args.place c.requires.ready c.index_mut-track.result.now c.index_mut-track.ensures.value (sym c.take.ensures.value ∙ c.in_default.is)
+
+pub start_lives-requires-clause-listed : goal.start_lives-requires-clause-listed
+start_lives-requires-clause-listed c = site_listed [] c.args.self c.requires.merging c.args.place c.requires.ready c.index_mut-track.result.now c.index_mut-track.ensures.value
+
+pub take_event-requires-clause-listed : goal.take_event-requires-clause-listed
+take_event-requires-clause-listed c =
+    let it = c.in_ok-played.ensures in
+    subst (λ (k : Catalogue). has (sites_of k) c.index_mut-track.result.now.site ≡ true) (sym it.catalogue) (site_listed [] c.args.self c.requires.merging c.args.place c.requires.ready c.index_mut-track.result.now c.index_mut-track.ensures.value)
+
+pub take_event-requires-clause-put : goal.take_event-requires-clause-put
+take_event-requires-clause-put c =
+    let it = c.in_ok-played.ensures in
+    let next_is = sym c.take.ensures.value ∙ c.in-Some.is in
+    subst (λ (k : Catalogue). IfSome c.in_ok-event.event (IsPut (sites_of k))) (sym it.catalogue)
+    (subst (λ (e : Option Event). IfSome e (IsPut (sites_of c.args.self.played.world.catalogue))) (sym c.in_ok-event.ensures)
+    (event_put [] c.args.self c.requires.merging c.args.place c.requires.ready c.index_mut-track.result.now c.index_mut-track.ensures.value c.in-Some.next next_is))
+
+pub returns-in_err-played : goal.returns-in_err-played
+returns-in_err-played c = λ recordings.
+    let why = c.in_err-played.field-0.0 in
+    let is : c.from_residual-in_err-played.result ≡ Err why = search rules in
+    let next_is = sym c.take.ensures.value ∙ c.in-Some.is in
+    subst (TakesTurn c.args.self.played.world.catalogue recordings c.args.self) (sym is)
+    (lives_end recordings c.args.self c.requires.merging c.args.place c.requires.ready c.index_mut-track.result.now c.index_mut-track.ensures.value c.in-Some.next next_is why ?)
+
+pub returns-in_err-played-2 : goal.returns-in_err-played-2
+returns-in_err-played-2 c = λ recordings.
+    let why = c.in_err-played-2.field-0.0 in
+    let is : c.from_residual-in_err-played-2.result ≡ Err why = search rules in
+    let next_is = sym c.take.ensures.value ∙ c.in-Some.is in
+    subst (TakesTurn c.args.self.played.world.catalogue recordings c.args.self) (sym is)
+    (event_ends recordings c.args.self c.requires.merging c.args.place c.requires.ready c.index_mut-track.result.now c.index_mut-track.ensures.value c.in-Some.next next_is c.in_ok-played.played _ ? why ?)
+
+pub returns-then-not-told : goal.returns-then-not-told
+returns-then-not-told c = λ recordings. ?
+
+pub returns : goal.returns
+returns c = λ recordings. ?
