@@ -1,6 +1,7 @@
 -- Comparing frame by frame.
-use Rattle.std.proofs.Common.{◌≡◌, ◌∙◌, ap, sym, Bool, true, false, ℕ, ◌==◌, length, List, [], ◌∷◌, ◌++◌, refl, append_assoc, append-nil}
+use Rattle.std.proofs.Common.{◌≡◌, ◌∙◌, ap, sym, Bool, true, false, ℕ, ◌==◌, length, arith, List, [], ◌∷◌, ◌++◌, refl, append_assoc}
 use Rattle.std.specs.Prelude.{◌&&◌, ◌||◌}
+use Rattle.std.proofs.lemmas.Bool.Decides.{nat_tests}
 use Rattle.std.specs.Str.{bytes_eq}
 use Rattle.vp_fitting.specs.Merged.{tells}
 use Rattle.vp_outside.specs.declared.datagram.Datagram.{Datagram}
@@ -30,8 +31,9 @@ agrees_more c d e xs frame so_far now made = ap (agrees c) (append_assoc xs (fra
 pub ends : (short : Bool) (outs : List Datagram) → (length outs == 0) ≡ tells short (bytes_of outs) []
 ends true [] = refl
 ends false [] = refl
-ends short (out ∷ outs) = refl
+ends short (out ∷ outs) = grind (arith, nat_tests)
 
 -- all frames of a step
-pub told_step : (c d e : Comparison) (xs ys : List (List ℕ)) → ((made : List (List ℕ)) → agrees c (xs ++ made) ≡ agrees d made) → ((made : List (List ℕ)) → agrees d (ys ++ made) ≡ agrees e made) → agrees e [] ≡ agrees c (xs ++ ys)
-told_step c d e xs ys a b = sym (a ys ∙ ap (agrees d) (sym (append-nil ys)) ∙ b [])
+pub agrees_both : (c d e : Comparison) (xs ys : List (List ℕ)) → ((made : List (List ℕ)) → agrees c (xs ++ made) ≡ agrees d made) → ((made : List (List ℕ)) → agrees d (ys ++ made) ≡ agrees e made)
+    → (made : List (List ℕ)) → agrees c ((xs ++ ys) ++ made) ≡ agrees e made
+agrees_both c d e xs ys a b made = ap (agrees c) (append_assoc xs ys made) ∙ a (ys ++ made) ∙ b made

@@ -100,6 +100,17 @@ module _ (recordings : List Recording) (m : Merging) (h : IsMerging m.played.wor
 
   -- ---- a turn
 
+  -- where one can go, a turn is left
+  pub some_left : (place : ℕ) → position (can_go m.numbers) tracks ≡ Some place → 0 < turns_left (sites_of catalogue) (left_of recordings tracks)
+  some_left place at =
+      let p = picks m.numbers passes (left_of recordings tracks) tracks place all_agree (sym (position_from-zero (can_go m.numbers) tracks) ∙ at) in
+      let dues =
+      ap (λ (left : Left). left.dues) (all_there (λ (t : Track). left_of recordings tracks t.site ≡ track_of t) tracks place p.track (left_fits recordings tracks apart) p.at)
+      ∙ ap (λ (o : Option NextTurn). dues_with o (dues_left p.track.rest)) p.next_is
+      in
+      let less = fewer_left p.track.site (record { life = 0; dues = dues_left p.track.rest }) (left_of recordings tracks) (due_of p.next.due) dues (sites_of catalogue) (subst (λ (sites : List ℕ). Has sites p.track.site) h.sites (there_site tracks place p.track p.at)) in
+      omega (arith, less)
+
   module _ (place : ℕ) (at : position (can_go m.numbers) tracks ≡ Some place) (t : Track) (t_is : t ≡ get_or tracks place t) where
     p : Picked m.numbers passes (left_of recordings tracks) tracks place
     p = picks m.numbers passes (left_of recordings tracks) tracks place all_agree (sym (position_from-zero (can_go m.numbers) tracks) ∙ at)
@@ -162,7 +173,7 @@ module _ (recordings : List Recording) (m : Merging) (h : IsMerging m.played.wor
       pub lives_end : (fault : MergeFault) → StartsLives t.site (n.due.life - t.life) m.played (Err fault) → TakesTurn catalogue recordings m (Err fault)
       lives_end (faults.Limit what limit) e = (λ turns. too_long what (e.0 own []) turns, e.1)
       lives_end (faults.Unsent s turn) e = e
-      lives_end (faults.Differs s turn) e = e
+      lives_end (faults.Differs s turn) e = absurd e
       lives_end faults.NoMemory e = tt
 
       -- the event was not done
@@ -172,7 +183,7 @@ module _ (recordings : List Recording) (m : Merging) (h : IsMerging m.played.wor
       event_ends mid after lives (faults.Limit what limit) e =
           (λ turns. too_long what (lives.on own [] ∙ subst (λ (k : Catalogue). done_from world_limits k t.site own (done_at mid []) ≡ Err what) lives.catalogue e.0) turns, e.1)
       event_ends mid after lives (faults.Unsent s turn) e = e
-      event_ends mid after lives (faults.Differs s turn) e = e
+      event_ends mid after lives (faults.Differs s turn) e = absurd e
       event_ends mid after lives faults.NoMemory e = tt
 
       -- the lives were begun, and the event was done

@@ -7,3 +7,4 @@ mod Doing
 mod Choosing
 mod Going
 mod Starting
+mod Ending

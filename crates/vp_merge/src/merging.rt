@@ -145,7 +145,7 @@ impl<'a> Merging<'a> {
             &mut numbers,
             &mut room,
         )?;
-        if !(next.is_own() && told) {
+        if !next.is_told(told) {
             return Err(MergeFault::Differs {
                 site: track.site,
                 turn: due.number,

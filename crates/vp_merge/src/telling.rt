@@ -60,7 +60,32 @@ fn compare_replies(
     Ok(())
 }
 
-/// Whether what is recorded of the turn is what its step has given, and notes the numbers of its messages. What is no step gives nothing.
+/// Compares the frames of what is shown of an event, and notes the numbers of its messages. What is no step gives nothing.
+fn compare_shown(
+    site: SiteId,
+    shown: &Shown,
+    comparison: &mut Comparison,
+    numbers: &mut FrameNumbers,
+    room: &mut BytesMut,
+) -> Result<(), NoMemory>
+    requires { AreFrames site shown.now }
+    ensures compared { OnOk result ((made : List (List ℕ)) → agrees comparison.old (frames_in site shown.now ++ made) ≡ agrees comparison.new made) }
+    ensures noted { OnOk result (NotesShown shown.now numbers.old numbers.new) }
+{
+    if let Shown::Step {
+        first,
+        messages,
+        replies,
+        ..
+    } = shown
+    {
+        compare_messages(messages.as_slice(), *first, comparison, numbers, room)?;
+        compare_replies(site, replies.as_slice(), comparison, room)?;
+    }
+    Ok(())
+}
+
+/// Whether what is recorded of the turn is what its step has given; notes the numbers of its messages.
 pub fn tells(
     site: SiteId,
     shown: &Shown,
@@ -78,15 +103,6 @@ pub fn tells(
         short,
         alike: true,
     };
-    if let Shown::Step {
-        first,
-        messages,
-        replies,
-        ..
-    } = shown
-    {
-        compare_messages(messages.as_slice(), *first, &mut comparison, numbers, room)?;
-        compare_replies(site, replies.as_slice(), &mut comparison, room)?;
-    }
+    compare_shown(site, shown, &mut comparison, numbers, room)?;
     Ok(comparison.ends_alike())
 }

@@ -1,6 +1,6 @@
 //! What a site has left.
 
-ghost use Rattle.std.specs.Prelude.{◌≡◌, ℕ, IfOk, OnOk};
+ghost use Rattle.std.specs.Prelude.{◌≡◌, ◌&&◌, ℕ, IfOk, OnOk};
 ghost use Rattle.vp_fitting.specs.Merged.{first_track, is_own};
 ghost use Rattle.vp_merge.specs.Dues.{dues_left};
 ghost use Rattle.vp_merge.specs.Tracks.{IsTrack, TakesNext, can_go, is_ready_by, own_event, track_of};
@@ -81,12 +81,12 @@ impl<'a> NextTurn<'a> {
         }
     }
 
-    /// Whether the frame is an input of the site, or stops its node.
-    pub fn is_own(&self) -> bool
-        ensures { result ≡ is_own self.now.asked }
+    /// Whether the frame is an input of the site or stops its node, and its datagrams are as told.
+    pub fn is_told(&self, told: bool) -> bool
+        ensures { result ≡ (is_own self.now.asked && told) }
     {
         match &self.asked {
-            Arrival::Gives { .. } | Arrival::Stops => true,
+            Arrival::Gives { .. } | Arrival::Stops => told,
             Arrival::Bad { .. } | Arrival::Stray => false,
         }
     }
