@@ -55,8 +55,8 @@ returns-in_err-played-2 c = λ recordings.
     (subst (λ (e : Option Event). TakesEvent t.site e n.due.short (bytes_of n.due.turn.now.outs) mid (Err why) c.args.self.numbers c.take_event.new.numbers) c.in_ok-event.ensures
     (subst (λ (outs : List Datagram). TakesEvent t.site c.in_ok-event.event n.due.short (bytes_of outs) mid (Err why) c.args.self.numbers c.take_event.new.numbers) c.as_slice-outs.ensures c.in_err-played-2.ensures)))
 
-pub returns-then-not-told : goal.returns-then-not-told
-returns-then-not-told c = λ recordings.
+pub returns-then-not-is_told : goal.returns-then-not-is_told
+returns-then-not-is_told c = λ recordings.
     let t = c.index_mut-track.result.now in
     let n = c.in-Some.next in
     let mid = c.in_ok-played.played in
@@ -83,4 +83,4 @@ returns c = λ recordings.
     taken recordings c.args.self c.requires.merging c.args.place c.requires.ready t c.index_mut-track.ensures.value n next_is mid new told c.take_event.new.numbers lives
     (subst (λ (e : Option Event). Takes t.site e n.due.short (bytes_of n.due.turn.now.outs) mid new told c.args.self.numbers c.take_event.new.numbers) c.in_ok-event.ensures
     (subst (λ (outs : List Datagram). Takes t.site c.in_ok-event.event n.due.short (bytes_of outs) mid new told c.args.self.numbers c.take_event.new.numbers) c.as_slice-outs.ensures c.in_ok-played-2.ensures))
-    c.advance.new.self yes c.advance.ensures.site ? ? _ refl refl refl
+    c.advance.new.self yes c.advance.ensures.site c.in_ok-advance.ensures.left c.in_ok-advance.ensures.is _ refl refl refl
