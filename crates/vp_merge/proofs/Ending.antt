@@ -140,11 +140,13 @@ module _ (catalogue : Catalogue) (recordings : List Recording) (m : Merging) (h 
         let k : IsCatalogue catalogue = subst IsCatalogue h.merging.catalogue_is p.catalogue_is in
         let is : merged world_limits catalogue recordings ≡ Merge.whole m.played.events = at_end ∙ ap end_by e in
         let count = p.counted in
-        let few = p.few in
-        (same, is,
-        subst (λ (c : Catalogue). IsSchedule (over c m.played.events)) (h.merging.catalogue_is ∙ sym same) (record {
-          catalogue_is = p.catalogue_is;
-          events_are = all_each (IsPut (sites_of m.played.world.catalogue)) (IsEvent (sites_of m.played.world.catalogue)) (λ e put. put.1) m.played.events p.events_are;
-          few = omega (arith, count, few);
-        }),
-        subst (λ (c : Catalogue). MatchesAll (over c m.played.events) recordings) (sym same) (laws world_limits catalogue recordings m.played.events k nodes is).matches)
+        let few = p.few in (
+          same,
+          is,
+          subst (λ (c : Catalogue). IsSchedule (over c m.played.events)) (h.merging.catalogue_is ∙ sym same) (record {
+            catalogue_is = p.catalogue_is;
+            events_are = all_each (IsPut (sites_of m.played.world.catalogue)) (IsEvent (sites_of m.played.world.catalogue)) (λ e put. put.1) m.played.events p.events_are;
+            few = omega (arith, count, few);
+          }),
+          subst (λ (c : Catalogue). MatchesAll (over c m.played.events) recordings) (sym same) (laws world_limits catalogue recordings m.played.events k nodes is).matches,
+        )
