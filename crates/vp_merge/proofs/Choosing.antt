@@ -1,19 +1,18 @@
 -- Which site takes the next turn, by the tracks.
-use Rattle.std.proofs.Common.{◌≡◌, ◌≢◌, ◌∙◌, ap, sym, subst, Bool, true, false, cond, ℕ, zero, suc, ◌+◌, ◌<◌, List, [], ◌∷◌, Some, None, length, map, set, refl, arith}
-use Rattle.std.specs.Prelude.{Option, ◌==◌, position, slice_get, option_map}
-use Rattle.std.specs.List.{AllByRecursion, Contains, position_from}
+use Rattle.std.proofs.Common.{◌≡◌, ◌≢◌, ◌∙◌, ap, sym, subst, Bool, true, false, cond, ℕ, zero, suc, ◌+◌, List, [], ◌∷◌, Some, None, map, set, refl, arith}
+use Rattle.std.specs.Prelude.{Option, ◌==◌, slice_get}
+use Rattle.std.specs.List.{AllByRecursion, position_from}
 use Rattle.std.specs.Option.{option_map_or}
 use Rattle.std.proofs.lemmas.Bool.{false≢true, eqb-true}
 use Rattle.vp_laws.specs.Catalogues.{AreApart}
 use Rattle.vp_laws.proofs.Lists.Members.{Has, contains, has_first, has_more}
 use Rattle.vp_laws.proofs.Lists.Numbers.{eq_self, eq_not}
-use Rattle.vp_laws.proofs.Lists.Views.{same_site}
 use Rattle.vp_recording.specs.declared.recording.Recording.{Recording}
 use Rattle.vp_fitting.specs.Asked.{Due}
 use Rattle.vp_fitting.specs.Merged.{Choice, Track as Left, chosen, first_of, first_track, with_track}
-use Rattle.vp_merge.specs.Dues.{due_of, dues_left}
+use Rattle.vp_merge.specs.Dues.{due_of}
 use Rattle.vp_merge.specs.Merging.{choice_at, left_of}
-use Rattle.vp_merge.specs.Tracks.{can_go, is_ready_by, track_of, dues_with}
+use Rattle.vp_merge.specs.Tracks.{can_go, is_ready_by, track_of}
 use Rattle.vp_merge.specs.declared.numbers.FrameNumbers.{FrameNumbers}
 use Rattle.vp_merge.specs.declared.track.NextTurn.{NextTurn}
 use Rattle.vp_merge.specs.declared.track.Track.{Track}

@@ -1,19 +1,18 @@
 -- What the events of a turn do, as the definition of a merge does them.
-use Rattle.std.proofs.Common.{◌≡◌, ◌∙◌, ap, sym, subst, Bool, ℕ, zero, suc, ◌+◌, ◌<◌, List, [], ◌∷◌, ◌++◌, Some, None, Result, Ok, Err, refl, arith, append-nil}
-use Rattle.std.specs.Prelude.{Option, ◌-◌}
+use Rattle.std.proofs.Common.{◌≡◌, ◌∙◌, ap, sym, subst, Bool, ℕ, zero, suc, ◌+◌, ◌<◌, List, [], ◌∷◌, ◌++◌, Some, None, Err, refl, arith, append-nil}
+use Rattle.std.specs.Prelude.{◌-◌}
 use Rattle.vp_model.specs.Types.{Event, Shown, Counted, Sent}
 use Rattle.vp_model.specs.Types.event
 use Rattle.vp_model.specs.Types.shown
-use Rattle.vp_model.specs.Catalogue.{Catalogue, sites_of}
+use Rattle.vp_model.specs.Catalogue.{Catalogue}
 use Rattle.vp_model.specs.Limits.{world_limits, refused}
 use Rattle.vp_model.specs.World.{WorldState, next}
 use Rattle.vp_world.specs.Known.{Known}
-use Rattle.vp_world.specs.Limits.{limit_of}
 use Rattle.vp_fitting.specs.Fitting.{frames_in}
-use Rattle.vp_fitting.specs.Merged.{Done, done_from, done_with, restarts_then, tells, listed}
+use Rattle.vp_fitting.specs.Merged.{Done, done_from, done_with, restarts_then, tells}
 use Rattle.vp_merge.specs.Faults.{Ends}
 use Rattle.vp_merge.specs.Lives.{Lives, StartsLives, Takes, TakesEvent}
-use Rattle.vp_merge.specs.Numbers.{IsIndex, HaveSame, Notes}
+use Rattle.vp_merge.specs.Numbers.{IsIndex, HaveSame}
 use Rattle.vp_merge.specs.Played.{Goes, IsPlayed, IsReached, done_at}
 use Rattle.vp_merge.specs.Telling.{NotesShown}
 use Rattle.vp_merge.specs.declared.fault.MergeFault.{MergeFault}

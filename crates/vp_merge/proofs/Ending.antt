@@ -1,20 +1,18 @@
 -- A merge from its start to its end.
-use Rattle.std.proofs.Common.{◌≡◌, ◌∙◌, ap, sym, subst, true, ℕ, ◌+◌, ◌<◌, ◌≤◌, List, [], ◌∷◌, Some, None, Result, Ok, Err, refl, arith}
+use Rattle.std.proofs.Common.{◌≡◌, ◌∙◌, ap, sym, subst, true, ℕ, ◌+◌, ◌<◌, ◌≤◌, List, [], ◌∷◌, Some, None, Ok, Err, refl, arith}
 use Rattle.std.specs.Prelude.{Option, ◌-◌, position}
 use Rattle.std.specs.List.{AllByRecursion}
 use Rattle.std.specs.Option.{option_map_or}
 use Rattle.vp_text.proofs.Items.{all_each}
-use Rattle.vp_model.specs.Types.{Event, Counted}
 use Rattle.vp_model.specs.Catalogue.{Catalogue, sites_of}
 use Rattle.vp_model.specs.Limits.{world_limits}
-use Rattle.vp_model.specs.World.{Schedule}
 use Rattle.vp_catalog.specs.Document.{IsCatalogue}
 use Rattle.vp_schedule.specs.Document.{IsSchedule}
 use Rattle.vp_schedule.specs.Events.{IsEvent}
 use Rattle.vp_recording.specs.declared.recording.Recording.{Recording}
 use Rattle.vp_recording.specs.Recordings.{AreOfNodes}
 use Rattle.vp_fitting.specs.Laws.{MatchesAll, MergesMatch, UnsentIsNeverSent, over}
-use Rattle.vp_fitting.specs.Merged.{Merge, Merging as MergingState, Track as Left, at_first, end_of, ended, first_of, first_track, merged, merged_from, turns_left}
+use Rattle.vp_fitting.specs.Merged.{Merge, Merging as MergingState, at_first, end_of, ended, first_of, first_track, merged, merged_from, turns_left}
 use Rattle.vp_merge.specs.Merges.{Merges}
 use Rattle.vp_merge.specs.Merging.{IsMerging, TakesTurn, left_of, state_of, waits_at}
 use Rattle.vp_merge.specs.Played.{IsPlayed, IsPut}

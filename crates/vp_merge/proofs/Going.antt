@@ -1,31 +1,27 @@
 -- A turn of a merge.
-use Rattle.std.proofs.Common.{◌≡◌, ◌≢◌, ◌∙◌, ap, sym, subst, Bool, true, false, cond, ℕ, zero, suc, ◌+◌, ◌<◌, ◌≤◌, List, [], ◌∷◌, Some, None, Result, Ok, Err, length, map, set, refl, arith, append-nil}
+use Rattle.std.proofs.Common.{◌≡◌, ◌∙◌, ap, sym, subst, Bool, true, false, cond, ℕ, zero, suc, ◌+◌, ◌<◌, List, [], ◌∷◌, Some, None, Ok, Err, set, refl, arith}
 use Rattle.std.specs.Prelude.{Option, ◌&&◌, ◌-◌, position, slice_get, option_map, IfSome, get_or}
 use Rattle.std.specs.List.{AllByRecursion}
-use Rattle.std.proofs.lemmas.Bool.{false≢true}
 use Rattle.std.proofs.lemmas.Option.{get_or_from_slice_get}
 use Rattle.std.proofs.lemmas.Iterator.Adapters.{position_from-zero}
 use Rattle.vp_text.proofs.Items.{all_each}
-use Rattle.vp_model.specs.Types.{Event, Sent, Counted}
+use Rattle.vp_model.specs.Types.{Event, Counted}
 use Rattle.vp_model.specs.Catalogue.{Catalogue, sites_of}
 use Rattle.vp_model.specs.Limits.{world_limits}
 use Rattle.vp_model.specs.World.{WorldState}
-use Rattle.vp_catalog.specs.Document.{IsCatalogue}
 use Rattle.vp_laws.specs.Catalogues.{AreApart}
 use Rattle.vp_laws.proofs.Lists.Catalogues.{catalogue_apart}
 use Rattle.vp_laws.proofs.Lists.Members.{Has, has_test}
 use Rattle.vp_model.specs.Words.{has}
-use Rattle.vp_world.specs.Limits.{limit_of}
 use Rattle.vp_recording.specs.declared.recording.Recording.{Recording}
-use Rattle.vp_recording.specs.declared.recording.Turn.{Turn}
 use Rattle.vp_runs.specs.declared.arrival.Arrival.{Arrival}
-use Rattle.vp_fitting.specs.Asked.{Due, asks, outs_of, dues_in, dues_from}
-use Rattle.vp_fitting.specs.Merged.{Choice, Done, Merge, Merging as MergingState, Track as Left, by_choice, can_take, done_from, end_of, first_of, gone_on, is_own, is_told, listed, merged, merged_from, own_events, is_ready, ready, restarts_then, taken_by, tells, turn_done, turn_events, turns_left, with_track}
+use Rattle.vp_fitting.specs.Asked.{Due, asks}
+use Rattle.vp_fitting.specs.Merged.{Choice, Merge, Merging as MergingState, Track as Left, by_choice, can_take, done_from, end_of, first_of, gone_on, is_own, is_told, listed, merged_from, own_events, is_ready, ready, restarts_then, taken_by, tells, turn_done, turns_left, with_track}
 use Rattle.vp_fitting.proofs.Choices.{fewer_left}
 use Rattle.vp_merge.specs.Dues.{due_of, dues_left}
 use Rattle.vp_merge.specs.Lives.{Lives, StartsLives, Takes, TakesEvent}
 use Rattle.vp_merge.specs.Merging.{AreThere, IsMerging, TakesTurn, choice_at, left_of, state_of}
-use Rattle.vp_merge.specs.Numbers.{HasFrame, HaveSame, IsIndex}
+use Rattle.vp_merge.specs.Numbers.{HasFrame, IsIndex}
 use Rattle.vp_merge.specs.Played.{IsPlayed, IsPut, done_at}
 use Rattle.vp_merge.specs.Telling.{bytes_of}
 use Rattle.vp_merge.specs.Tracks.{IsNext, IsTrack, can_go, dues_with, is_ready_by, own_event, track_of}

@@ -1,14 +1,11 @@
 -- The event of a turn by the index is that of the definition.
-use Rattle.std.proofs.Common.{◌≡◌, ◌∙◌, ap, sym, subst, Bool, true, false, ℕ, ◌≤◌, ◌<◌, ◌+◌, List, [], ◌∷◌, Some, None, length, refl, arith}
+use Rattle.std.proofs.Common.{◌≡◌, ◌∙◌, ap, sym, subst, true, ℕ, ◌≤◌, List, Some, None, length, refl, arith}
 use Rattle.std.specs.Prelude.{Option, option_map, option_and_then, is_some, IfSome}
 use Rattle.std.proofs.lemmas.Bool.{false≢true}
-use Rattle.vp_base.specs.Calls.{IsCall}
-use Rattle.vp_model.specs.Types.{Event, Input, Sent, Message}
+use Rattle.vp_model.specs.Types.{Input, Sent}
 use Rattle.vp_model.specs.Types.event
 use Rattle.vp_model.specs.Types.input
 use Rattle.vp_model.specs.Words.{has}
-use Rattle.vp_schedule.specs.Events.{IsEvent}
-use Rattle.vp_laws.proofs.Moves.LocalViews.{letter}
 use Rattle.vp_runs.specs.Arrivals.{IsArrival}
 use Rattle.vp_runs.specs.declared.arrival.Arrival.{Arrival}
 use Rattle.vp_runs.specs.declared.arrival.Arrival.TheVariants.{Bad, Stray, Stops, Gives}

@@ -1,12 +1,12 @@
 -- One more event, and what is shown of it.
-use Rattle.std.proofs.Common.{◌≡◌, ◌∙◌, ap, sym, subst, Bool, true, false, cond, ℕ, ◌+◌, ◌-◌, ◌^◌, ◌≤◌, ◌<◌, List, [], ◌∷◌, ◌++◌, Some, None, length, map, refl, arith, length-append, append-nil}
-use Rattle.std.specs.Prelude.{⊤, Option, ◌==◌, is_some, nat_lt}
+use Rattle.std.proofs.Common.{◌≡◌, ◌∙◌, ap, sym, subst, Bool, true, false, cond, ℕ, ◌+◌, ◌-◌, ◌^◌, ◌≤◌, List, [], ◌∷◌, ◌++◌, Some, None, length, refl, arith, length-append}
+use Rattle.std.specs.Prelude.{Option, ◌==◌, is_some, nat_lt}
 use Rattle.std.specs.List.{AllByRecursion}
 use Rattle.std.specs.Option.{option_map_or}
 use Rattle.std.proofs.lemmas.Bool.{false≢true}
 use Rattle.std.proofs.lemmas.Bool.Decides.{nat_tests}
 use Rattle.vp_text.proofs.Items.{all_each}
-use Rattle.vp_model.specs.Types.{Event, Input, Sent, Reply, Shown, Counted}
+use Rattle.vp_model.specs.Types.{Event, Input, Sent, Reply, Shown}
 use Rattle.vp_model.specs.Types.event
 use Rattle.vp_model.specs.Types.counted
 use Rattle.vp_model.specs.Types.input
@@ -20,7 +20,6 @@ use Rattle.vp_model.specs.Told.{is_step}
 use Rattle.vp_model.specs.World.{Place, WorldState, Moved, Run, shows, site_of, place_of, message_at, is_cut, site_step, at_site, deliver, crash, restart, restart_from, happens, next, start_world, start_run, one_step, one_event, run_from, run_of}
 use Rattle.vp_model.proofs.RunGrows.{run_from-more}
 use Rattle.vp_catalog.specs.Document.{IsCatalogue}
-use Rattle.vp_schedule.specs.Events.{IsEvent as IsListedEvent}
 use Rattle.vp_wire.specs.Grammar.{IsFrame}
 use Rattle.vp_laws.specs.Shapes.{IsInput, IsShaped, IsSent, IsReply}
 use Rattle.vp_laws.specs.ShapeLaws.{IsEvent, IsPlace, IsWorld, message_frame, reply_frame}

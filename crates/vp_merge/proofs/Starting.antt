@@ -1,5 +1,5 @@
 -- The start of a merge.
-use Rattle.std.proofs.Common.{◌≡◌, ◌∙◌, ap, sym, subst, Bool, true, false, cond, ℕ, ◌+◌, List, [], ◌∷◌, ◌++◌, Some, None, length, map, refl, suc}
+use Rattle.std.proofs.Common.{◌≡◌, ◌∙◌, ap, sym, subst, Bool, true, false, cond, ℕ, ◌+◌, List, [], ◌∷◌, ◌++◌, Some, None, length, refl}
 use Rattle.std.specs.Prelude.{Option, ◌==◌, is_some}
 use Rattle.std.specs.List.{AllByRecursion}
 use Rattle.std.specs.Str.{bytes_eq}
@@ -8,8 +8,8 @@ use Rattle.vp_model.specs.Catalogue.{Catalogue}
 use Rattle.vp_model.specs.World.{start_world}
 use Rattle.vp_recording.specs.declared.recording.Recording.{Recording}
 use Rattle.vp_recording.specs.declared.recording.Turn.{Turn}
-use Rattle.vp_fitting.specs.Asked.{Due, dues_in, dues_from, dues_of}
-use Rattle.vp_fitting.specs.Merged.{Track as Left, Merging as MergingState, at_first, first_track}
+use Rattle.vp_fitting.specs.Asked.{Due, dues_in, dues_from}
+use Rattle.vp_fitting.specs.Merged.{Track as Left, first_track}
 use Rattle.vp_merge.specs.Merging.{AreThere}
 use Rattle.vp_merge.specs.Numbers.{entry_of, HasFrame}
 use Rattle.vp_merge.specs.Tracks.{track_of}

@@ -1,7 +1,6 @@
 -- Crashes and restarts, and the event of a turn, as the definition of a merge does them.
-use Rattle.std.specs.Prelude.{◌≡◌, ⊤, ℕ, Bool, List, [], ◌∷◌, Option, Result, Ok, Err}
+use Rattle.std.specs.Prelude.{◌≡◌, ⊤, ℕ, Bool, List, [], Option, Result, Ok, Err}
 use Rattle.vp_model.specs.Types.{Event}
-use Rattle.vp_model.specs.Catalogue.{Catalogue}
 use Rattle.vp_model.specs.Limits.{world_limits}
 use Rattle.vp_world.specs.Limits.{limit_of}
 use Rattle.vp_fitting.specs.Merged.{done_from, restarts_then, tells, listed}

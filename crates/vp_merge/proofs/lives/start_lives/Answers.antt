@@ -1,7 +1,5 @@
-use Rattle.std.proofs.Common.{rules, subst, sym, ◌≡◌, Result, Err, Ok}
+use Rattle.std.proofs.Common.{rules, subst, sym, ◌≡◌, Err}
 use Rattle.vp_merge.specs.Lives.{StartsLives}
-use Rattle.vp_merge.specs.declared.fault.MergeFault.{MergeFault}
-use Rattle.vp_merge.specs.declared.played.Played.{Played}
 use Rattle.vp_merge.proofs.Doing.{lives_more, lives_stop}
 use Rattle.vp_merge.proofs.lives.start_lives.Goals as goal
 

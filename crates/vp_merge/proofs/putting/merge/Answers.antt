@@ -1,4 +1,4 @@
-use Rattle.std.proofs.Common.{rules, ◌≡◌, ◌∙◌, ap, sym, subst, Result, Err, List}
+use Rattle.std.proofs.Common.{rules, ◌≡◌, ◌∙◌, sym, subst, Result, Err, List}
 use Rattle.vp_model.specs.World.{Schedule}
 use Rattle.vp_fitting.specs.Merged.{at_first}
 use Rattle.vp_recording.specs.declared.recording.Recording.{Recording}

@@ -1,4 +1,4 @@
-use Rattle.std.proofs.Common.{◌≡◌, ◌∙◌, ap, sym, [], append-nil}
+use Rattle.std.proofs.Common.{◌∙◌, ap, sym, [], append-nil}
 use Rattle.vp_fitting.specs.Fitting.{frames_in}
 use Rattle.vp_fitting.specs.Merged.{tells}
 use Rattle.vp_merge.specs.Telling.{bytes_of}

@@ -1,4 +1,4 @@
-use Rattle.std.proofs.Common.{◌≡◌, ◌∙◌, ap, sym, length, []}
+use Rattle.std.proofs.Common.{◌∙◌, ap, sym, []}
 use Rattle.std.specs.Prelude.{◌&&◌}
 use Rattle.vp_fitting.specs.Merged.{tells}
 use Rattle.vp_merge.specs.Telling.{bytes_of}

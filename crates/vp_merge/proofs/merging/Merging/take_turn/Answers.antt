@@ -1,4 +1,4 @@
-use Rattle.std.proofs.Common.{rules, ◌≡◌, ◌∙◌, ap, sym, subst, ℕ, true, false, Err, [], List, refl}
+use Rattle.std.proofs.Common.{rules, ◌≡◌, ◌∙◌, sym, subst, ℕ, true, false, Err, [], List, refl}
 use Rattle.std.specs.Prelude.{IfSome, Option, ◌-◌, ◌&&◌}
 use Rattle.vp_model.specs.Types.{Event}
 use Rattle.vp_model.specs.Catalogue.{Catalogue, sites_of}

@@ -1,4 +1,3 @@
-use Rattle.std.proofs.Common.{◌≡◌, ◌∙◌, ap, None, refl, ℕ}
 use Rattle.vp_merge.proofs.Entries.{added}
 use Rattle.vp_merge.proofs.numbers.FrameNumbers.add.Goals as goal
 

@@ -1,5 +1,5 @@
-use Rattle.std.proofs.Common.{◌≡◌, ◌∙◌, ap, sym, subst, List, [], ◌∷◌, ◌++◌}
-use Rattle.vp_model.specs.Types.{Event, Line}
+use Rattle.std.proofs.Common.{ap, sym, subst}
+use Rattle.vp_model.specs.Types.{Line}
 use Rattle.vp_world.specs.Known.{Known}
 use Rattle.vp_merge.specs.Played.{IsReached}
 use Rattle.vp_merge.proofs.Reached.{reached_more}

@@ -1,5 +1,4 @@
-use Rattle.std.proofs.Common.{◌≡◌, ◌∙◌, ap, sym, subst, List, []}
-use Rattle.vp_model.specs.Types.{Event}
+use Rattle.std.proofs.Common.{◌∙◌, ap, sym, subst}
 use Rattle.vp_model.specs.Catalogue.{Catalogue}
 use Rattle.vp_model.specs.World.{start_world}
 use Rattle.vp_world.specs.Known.{Known}
