@@ -90,23 +90,6 @@ module _ (site : ℕ) (old mid new : Played) where
             ∙ subst (λ (k : Catalogue). done_from world_limits k site (event.Restart site ∷ own) (done_at mid made) ≡ done_from world_limits k site own (done_at new made)) a.catalogue (b.on own made);
       }
 
-pub stops_first : (site : ℕ) (old : Played) (fault : MergeFault) → Ends {A = PlayedStep} (refused world_limits old.world.catalogue (event.Crash site) old.world.world) (Err fault) → StartsLives site 1 old (Err fault)
-stops_first site old (faults.Limit what limit) h = (λ own made. done_over old.world.catalogue site (event.Crash site) (event.Restart site ∷ own) (done_at old made) what h.0, h.1)
-stops_first site old (faults.Unsent s turn) h = h
-stops_first site old (faults.Differs s turn) h = h
-stops_first site old faults.NoMemory h = tt
-
-pub stops_second : (site : ℕ) (old mid : Played) (fault : MergeFault) → Quiet site (event.Crash site) old mid → Ends {A = PlayedStep} (refused world_limits mid.world.catalogue (event.Restart site) mid.world.world) (Err fault) → StartsLives site 1 old (Err fault)
-stops_second site old mid (faults.Limit what limit) a h = (
-  λ own made.
-      a.on (event.Restart site ∷ own) made
-      ∙ subst (λ (k : Catalogue). done_from world_limits k site (event.Restart site ∷ own) (done_at mid made) ≡ Err what) a.catalogue (done_over mid.world.catalogue site (event.Restart site) own (done_at mid made) what h.0),
-  h.1,
-)
-stops_second site old mid (faults.Unsent s turn) a h = h
-stops_second site old mid (faults.Differs s turn) a h = h
-stops_second site old mid faults.NoMemory a h = tt
-
 -- ---- several times
 
 restarts_add : (site n m : ℕ) (own : List Event) → restarts_then site (n + m) own ≡ restarts_then site n (restarts_then site m own)
@@ -148,18 +131,6 @@ lives_stop site n lives old mid faults.NoMemory a lt h = tt
 
 -- ---- the event of a turn
 
-pub takes_none : (site : ℕ) (short : Bool) (outs : List (List ℕ)) (p : Played) (told : Bool) (before after : FrameNumbers) → IsPlayed p → told ≡ tells short outs [] → after ≡ before → Takes site None short outs p p told before after
-takes_none site short outs p told before after h is same =
-    record {
-      played = h;
-      catalogue = refl;
-      made = [];
-      on = refl;
-      told_is = is;
-      index = λ index. subst (λ (n : FrameNumbers). IsIndex n p.world.world.sent) (sym same) index;
-      same = subst (HaveSame before) (sym same) (λ bytes. refl);
-    }
-
 still : (before after : FrameNumbers) (old new : List Sent) → after ≡ before → new ≡ old → (IsIndex before old → IsIndex after new) × HaveSame before after
 still before after old new n s = (λ index. subst (IsIndex after) (sym s) (subst (λ (n : FrameNumbers). IsIndex n old) (sym n) index), subst (HaveSame before) (sym n) (λ bytes. refl))
 
@@ -187,9 +158,3 @@ takes_some site e short outs old r new told before after goes into free is notes
       index = λ index. subst (λ (w : WorldState). IsIndex after w.sent) (sym (new_world site e old r new goes into)) (n.0 index);
       same = n.1;
     }
-
-pub takes_stop : (site : ℕ) (e : Event) (short : Bool) (outs : List (List ℕ)) (old : Played) (fault : MergeFault) (before after : FrameNumbers) → Ends {A = PlayedStep} (refused world_limits old.world.catalogue e old.world.world) (Err fault) → TakesEvent site (Some e) short outs old (Err fault) before after
-takes_stop site e short outs old (faults.Limit what limit) before after h = (done_over old.world.catalogue site e [] (done_at old []) what h.0, h.1)
-takes_stop site e short outs old (faults.Unsent s turn) before after h = h
-takes_stop site e short outs old (faults.Differs s turn) before after h = h
-takes_stop site e short outs old faults.NoMemory before after h = tt

@@ -9,6 +9,7 @@ use Rattle.vp_merge.specs.Lives.{Lives, StartsLives, Takes, TakesEvent}
 use Rattle.vp_merge.specs.Merging.{TakesTurn}
 use Rattle.vp_merge.specs.Telling.{bytes_of}
 use Rattle.vp_merge.specs.Played.{IsPut}
+use Rattle.vp_merge.specs.declared.fault.MergeFault.TheVariants as faults
 use Rattle.vp_merge.proofs.Going.{no_next, site_listed, event_put, lives_end, event_ends, unlike, taken}
 use Rattle.vp_merge.proofs.merging.Merging.take_turn.Goals as goal
 
@@ -84,3 +85,8 @@ returns c = λ recordings.
     (subst (λ (e : Option Event). Takes t.site e n.due.short (bytes_of n.due.turn.now.outs) mid new told c.args.self.numbers c.take_event.new.numbers) c.in_ok-event.ensures
     (subst (λ (outs : List Datagram). Takes t.site c.in_ok-event.event n.due.short (bytes_of outs) mid new told c.args.self.numbers c.take_event.new.numbers) c.as_slice-outs.ensures c.in_ok-played-2.ensures))
     c.advance.new.self yes c.advance.ensures.site c.in_ok-advance.ensures.left c.in_ok-advance.ensures.is _ refl refl refl
+
+pub returns-in_err-advance : goal.returns-in_err-advance
+returns-in_err-advance c = λ recordings.
+    let is : c.from_residual-in_err-advance.result ≡ Err faults.NoMemory = search rules in
+    subst (TakesTurn c.args.self.played.world.catalogue recordings c.args.self) (sym is) tt
