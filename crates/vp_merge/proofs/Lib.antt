@@ -1,0 +1,10 @@
+mod Entries
+mod Index
+mod OwnEvents
+mod Comparing
+mod Reached
+mod Doing
+mod Choosing
+mod Going
+mod Starting
+mod Ending

@@ -1,0 +1,9 @@
+pub mod Faults
+pub mod Numbers
+pub mod Dues
+pub mod Telling
+pub mod Tracks
+pub mod Played
+pub mod Lives
+pub mod Merging
+pub mod Merges

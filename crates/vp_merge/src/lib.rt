@@ -1,0 +1,17 @@
+//! One schedule from the recordings of several nodes.
+#![tactic(auto)]
+
+mod asking;
+mod comparison;
+mod dues;
+mod fault;
+mod lives;
+mod merging;
+mod numbers;
+mod played;
+mod putting;
+mod telling;
+mod track;
+
+pub use fault::MergeFault;
+pub use putting::merge;
