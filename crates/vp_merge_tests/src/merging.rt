@@ -37,7 +37,7 @@ fn gives(alloc: Global, head: &[u8], lines: &[u8], end: &[u8]) -> bool {
 /// Whether they are not put together, for this reason.
 fn is_refused(alloc: Global, head: &[u8], lines: &[u8], why: MergeFault) -> bool {
     match merged(alloc, head, lines) {
-        Ok(_) => false,
+        Ok(_text) => false,
         Err(fault) => fault == why,
     }
 }
