@@ -18,7 +18,7 @@ use Rattle.vp_laws.proofs.Lists.Changes.{mapped_has}
 use Rattle.vp_laws.proofs.Lists.Views.{not_before}
 use Rattle.vp_laws.proofs.Journal.Order.{flat_has, has_flat}
 use Rattle.vp_laws.proofs.Keeping.Stopping.{in_force_holder}
-use Rattle.vp_audit.specs.Audited.{Parts, audited, can_of, found, newest_of, rows_on, settled_at, settled_copy, settled_on, waits, writes_to}
+use Rattle.vp_audit.specs.Audited.{Parts, audit_of, can_of, finding_of, newest_of, rows_on, settled_at, settled_copy, settled_on, waits, writes_to}
 use Rattle.vp_audit.specs.declared.found.DoubtAt.{DoubtAt}
 use Rattle.vp_audit.specs.True.{AreDown, IsTrueReport}
 use Rattle.vp_audit.specs.declared.found.Can.TheVariants as can
@@ -67,7 +67,7 @@ copy_from rec parts a h =
 
 -- ---- the report
 
-module _ (catalogue : Catalogue) (parts : Parts) (w : WorldState) (down : AreDown w parts) (law : MajoritiesTell catalogue w) (held : HoldersHaveCopies catalogue w) (rec : ℕ) (sure : (found catalogue parts rec).can ≡ can.Yes) where
+module _ (catalogue : Catalogue) (parts : Parts) (w : WorldState) (down : AreDown w parts) (law : MajoritiesTell catalogue w) (held : HoldersHaveCopies catalogue w) (rec : ℕ) (sure : (finding_of catalogue parts rec).can ≡ can.Yes) where
   said : (nat_lt (total catalogue rec) (2 * inside catalogue rec (keys parts)) ≡ true) × (rows_on rec parts ≡ [])
   said = yes_says (inside catalogue rec (keys parts)) (total catalogue rec) (rows_on rec parts) sure
 
@@ -121,11 +121,11 @@ module _ (catalogue : Catalogue) (parts : Parts) (w : WorldState) (down : AreDow
           let p = part_of s (has_of (keys parts) s named) in
           not_before newest.0.date c.date (newest.2.top (s, c) (copy_there rec parts (s, p.0) c p.1 (all_settled (s, p.0) p.1 ∙ subst (λ (o : Option Place). value_at rec (copies_in o) ≡ Some c) p.2 is)))
 
-  pub told : (copy : Stored) × ((found catalogue parts rec).newest ≡ Some copy) × (has_value (serial (start_values catalogue) (order w.journal)) rec copy.value ≡ true)
+  pub told : (copy : Stored) × ((finding_of catalogue parts rec).newest ≡ Some copy) × (has_value (serial (start_values catalogue) (order w.journal)) rec copy.value ≡ true)
   told = (newest.0, newest.1, true_there)
 
-pub report_told : ((s : Schedule) (m : Moment) → Contains (moments_of s) m → MajoritiesTell s.catalogue m.before × MajoritiesTell s.catalogue m.after) → ((s : Schedule) (m : Moment) → Contains (moments_of s) m → HoldersHaveCopies s.catalogue m.before × HoldersHaveCopies s.catalogue m.after) → (catalogue : Catalogue) (parts : Parts) → IsTrueReport catalogue parts (audited catalogue parts)
+pub report_told : ((s : Schedule) (m : Moment) → Contains (moments_of s) m → MajoritiesTell s.catalogue m.before × MajoritiesTell s.catalogue m.after) → ((s : Schedule) (m : Moment) → Contains (moments_of s) m → HoldersHaveCopies s.catalogue m.before × HoldersHaveCopies s.catalogue m.after) → (catalogue : Catalogue) (parts : Parts) → IsTrueReport catalogue parts (audit_of catalogue parts)
 report_told law held catalogue parts s m same h down f there sure =
-    let r = map_has (found catalogue parts) (range_with_len 0 (length catalogue.records)) f (has_of (audited catalogue parts) f there) in
+    let r = map_has (finding_of catalogue parts) (range_with_len 0 (length catalogue.records)) f (has_of (audit_of catalogue parts) f there) in
     subst (λ (f : Found). (copy : Stored) × (f.newest ≡ Some copy) × (has_value (serial (start_values catalogue) (order m.after.journal)) f.rec copy.value ≡ true)) r.2
     (told catalogue parts m.after down (subst (λ (c : Catalogue). MajoritiesTell c m.after) same (law s m h).1) (subst (λ (c : Catalogue). HoldersHaveCopies c m.after) same (held s m h).1) r.0 (subst (λ (f : Found). f.can ≡ can.Yes) (sym r.2) sure))

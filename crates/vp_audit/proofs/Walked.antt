@@ -10,7 +10,7 @@ use Rattle.vp_model.specs.Catalogue.{Catalogue}
 use Rattle.vp_model.specs.Durable.{DurableState}
 use Rattle.vp_model.specs.Refresh.{newest}
 use Rattle.vp_audit.specs.declared.found.DoubtAt.{DoubtAt}
-use Rattle.vp_audit.specs.Audited.{Parts, found, is_dated, newest_of, row_before, rows_of, same_row, settled_copy, settled_on, sites_dated, with_copy, writes_to}
+use Rattle.vp_audit.specs.Audited.{Parts, finding_of, is_dated, newest_of, row_before, rows_of, same_row, settled_copy, settled_on, sites_dated, with_copy, writes_to}
 
 -- the newest so far, or the settled copy of one more site
 abbrev pub newest_step : ℕ → Option Stored → ℕ × DurableState → Option Stored
@@ -70,5 +70,5 @@ pub sites_walked : (best : Option Stored) (rec : ℕ) (parts : Parts) → fold (
 sites_walked best rec parts = sites_from best rec [] parts
 
 -- one more record
-pub report_more : (catalogue : Catalogue) (parts : Parts) (n j : ℕ) → n ≡ j → map (found catalogue parts) (range_with_len 0 (n + 1)) ≡ map (found catalogue parts) (range_with_len 0 n) ++ found catalogue parts j ∷ []
-report_more catalogue parts n j e = map-range_with_len_more (found catalogue parts) 0 n j (omega (arith, e))
+pub report_more : (catalogue : Catalogue) (parts : Parts) (n j : ℕ) → n ≡ j → map (finding_of catalogue parts) (range_with_len 0 (n + 1)) ≡ map (finding_of catalogue parts) (range_with_len 0 n) ++ finding_of catalogue parts j ∷ []
+report_more catalogue parts n j e = map-range_with_len_more (finding_of catalogue parts) 0 n j (omega (arith, e))

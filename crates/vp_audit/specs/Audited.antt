@@ -85,8 +85,8 @@ can_of inside total rows = if nat_le (2 * inside) total then can.No inside total
 
 -- ---- a report
 
-abbrev pub found : Catalogue → Parts → ℕ → Found
-found catalogue parts rec =
+abbrev pub finding_of : Catalogue → Parts → ℕ → Found
+finding_of catalogue parts rec =
     let best = newest_of (settled_on rec parts) in
     let rows = rows_on rec parts in
     record {
@@ -98,5 +98,5 @@ found catalogue parts rec =
     }
 
 -- what is found of each record, in catalogue order
-abbrev pub audited : Catalogue → Parts → List Found
-audited catalogue parts = map (found catalogue parts) (range_with_len 0 (length catalogue.records))
+abbrev pub audit_of : Catalogue → Parts → List Found
+audit_of catalogue parts = map (finding_of catalogue parts) (range_with_len 0 (length catalogue.records))

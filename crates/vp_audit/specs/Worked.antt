@@ -18,8 +18,8 @@ abbrev pub yes : ViewId → LogRecord
 yes view = log_record.Yes (txn 1 1 1) view ((0, codes "11") ∷ [])
 
 -- one that never ran, one that is in doubt about a transaction of site 1, and one that has applied a transaction in a later view
-abbrev pub unused : ℕ → ℕ × DurableState
-unused id = site id []
+abbrev pub blank_site : ℕ → ℕ × DurableState
+blank_site id = site id []
 
 abbrev pub in_doubt : ℕ × DurableState
 in_doubt = site 2 (log_record.Start 1 ∷ yes opening ∷ [])

@@ -3,7 +3,7 @@
 ghost use Rattle.std.specs.Prelude.{◌≡◌, IfOk, OnOk, filter, option_copied};
 ghost use Rattle.std.specs.List.{list_any};
 ghost use Rattle.vp_model.specs.Words.{keys};
-ghost use Rattle.vp_audit.specs.Audited.{can_of, found, is_dated, newest_of, rows_of, rows_on, settled_copy, settled_on, sites_dated, with_copy, writes_to};
+ghost use Rattle.vp_audit.specs.Audited.{can_of, finding_of, is_dated, newest_of, rows_of, rows_on, settled_copy, settled_on, sites_dated, with_copy, writes_to};
 
 use vp_base::{CopyOf, Doubt, NoMemory, RecId, Seq, SiteId, Sites, Stored, TxnId, ViewId};
 use vp_catalog::Catalog;
@@ -76,7 +76,7 @@ impl Found {
         rec: RecId,
     ) -> Result<Found, NoMemory>
         requires { sites.now ≡ keys parts.now }
-        ensures { IfOk result (λ f. f ≡ found catalog.now parts.now rec) }
+        ensures { IfOk result (λ f. f ≡ finding_of catalog.now parts.now rec) }
     {
         let newest = newest_on(parts, rec)?;
         let dated = sites_dated(parts, rec, &newest)?;

@@ -2,7 +2,7 @@
 
 ghost use Rattle.std.specs.Prelude.{◌≡◌, IfOk};
 ghost use Rattle.vp_model.specs.Words.{keys};
-ghost use Rattle.vp_audit.specs.Audited.{audited};
+ghost use Rattle.vp_audit.specs.Audited.{audit_of};
 ghost use Rattle.vp_audit.specs.True.{IsTrueReport};
 
 use crate::found::{Found, Parts, Report};
@@ -13,7 +13,7 @@ use vp_catalog::Catalog;
 /// Reports on each record of the catalogue, by the durable parts of the stopped sites.
 #[tactic(auto, using(crate::proofs::Walked::report_more))]
 pub fn audit(catalog: &Catalog, parts: &Parts) -> Result<Report, NoMemory>
-    ensures report { IfOk result (λ report. report ≡ audited catalog.now parts.now) }
+    ensures report { IfOk result (λ report. report ≡ audit_of catalog.now parts.now) }
     ensures true_report { IfOk result (IsTrueReport catalog.now parts.now) }
 {
     reports_are_true();

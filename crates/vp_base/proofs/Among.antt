@@ -7,7 +7,7 @@ use Rattle.std.proofs.lemmas.List.{length-drop, drop_more, take_more, drop_all}
 use Rattle.std.proofs.lemmas.Bool.{false≢true, or_cases, or_left, or_right, cases_lt}
 use Rattle.std.proofs.lemmas.Slice.Eq.{bytes_eq-Decides}
 use Rattle.vp_text.specs.Meaning.{Begins}
-use Rattle.vp_text.specs.Reading.{scan, ended}
+use Rattle.vp_text.specs.Reading.{scan, whole_reading}
 use Rattle.vp_text.specs.Classes.{has}
 use Rattle.vp_text.specs.declared.class.Class.TheVariants as classes
 use Rattle.vp_text.proofs.Exact.{Exact}
@@ -118,7 +118,7 @@ place_turn names bytes n lt good =
     let stepped : place_step names (take n bytes) (get_or bytes n 0) ≡ Some (take (n + 1) bytes) = rw (good2, more) refl in
     ap (scan (place_step names) (place_of names) (take n bytes)) (drop_more bytes n 0 lt) ∙ scan_on (place_step names) (place_of names) (take n bytes) (get_or bytes n 0) (drop (n + 1) bytes) (take (n + 1) bytes) stepped
 
-pub place_ends : (names : List (List ℕ)) (bytes : List ℕ) (n : ℕ) → (n < length bytes → starts_any names (take (n + 1) bytes) ≡ false) → place_from names bytes n ≡ ended (place_of names (take n bytes)) (drop n bytes)
+pub place_ends : (names : List (List ℕ)) (bytes : List ℕ) (n : ℕ) → (n < length bytes → starts_any names (take (n + 1) bytes) ≡ false) → place_from names bytes n ≡ whole_reading (place_of names (take n bytes)) (drop n bytes)
 place_ends names bytes n stops =
     elim (cases_lt n (length bytes)) [
       | inl lt ↦
@@ -132,7 +132,7 @@ unfolding among_at
 place_starts names bytes = refl
 
 pub place_found : (names : List (List ℕ)) (bytes : List ℕ) (n i : ℕ) → (n < length bytes → starts_any names (take (n + 1) bytes) ≡ false) → Some i ≡ place_of names (take n bytes) → place_from names bytes n ≡ Ok (i, drop n bytes)
-place_found names bytes n i stops e = place_ends names bytes n stops ∙ ap (λ (o : Option ℕ). ended o (drop n bytes)) (sym e)
+place_found names bytes n i stops e = place_ends names bytes n stops ∙ ap (λ (o : Option ℕ). whole_reading o (drop n bytes)) (sym e)
 
 pub place_lost : (names : List (List ℕ)) (bytes : List ℕ) (n : ℕ) → (n < length bytes → starts_any names (take (n + 1) bytes) ≡ false) → None ≡ place_of names (take n bytes) → place_from names bytes n ≡ Err (length bytes - n)
-place_lost names bytes n stops e = place_ends names bytes n stops ∙ ap (λ (o : Option ℕ). ended o (drop n bytes)) (sym e) ∙ ap (λ (k : ℕ). Err k) (length-drop n bytes)
+place_lost names bytes n stops e = place_ends names bytes n stops ∙ ap (λ (o : Option ℕ). whole_reading o (drop n bytes)) (sym e) ∙ ap (λ (k : ℕ). Err k) (length-drop n bytes)

@@ -2,7 +2,7 @@
 use Rattle.std.specs.Prelude.{IfSome}
 use Rattle.std.proofs.Common.{◌≡◌, ℕ, zero, suc, ◌<◌, ◌≤◌, Bool, true, false, cond, List, [], ◌∷◌, ◌++◌, length, min, ◌+◌, Option, Some, None, Result, Ok, Err, refl, sym, ap, ◌∙◌, arith}
 use Rattle.std.proofs.lemmas.List.{length-append}
-use Rattle.vp_text.specs.Reading.{◌>>=◌, scan, ended, literal_at, number_at, either, next_at}
+use Rattle.vp_text.specs.Reading.{◌>>=◌, scan, whole_reading, literal_at, number_at, either, next_at}
 use Rattle.vp_text.proofs.Exact.{bind_ok, ok_value, at_err}
 use Rattle.vp_text.proofs.Words.{literal_exact}
 use Rattle.vp_text.proofs.Numbers.{number_exact}
@@ -13,18 +13,18 @@ use Rattle.vp_catalog.specs.EntryReading.{some_above, weight_at, others_at, weig
 
 -- ---- a holder has at least one byte
 
-ended_keeps : {A : Type 0} (o : Option A) (bytes : List ℕ) (a : A) (rest : List ℕ) → ended o bytes ≡ Ok (a, rest) → length rest ≤ length bytes
+ended_keeps : {A : Type 0} (o : Option A) (bytes : List ℕ) (a : A) (rest : List ℕ) → whole_reading o bytes ≡ Ok (a, rest) → length rest ≤ length bytes
 ended_keeps (Some b) bytes a rest e =
     let same : bytes ≡ rest = ap (λ (x : _ × List ℕ). x.1) (ok_value (b, bytes) (a, rest) e) in
     omega (arith, ap length same)
-ended_keeps None bytes a rest e = absurd (at_err (ended None bytes) (a, rest) (length bytes) e refl)
+ended_keeps None bytes a rest e = absurd (at_err (whole_reading None bytes) (a, rest) (length bytes) e refl)
 
 scan_keeps : {S A : Type 0} (step : S → ℕ → Option S) (finish : S → Option A) (s : S) (bytes : List ℕ) (a : A) (rest : List ℕ) → scan step finish s bytes ≡ Ok (a, rest) → length rest ≤ length bytes
 scan_keeps step finish s [] a rest e = ended_keeps (finish s) [] a rest e
 scan_keeps {S = S} {A = A} step finish s (c ∷ cs) a rest e = go (step s c) (λ next h. scan_keeps step finish next cs a rest h) e
   where
     go : (o : Option S) → ((next : S) → scan step finish next cs ≡ Ok (a, rest) → length rest ≤ length cs)
-        → ◌≡◌ {A = Result (A × List ℕ) ℕ} (elim o [ Some t ↦ scan step finish t cs | None ↦ ended (finish s) (c ∷ cs) ]) (Ok (a, rest)) → length rest ≤ length (c ∷ cs)
+        → ◌≡◌ {A = Result (A × List ℕ) ℕ} (elim o [ Some t ↦ scan step finish t cs | None ↦ whole_reading (finish s) (c ∷ cs) ]) (Ok (a, rest)) → length rest ≤ length (c ∷ cs)
     go (Some next) more h = omega (arith, more next h)
     go None more h = ended_keeps (finish s) (c ∷ cs) a rest h
 

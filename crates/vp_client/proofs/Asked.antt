@@ -4,7 +4,7 @@ use Rattle.std.specs.Prelude.{Option, Some, None, Ok, Err}
 use Rattle.std.specs.Option.{option_map_or}
 use Rattle.vp_model.specs.Types.{Answer, Call}
 use Rattle.vp_outside.specs.Causes.{count_after}
-use Rattle.vp_outside.specs.Links.{LinkState, Gave, StaysBound, Receives, Sends, received}
+use Rattle.vp_outside.specs.Links.{LinkState, Gave, StaysBound, Receives, Sends, received_datagram}
 use Rattle.vp_outside.specs.declared.sink.OutFault.{OutFault}
 use Rattle.vp_outside.specs.declared.sink.OutFault.TheVariants as output
 use Rattle.vp_outside.specs.declared.datagram.Datagram.{Datagram}
@@ -41,7 +41,7 @@ other_port port site words d e = rw e refl
 
 -- what came from the port is found as it came
 pub at_port : (port site : ℕ) (words : Call) (from count : ℕ) (buf : List ℕ) (found : Option Answer) → from ≡ port
-    → answer_of port site words (record { port = port; bytes = take count buf }) ≡ found → answer_of port site words (received (from, count) buf) ≡ found
+    → answer_of port site words (record { port = port; bytes = take count buf }) ≡ found → answer_of port site words (received_datagram (from, count) buf) ≡ found
 at_port port site words from count buf found e h = rw e h
 
 -- ---- the calls of the link
@@ -79,7 +79,7 @@ module _ (port site : ℕ) (words : Call) (turns : ℕ) (old : LinkState) where
 
   module _ {E : Type 0} (count : ℕ) (mid new : LinkState) (buf buf' : List ℕ) (r : ℕ × ℕ) (h : SoFar port site words count old mid) (s : Receives {E = E} buf buf' mid new (Ok r)) where
     abbrev d : Datagram
-    d = received r buf'
+    d = received_datagram r buf'
 
     sent_still : IsSent port site words old new
     sent_still = rw s.hands_none.same_handed h.sent

@@ -21,7 +21,7 @@ use Rattle.vp_runs.specs.declared.arrival.Arrival.TheVariants as arrives
 use Rattle.vp_runs.specs.Arrivals.{arrival}
 use Rattle.vp_runs.specs.Keeping.{durable_in}
 use Rattle.vp_runs.specs.Turns.{Turn, turn_on, step_turn}
-use Rattle.vp_world.specs.Asked.{Asked, started, restart_asked}
+use Rattle.vp_world.specs.Asked.{Asked, life_start, restart_asked}
 use Rattle.vp_world.specs.Steps.{asked_of, IsReady}
 use Rattle.vp_runs.specs.Kept.{kept_in as batches_in}
 use Rattle.vp_runs.proofs.Happened.{Acts, Effect}
@@ -131,7 +131,7 @@ crash_ready catalogue nodes s None = tt
 crash_ready catalogue nodes s (Some x) = tt
 
 module _ (catalogue : Catalogue) (m : Moment) (moments : List Moment) (old : NodesValue) (facts : Facts catalogue m) (tied : AreTied catalogue moments m.before old) (folds : Folds catalogue moments m.before) (s : ℕ) where
-  may_restart : (place : Place) → place_of s m.before.places ≡ Some place → place.up ≡ None → MayRestart catalogue place.id (started catalogue place.id place.durable) old
+  may_restart : (place : Place) → place_of s m.before.places ≡ Some place → place.up ≡ None → MayRestart catalogue place.id (life_start catalogue place.id place.durable) old
   may_restart place at down =
       let known = facts.views.known s place at in
       let p = has_port catalogue.sites s known in
@@ -147,9 +147,9 @@ module _ (catalogue : Catalogue) (m : Moment) (moments : List Moment) (old : Nod
         batches = batches_in catalogue s moments;
         down = subst (λ (up : Option SiteState). IsAt (batches_in catalogue s moments) up h.host) (ap (λ (place : Place). place.up) same ∙ down) h.at;
         site_is =
-            sym (ap (λ (c : Catalogue). started c place.id (durable_in c place.id (batches_in catalogue s moments))) tied.catalogue_is
-            ∙ ap (λ (id : ℕ). started catalogue place.id (durable_in catalogue id (batches_in catalogue s moments))) id
-            ∙ ap (started catalogue place.id) (folds s place at known));
+            sym (ap (λ (c : Catalogue). life_start c place.id (durable_in c place.id (batches_in catalogue s moments))) tied.catalogue_is
+            ∙ ap (λ (id : ℕ). life_start catalogue place.id (durable_in catalogue id (batches_in catalogue s moments))) id
+            ∙ ap (life_start catalogue place.id) (folds s place at known));
         same_catalogue = tied.catalogue_is;
       }
 
@@ -157,7 +157,7 @@ module _ (catalogue : Catalogue) (m : Moment) (moments : List Moment) (old : Nod
   restart_ready None at = tt
   restart_ready (Some place) at = go place.up refl
     where
-      go : (up : Option SiteState) → place.up ≡ up → IfAsked catalogue old (cond (is_some up) None (Some (Asked.restarts place.id (started catalogue place.id place.durable))))
+      go : (up : Option SiteState) → place.up ≡ up → IfAsked catalogue old (cond (is_some up) None (Some (Asked.restarts place.id (life_start catalogue place.id place.durable))))
       go None down = may_restart place at down
       go (Some x) up = tt
 

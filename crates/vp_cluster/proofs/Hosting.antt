@@ -22,7 +22,7 @@ use Rattle.vp_runs.specs.Turns.{Turn, turn_on}
 use Rattle.vp_node.specs.Nodes.{NodeValue, IsNode, IsKept, Starts, IsSpent, Gives, Saves}
 use Rattle.vp_node.specs.Taking.{IsStepOf}
 use Rattle.vp_node.specs.declared.turned.TurnEffects.{TurnEffects}
-use Rattle.vp_world.specs.Asked.{started}
+use Rattle.vp_world.specs.Asked.{life_start}
 use Rattle.vp_runs.specs.Keeping.{durable_in}
 use Rattle.vp_node.proofs.Kept.{has as have}
 use Rattle.vp_node.proofs.Turning.{settled}
@@ -40,11 +40,11 @@ no_batches = (0, record { first = 0; second = 0; of_first = none; of_second = no
     none = inr (λ batch first. let e = first.open_ in cc, refl)
 
 -- a site that starts in a life within the type has that left
-life_left : (catalogue : Catalogue) (id : ℕ) (batches : List (List LogRecord)) → (start_node catalogue id batches).site.life < 2 ^ 32 → started catalogue id (durable_in catalogue id batches) ≡ Some (start_node catalogue id batches).site
+life_left : (catalogue : Catalogue) (id : ℕ) (batches : List (List LogRecord)) → (start_node catalogue id batches).site.life < 2 ^ 32 → life_start catalogue id (durable_in catalogue id batches) ≡ Some (start_node catalogue id batches).site
 unfolding start
 life_left catalogue id batches lives = let left : ((durable_in catalogue id batches).life == 2 ^ 32 - 1) ≡ false = grind (arith, nat_tests, lives) in rw left refl
 
-none_left : (catalogue : Catalogue) (id : ℕ) (batches : List (List LogRecord)) → (durable_in catalogue id batches).life ≡ 2 ^ 32 - 1 → started catalogue id (durable_in catalogue id batches) ≡ None
+none_left : (catalogue : Catalogue) (id : ℕ) (batches : List (List LogRecord)) → (durable_in catalogue id batches).life ≡ 2 ^ 32 - 1 → life_start catalogue id (durable_in catalogue id batches) ≡ None
 none_left catalogue id batches spent = let last : ((durable_in catalogue id batches).life == 2 ^ 32 - 1) ≡ true = grind (arith, nat_tests, spent) in rw last refl
 
 -- a disk that keeps the durable part of a node keeps its log

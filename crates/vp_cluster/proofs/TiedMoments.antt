@@ -28,7 +28,7 @@ use Rattle.vp_runs.specs.Kept.{with_life, kept_after, kept_in as batches_in}
 use Rattle.vp_runs.proofs.Happened.{Leaves, LeavesIt, LeavesOthers, Acts, put_down, RestartEffect, IsPlain, Effect, happened}
 use Rattle.vp_runs.proofs.Folds.{folds_on}
 use Rattle.vp_node.specs.declared.turned.TurnEffects.{TurnEffects}
-use Rattle.vp_world.specs.Asked.{Asked, started, restart_asked}
+use Rattle.vp_world.specs.Asked.{Asked, life_start, restart_asked}
 use Rattle.vp_world.specs.Places.{Did}
 use Rattle.vp_world.specs.Steps.{asked_of, DoesEvent}
 use Rattle.vp_cluster.specs.declared.letter.Letter.{Letter}
@@ -44,10 +44,10 @@ use Rattle.vp_cluster.proofs.Acting.{Facts, Folds}
 use Rattle.vp_cluster.proofs.Acting as acting
 
 -- a place that starts, or can't
-spent_none : (catalogue : Catalogue) (place : Place) → place.durable.life ≡ 2 ^ 32 - 1 → started catalogue place.id place.durable ≡ None
+spent_none : (catalogue : Catalogue) (place : Place) → place.durable.life ≡ 2 ^ 32 - 1 → life_start catalogue place.id place.durable ≡ None
 spent_none catalogue place spent = let last : (place.durable.life == 2 ^ 32 - 1) ≡ true = grind (arith, nat_tests, spent) in rw last refl
 
-left_some : (catalogue : Catalogue) (place : Place) → place.durable.life ≢ 2 ^ 32 - 1 → started catalogue place.id place.durable ≡ Some (start catalogue place.id place.durable)
+left_some : (catalogue : Catalogue) (place : Place) → place.durable.life ≢ 2 ^ 32 - 1 → life_start catalogue place.id place.durable ≡ Some (start catalogue place.id place.durable)
 left_some catalogue place left = let more : (place.durable.life == 2 ^ 32 - 1) ≡ false = grind (arith, nat_tests, left) in rw more refl
 
 module _ (catalogue : Catalogue) (m : Moment) (moments : List Moment) (old new : NodesValue) where
@@ -286,11 +286,11 @@ module _ (catalogue : Catalogue) (k : IsCatalogue catalogue) (m : Moment) (momen
     up_already x u same (RestartEffect.spent down life l) = absurd (let z = sym u ∙ down in cc)
     up_already x u same (RestartEffect.starts down left l) = absurd (let z = sym u ∙ down in cc)
 
-    module _ (restarts : Restarts catalogue (started catalogue h.place.id h.place.durable) h.host host) where
+    module _ (restarts : Restarts catalogue (life_start catalogue h.place.id h.place.durable) h.host host) where
       folded : durable_in catalogue h.host.id (log s) ≡ h.place.durable
       folded = ap (λ (id : ℕ). durable_in catalogue id (log s)) h.id_is ∙ folds s h.place h.place_is (facts.views.known s h.place h.place_is)
 
-      at_now : (site : Option SiteState) → started catalogue h.place.id h.place.durable ≡ site → IsAt (option_map_or (λ _. (start_node catalogue h.host.id (log s)).batches) site (log s)) site host
+      at_now : (site : Option SiteState) → life_start catalogue h.place.id h.place.durable ≡ site → IsAt (option_map_or (λ _. (start_node catalogue h.host.id (log s)).batches) site (log s)) site host
       at_now site is = subst (λ (site : Option SiteState). IsAt (option_map_or (λ _. (start_node catalogue h.host.id (log s)).batches) site (log s)) site host) is (restarts.at (log s) h.place.up h.at)
 
       begun : IsAt (start_node catalogue h.host.id (log s)).batches (Some (start catalogue h.place.id h.place.durable)) host → IsAt (with_life (h.place.durable.life + 1) (log s)) (restart_place catalogue h.place).up host
@@ -316,22 +316,22 @@ module _ (catalogue : Catalogue) (k : IsCatalogue catalogue) (m : Moment) (momen
         sent
 
     -- a site that is down starts
-    restarts_now : (place : Place) → place_of s m.before.places ≡ Some place → place.up ≡ None → ChangesHost place.id (Restarts old.catalogue (started catalogue place.id place.durable)) old new → Tied
+    restarts_now : (place : Place) → place_of s m.before.places ≡ Some place → place.up ≡ None → ChangesHost place.id (Restarts old.catalogue (life_start catalogue place.id place.durable)) old new → Tied
     restarts_now place at down done =
-        let hosts = subst (λ (c : Catalogue). ChangesOf c place.id (Restarts c (started catalogue place.id place.durable)) old.hosts new.hosts) tied.catalogue_is done.hosts in
-        let changes = subst (λ (id : ℕ). ChangesOf catalogue id (Restarts catalogue (started catalogue place.id place.durable)) old.hosts new.hosts) (place-id s m.before.places place at) hosts in
+        let hosts = subst (λ (c : Catalogue). ChangesOf c place.id (Restarts c (life_start catalogue place.id place.durable)) old.hosts new.hosts) tied.catalogue_is done.hosts in
+        let changes = subst (λ (id : ℕ). ChangesOf catalogue id (Restarts catalogue (life_start catalogue place.id place.durable)) old.hosts new.hosts) (place-id s m.before.places place at) hosts in
         tied_so done.same_catalogue
-        (changed catalogue m moments old new k s (Restarts catalogue (started catalogue place.id place.durable)) changes others tied.sites
+        (changed catalogue m moments old new k s (Restarts catalogue (life_start catalogue place.id place.durable)) changes others tied.sites
         (λ port h host there restarts.
         let same : place ≡ h.place = (let z = sym at ∙ h.place_is in cc) in
-        restarted_so s port h host there (subst (λ (place : Place). Restarts catalogue (started catalogue place.id place.durable) h.host host) same restarts)
+        restarted_so s port h host there (subst (λ (place : Place). Restarts catalogue (life_start catalogue place.id place.durable) h.host host) same restarts)
         (ap (λ (place : Place). place.up) (sym same) ∙ down) (own h.place h.place_is)))
         (letters_stay sent done.letters_stay)
 
     restarted : Tied
     restarted = go (place_of s m.before.places) refl
       where
-        by_up : (place : Place) → place_of s m.before.places ≡ Some place → (up : Option SiteState) → place.up ≡ up → Done (cond (is_some up) None (Some (Asked.restarts place.id (started catalogue place.id place.durable)))) → Tied
+        by_up : (place : Place) → place_of s m.before.places ≡ Some place → (up : Option SiteState) → place.up ≡ up → Done (cond (is_some up) None (Some (Asked.restarts place.id (life_start catalogue place.id place.durable)))) → Tied
         by_up place at None down does_so = restarts_now place at down does_so
         by_up place at (Some x) up does_so = restarts_nothing does_so (λ port h. let same : h.place ≡ place = (let z = sym h.place_is ∙ at in cc) in (x, ap (λ (place : Place). place.up) same ∙ up))
 

@@ -20,7 +20,7 @@ use Rattle.vp_runs.specs.Runs.{NodeState, start_node, after_turn}
 use Rattle.vp_runs.specs.Turns.{Turn, turn_on}
 use Rattle.vp_node.specs.Taking.{IsStepOf}
 use Rattle.vp_node.specs.declared.turned.TurnEffects.{TurnEffects}
-use Rattle.vp_world.specs.Asked.{started}
+use Rattle.vp_world.specs.Asked.{life_start}
 use Rattle.vp_cluster.specs.declared.host.StoppedLog.{StoppedLog}
 
 -- what contracts see of a host: its site with its port, what was done to its disk, and where its log is while the site is up
@@ -113,7 +113,7 @@ pub record Crashes (catalogue : Catalogue) (old new : HostValue) : Type 0 where
 -- Its site starts from its log as this one, whether it was up or down; or, if none is given, its lives are spent, and it is down.
 pub record Restarts (catalogue : Catalogue) (site : Option SiteState) (old new : HostValue) : Type 0 where
   pub stays : Stays catalogue old new
-  pub site_is : (batches : List (List LogRecord)) (up : Option SiteState) → IsAt batches up old → site ≡ started catalogue old.id (durable_in catalogue old.id batches)
+  pub site_is : (batches : List (List LogRecord)) (up : Option SiteState) → IsAt batches up old → site ≡ life_start catalogue old.id (durable_in catalogue old.id batches)
   pub at : (batches : List (List LogRecord)) (up : Option SiteState) → IsAt batches up old → IsAt (option_map_or (λ _. (start_node catalogue old.id batches).batches) site batches) site new
 
 -- It is the host of this site in its first life.

@@ -8,7 +8,7 @@ use Rattle.vp_runs.specs.declared.arrival.Arrival.TheVariants as arrives
 use Rattle.vp_laws.specs.ShapeLaws.{IsEvent}
 use Rattle.vp_runs.specs.Arrivals.{arrival}
 use Rattle.vp_runs.specs.Keeping.{durable_in}
-use Rattle.vp_world.specs.Asked.{Asked, started}
+use Rattle.vp_world.specs.Asked.{Asked, life_start}
 use Rattle.vp_node.specs.declared.turned.TurnEffects.{TurnEffects}
 use Rattle.vp_cluster.specs.declared.letter.Letter.{Letter}
 use Rattle.vp_cluster.specs.declared.host.StoppedLog.{StoppedLog}
@@ -43,7 +43,7 @@ pub record MayRestart (catalogue : Catalogue) (id : ℕ) (site : Option SiteStat
   pub id_is : host.id ≡ id
   pub batches : List (List LogRecord)
   pub down : IsAt batches None host
-  pub site_is : site ≡ started nodes.catalogue id (durable_in nodes.catalogue id batches)
+  pub site_is : site ≡ life_start nodes.catalogue id (durable_in nodes.catalogue id batches)
   pub same_catalogue : nodes.catalogue ≡ catalogue
 
 abbrev pub MayDo : Catalogue → Asked → NodesValue → Type 0

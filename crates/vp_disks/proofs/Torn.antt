@@ -1,7 +1,7 @@
 -- Bytes that are written over a half and past its end.
 use Rattle.std.proofs.Common.{◌≡◌, ◌∙◌, ℕ, zero, suc, ◌+◌, ◌-◌, ◌≤◌, List, [], ◌∷◌, ◌++◌, length, take, drop, replicate, refl, sym, ap, arith, length-append, append-nil, append_assoc}
 use Rattle.std.proofs.lemmas.List.{drop_all, take-append-le, length-replicate, replicate-append-replicate, take_min}
-use Rattle.vp_outside.specs.Disk.{written, Torn}
+use Rattle.vp_outside.specs.Disk.{write_bytes_at, Torn}
 
 take-more : (at n more : ℕ) (old : List ℕ) → at ≤ length old + n → take at (old ++ replicate (n + more) 0) ≡ take at (old ++ replicate n 0)
 take-more at n more old within =
@@ -27,7 +27,7 @@ drop-lengthened (suc n) (byte ∷ old) = ap (λ k. drop n (old ++ replicate k 0)
     one_less : (k : ℕ) → suc n - suc k ≡ n - k
     one_less k = omega arith
 
-pub written-lengthened : (at : ℕ) (bytes old : List ℕ) → take at (old ++ replicate (at + length bytes - length old) 0) ++ bytes ++ drop (at + length bytes) (old ++ replicate (at + length bytes - length old) 0) ≡ written at bytes old
+pub written-lengthened : (at : ℕ) (bytes old : List ℕ) → take at (old ++ replicate (at + length bytes - length old) 0) ++ bytes ++ drop (at + length bytes) (old ++ replicate (at + length bytes - length old) 0) ≡ write_bytes_at at bytes old
 written-lengthened at bytes old =
     ap (λ front. front ++ bytes ++ drop (at + length bytes) (old ++ replicate (at + length bytes - length old) 0)) (take-lengthened at (length bytes) old)
     ∙ ap (λ rest. take at (old ++ replicate (at - length old) 0) ++ bytes ++ rest) (drop-lengthened (at + length bytes) old)

@@ -2,7 +2,7 @@
 use Rattle.std.specs.Prelude.{◌≡◌, ◌⊎◌, ℕ, ◌≤◌, if◌then◌else◌, List, [], ◌∷◌, length, take, Option, Some, None, Bool}
 use Rattle.std.specs.Option.{option_eq}
 use Rattle.std.specs.Str.{bytes_eq}
-use Rattle.vp_outside.specs.Disk.{Halves, InHalf, in_half, written, Torn, MaybeCut, DiskState}
+use Rattle.vp_outside.specs.Disk.{Halves, InHalf, in_half, write_bytes_at, Torn, MaybeCut, DiskState}
 use Rattle.vp_disks.specs.declared.changes.Change.{Change}
 use Rattle.vp_disks.specs.declared.changes.Change.TheVariants.{Attached, Wrote, Cut, Synced, Laid}
 
@@ -28,7 +28,7 @@ changes_of log (change ∷ earlier) = if is_same_log log (asked_of earlier) then
 abbrev pub content_of : List Change → Halves
 content_of [] = ([], [])
 content_of (Attached name ∷ earlier) = content_of earlier
-content_of (Wrote half at piece ∷ earlier) = in_half half (written at piece) (content_of earlier)
+content_of (Wrote half at piece ∷ earlier) = in_half half (write_bytes_at at piece) (content_of earlier)
 content_of (Cut half n ∷ earlier) = in_half half (take n) (content_of earlier)
 content_of (Synced ∷ earlier) = content_of earlier
 content_of (Laid first second ∷ earlier) = (first, second)

@@ -1,7 +1,7 @@
 -- A disk in memory obeys the laws of disks: what a read gives is one of the images, and its moments are the lengths of its record.
 use Rattle.std.proofs.Common.{◌≡◌, ◌∙◌, inl, inr, Bool, ℕ, None, zero, suc, ◌+◌, ◌-◌, ◌≤◌, min, max, List, [], ◌∷◌, ◌++◌, length, take, drop, replicate, refl, subst, ap, arith, Option, Some, length-append, append_assoc}
 use Rattle.std.proofs.lemmas.List.{drop_at, take-append-le, length-take-le, length-drop, length-replicate, take-take, take_min}
-use Rattle.vp_outside.specs.Disk.{Halves, InHalf, in_half, written, Torn, MaybeCut, IsDisk}
+use Rattle.vp_outside.specs.Disk.{Halves, InHalf, in_half, write_bytes_at, Torn, MaybeCut, IsDisk}
 use Rattle.vp_disks.specs.Changes.{changes_of, content_of, MayLeave, MightHaveLeft, state_before, state_after}
 use Rattle.vp_disks.specs.declared.changes.Change.{Change}
 use Rattle.vp_disks.specs.declared.changes.Change.TheVariants.{Attached, Wrote, Cut, Synced, Laid}
@@ -10,13 +10,13 @@ use Rattle.vp_disks.specs.declared.changes.Change.TheVariants.{Attached, Wrote, 
 pub length-front : (at : ℕ) (old : List ℕ) → length (take at (old ++ replicate (at - length old) 0)) ≡ at
 length-front at old = length-take-le at (old ++ replicate (at - length old) 0) (omega (arith, length-append old (replicate (at - length old) 0), length-replicate {A = ℕ} (at - length old) 0))
 
-pub length-written : (at : ℕ) (bytes old : List ℕ) → length (written at bytes old) ≡ max (length old) (at + length bytes)
+pub length-written : (at : ℕ) (bytes old : List ℕ) → length (write_bytes_at at bytes old) ≡ max (length old) (at + length bytes)
 length-written at bytes old =
     let front = take at (old ++ replicate (at - length old) 0) in
     omega (arith, length-append (front ++ bytes) (drop (at + length bytes) old), length-append front bytes, length-front at old, length-drop (at + length bytes) old)
 
 -- a write that is done is one of those that a crash may leave
-pub Torn-written : (at : ℕ) (bytes old : List ℕ) → Torn at (length bytes) old (written at bytes old)
+pub Torn-written : (at : ℕ) (bytes old : List ℕ) → Torn at (length bytes) old (write_bytes_at at bytes old)
 Torn-written at bytes old =
     let front = take at (old ++ replicate (at - length old) 0) in
     let rest = drop (at + length bytes) old in
@@ -40,7 +40,7 @@ pub MayLeave-content : (changes : List Change) → MayLeave changes (content_of 
 MayLeave-content [] = refl
 MayLeave-content (Attached name ∷ earlier) = MayLeave-content earlier
 MayLeave-content (Wrote half at piece ∷ earlier) =
-    (content_of earlier, MayLeave-content earlier, InHalf-in_half half (Torn at (length piece)) (written at piece) (content_of earlier) (Torn-written at piece))
+    (content_of earlier, MayLeave-content earlier, InHalf-in_half half (Torn at (length piece)) (write_bytes_at at piece) (content_of earlier) (Torn-written at piece))
 MayLeave-content (Cut half n ∷ earlier) =
     (content_of earlier, MayLeave-content earlier, InHalf-in_half half (MaybeCut n) (take n) (content_of earlier) (λ old. inr refl))
 MayLeave-content (Synced ∷ earlier) = refl

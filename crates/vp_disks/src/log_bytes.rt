@@ -5,7 +5,7 @@ ghost use Rattle.std.specs.List.{position};
 ghost use Rattle.std.specs.Str.{bytes_eq};
 ghost use Rattle.vp_disks.specs.NamedLogs.{is_named, halves_of};
 ghost use Rattle.std.specs.declared.option.Option.{Option};
-ghost use Rattle.vp_outside.specs.Disk.{Halves, half_of, in_half, written};
+ghost use Rattle.vp_outside.specs.Disk.{Halves, half_of, in_half, write_bytes_at};
 
 use std::alloc::Global;
 use std::marker::Model;
@@ -55,7 +55,7 @@ impl LogBytes {
     /// stays as it is.
     pub fn write_at(&mut self, half: u8, at: u64, piece: &[u8]) -> Result<(), NoMemory>
         requires { at + length piece.now ≤ 2 ^ 62 }
-        ensures ok { OnOk result (self.new ≡ in_half half (written at piece.now) self.old) }
+        ensures ok { OnOk result (self.new ≡ in_half half (write_bytes_at at piece.now) self.old) }
         ensures err { OnErr result (self.new ≡ self.old) }
     {
         if half == 0 {
@@ -124,7 +124,7 @@ fn place_of(logs: &[NamedLog], name: &Word) -> Option<usize>
 /// Writes over what is there, and past the end. What is between the old end and `at` becomes 0.
 fn write_over(half: &mut Vec<u8>, at: usize, piece: &[u8]) -> Result<(), NoMemory>
     requires { at + length piece.now ≤ 2 ^ 62 }
-    ensures ok { OnOk result (half.new.items ≡ written at piece.now half.old.items) }
+    ensures ok { OnOk result (half.new.items ≡ write_bytes_at at piece.now half.old.items) }
     ensures err { OnErr result (half.new.items ≡ half.old.items) }
 {
     lengthen(half, at + piece.len())?;

@@ -36,14 +36,14 @@ impl Drop for MemDisk {
 
 impl MemDisk {
     ghost use Rattle.vp_disks.specs.MemDisks.{attached_of, is_attached, record_of};
-    ghost use Rattle.vp_outside.specs.Plans.{unstarted};
+    ghost use Rattle.vp_outside.specs.Plans.{new_plan};
     ghost use Rattle.vp_disks.specs.declared.changes.Change.TheVariants.{Attached, Laid};
 
     /// Makes an empty disk at which the calls with these numbers fail. The first call has number 1.
     pub fn new(alloc: Global, failing: Vec<u64>) -> MemDisk
         ensures record { record_of result ≡ [] }
         ensures attached { is_attached result ≡ false }
-        ensures plan { result.plan ≡ unstarted failing }
+        ensures plan { result.plan ≡ new_plan failing }
     {
         MemDisk {
             disk: ImagedDisk::new(alloc),

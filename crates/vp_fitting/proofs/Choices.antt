@@ -5,7 +5,7 @@ use Rattle.vp_laws.proofs.Lists.Members.{Has, has_none, has_cons, has_first, has
 use Rattle.vp_laws.proofs.Lists.Numbers.{eq_self, eq_not}
 use Rattle.vp_laws.proofs.Lists.Views.{same_site}
 use Rattle.vp_fitting.specs.Asked.{Due}
-use Rattle.vp_fitting.specs.Merged.{Track, Choice, chosen, first_of, with_track, turns_left}
+use Rattle.vp_fitting.specs.Merged.{Track, Choice, choose_due, first_of, with_track, turns_left}
 
 abbrev choice_of : ℕ → Due → List Due → Choice
 choice_of s d dues = record { site = s; due = d; rest = dues }
@@ -31,7 +31,7 @@ module _ (passes : ℕ → Due → Bool) (left : ℕ → Track) where
           subst (IsChosen (s ∷ sites)) same (record { listed = has_first s sites; dues = q; passed = p })
       by d dues false p q f rest = more (rest f)
 
-      go : (dues : List Due) → (left s).dues ≡ dues → chosen passes s dues (first_of passes sites left) ≡ Some c → (first_of passes sites left ≡ Some c → IsChosen sites c) → IsChosen (s ∷ sites) c
+      go : (dues : List Due) → (left s).dues ≡ dues → choose_due passes s dues (first_of passes sites left) ≡ Some c → (first_of passes sites left ≡ Some c → IsChosen sites c) → IsChosen (s ∷ sites) c
       go [] q f rest = more (rest f)
       go (d ∷ dues) q f rest = by d dues (passes s d) refl q f rest
 
@@ -52,7 +52,7 @@ module _ (passes : ℕ → Due → Bool) (left : ℕ → Track) where
       by d dues true p q f rest = absurd cc
       by d dues false p q f rest = split (Stays.waits d dues q p) rest f
 
-      go : (dues : List Due) → (left s).dues ≡ dues → chosen passes s dues (first_of passes sites left) ≡ None → (first_of passes sites left ≡ None → (site : ℕ) → Has sites site → Stays site) → Stays site
+      go : (dues : List Due) → (left s).dues ≡ dues → choose_due passes s dues (first_of passes sites left) ≡ None → (first_of passes sites left ≡ None → (site : ℕ) → Has sites site → Stays site) → Stays site
       go [] q f rest = split (Stays.none q) rest f
       go (d ∷ dues) q f rest = by d dues (passes s d) refl q f rest
 

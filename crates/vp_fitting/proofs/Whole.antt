@@ -21,7 +21,7 @@ use Rattle.vp_recording.specs.Recordings.{AreOfNodes}
 use Rattle.vp_fitting.specs.Asked.{Due, asks, dues_of, outs_of}
 use Rattle.vp_fitting.specs.Fitting.{Deed, IsFitting, asked_then, asked_from, asked_of, deeds_of, given_by, frames_in}
 use Rattle.vp_fitting.specs.Laws.{over, AreTold, MatchesAll, IsWhole, MergesMatch, IsNeverSent, UnsentIsNeverSent, FittingRecordingsMerge}
-use Rattle.vp_fitting.specs.Merged.{Merging, Choice, Merge, Done, tells, is_own, is_told, can_take, own_events, event_of, listed, is_ready, done_with, done_from, turn_done, taken_by, first_of, ready, ended, end_of, gone_on, by_choice, merged_from, merged, turns_left, first_track, at_first}
+use Rattle.vp_fitting.specs.Merged.{Merging, Choice, Merge, Done, tells, is_own, is_told, can_take, own_events, event_of, events_in, is_ready, done_with, done_from, turn_done, taken_by, first_of, ready, merge_end, end_of, gone_on, by_choice, merged_from, merged, turns_left, first_track, at_first}
 use Rattle.vp_fitting.proofs.Runs.{Runs, run_in, begins, no_moments, limit_none}
 use Rattle.vp_fitting.proofs.Choices.{IsChosen, chosen_is, Stays, none_chosen, none_left, fewer_left}
 use Rattle.vp_fitting.proofs.Messages.{asked_by}
@@ -90,7 +90,7 @@ module _ (limits : Limits) (catalogue : Catalogue) (recordings : List Recording)
         let mid = in_life.mid in
         let e = some_event (event_of m.world.sent c.site given) (subst (λ (a : Arrival). is_ready m.world.sent c.site a ≡ true) is chosen.passed) in
         let rest : done_from limits catalogue c.site (e.0 ∷ []) mid ≡ Ok final =
-        subst (λ (events : List Event). done_from limits catalogue c.site events mid ≡ Ok final) (ap (own_events m.world.sent c.site) is ∙ ap listed e.1) in_life.rest
+        subst (λ (events : List Event). done_from limits catalogue c.site events mid ≡ Ok final) (ap (own_events m.world.sent c.site) is ∙ ap events_in e.1) in_life.rest
         in
         let after = done_with catalogue c.site e.0 mid in
         let free = unless_ok limits catalogue recordings (refused limits catalogue e.0 mid.world) (ok_of after) final rest in
@@ -169,7 +169,7 @@ module _ (limits : Limits) (catalogue : Catalogue) (recordings : List Recording)
       no_dues id (Stays.none e) = e
       no_dues id (Stays.waits d dues e p) = absurd cc
 
-      go : (o : Option Choice) → first_of (λ site d. true) sites m.left ≡ o → Ending (ended m o)
+      go : (o : Option Choice) → first_of (λ site d. true) sites m.left ≡ o → Ending (merge_end m o)
       go None e = Ending.whole m t (λ id l. no_dues id (none_chosen (λ site d. true) m.left sites e id l))
       go (Some c) e = Ending.unsent m t none c (chosen_is (λ site d. true) m.left sites c e)
 
@@ -337,15 +337,15 @@ module _ (limits : Limits) (catalogue : Catalogue) (recordings : List Recording)
           let there = agrees_last catalogue events in
           let r = given-more catalogue s (deeds_in limits catalogue recordings before s) more in
           let same : given_by s (moments_of (over catalogue events)) ≡ given_in limits catalogue recordings before s ++ r.0 =
-          sym (there.given_is s listed) ∙ ap (λ (deeds : List Deed). (alone catalogue s deeds).given) (all.fits.each s (contains sites s listed) ∙ e)
-          ∙ r.1 ∙ ap (λ (given : List (List (List ℕ))). given ++ r.0) (here.given_is s listed)
+          sym (there.given_is s events_in) ∙ ap (λ (deeds : List Deed). (alone catalogue s deeds).given) (all.fits.each s (contains sites s events_in) ∙ e)
+          ∙ r.1 ∙ ap (λ (given : List (List (List ℕ))). given ++ r.0) (here.given_is s events_in)
           in
-          (r.0, subst (AreTold s (dues_of s recordings)) same (all.told s (contains sites s listed)))
+          (r.0, subst (AreTold s (dues_of s recordings)) same (all.told s (contains sites s events_in)))
 
     not_unlike : (events : List Event) → MatchesAll (over catalogue events) recordings → (m : Merging) (c : Choice) (final : Done) → Has sites c.site → is_told c.site c.due final.made ≡ false → Came m c final → ⊥
-    not_unlike events all m c final listed untold (Came.gave mid given at is it) =
+    not_unlike events all m c final events_in untold (Came.gave mid given at is it) =
         let more = asked_from c.site c.due.life c.rest in
-        let g = gave_first events all c.site listed final.events more
+        let g = gave_first events all c.site events_in final.events more
         (sym (asked_now recordings c.site (deeds_in limits catalogue recordings mid.events c.site) (given_in limits catalogue recordings mid.events c.site) c.due c.rest at.follows)
         ∙ ap (λ (a : Arrival). deeds_in limits catalogue recordings mid.events c.site ++ asked_then a more) is
         ∙ sym (append_assoc (deeds_in limits catalogue recordings mid.events c.site) (Deed.takes given ∷ []) more)
@@ -354,8 +354,8 @@ module _ (limits : Limits) (catalogue : Catalogue) (recordings : List Recording)
         gives_other recordings c.site (deeds_in limits catalogue recordings mid.events c.site) (given_in limits catalogue recordings mid.events c.site) c.due c.rest given final.made g.0 is
         (subst (λ (a : Arrival). (is_own a && tells c.due.short (outs_of c.due) final.made) ≡ false) is untold) at.follows
         (subst (AreTold c.site (dues_of c.site recordings)) (ap (λ (given : List (List (List ℕ))). given ++ g.0) it.made_is ∙ append_assoc (given_in limits catalogue recordings mid.events c.site) (final.made ∷ []) g.0) g.1)
-    not_unlike events all m c final listed untold (Came.stood a at is other made) =
-        let g = gave_first events all c.site listed final.events (asked_from c.site c.due.life (c.due ∷ c.rest)) (sym at.follows.asked) in
+    not_unlike events all m c final events_in untold (Came.stood a at is other made) =
+        let g = gave_first events all c.site events_in final.events (asked_from c.site c.due.life (c.due ∷ c.rest)) (sym at.follows.asked) in
         by a is other (subst (λ (a : Arrival). (is_own a && tells c.due.short (outs_of c.due) final.made) ≡ false) is untold) g.0 g.1
       where
         by : (a : Arrival) → asks c.site c.due.turn.frame ≡ a → IsOther a → (is_own a && tells c.due.short (outs_of c.due) final.made) ≡ false → (rest : List (List (List ℕ))) → AreTold c.site (dues_of c.site recordings) (given_in limits catalogue recordings final.events c.site ++ rest) → ⊥

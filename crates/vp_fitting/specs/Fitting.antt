@@ -26,24 +26,24 @@ abbrev pub is_crash_of : ℕ → Event → Bool
 is_crash_of id (event.Crash site) = site == id
 is_crash_of id _ = false
 
-abbrev pub taken : Option Input → List Deed
-taken None = []
-taken (Some given) = Deed.takes given ∷ []
+abbrev pub input_deeds : Option Input → List Deed
+input_deeds None = []
+input_deeds (Some given) = Deed.takes given ∷ []
 
-abbrev pub crashed : Shown → List Deed
-crashed shown.Nothing = Deed.crashes ∷ []
-crashed _ = []
+abbrev pub crash_deeds : Shown → List Deed
+crash_deeds shown.Nothing = Deed.crashes ∷ []
+crash_deeds _ = []
 
-abbrev pub restarted : Shown → List Deed
-restarted (shown.Life life) = Deed.restarts ∷ []
-restarted _ = []
+abbrev pub restart_deeds : Shown → List Deed
+restart_deeds (shown.Life life) = Deed.restarts ∷ []
+restart_deeds _ = []
 
 -- what the site does in a moment; an event that nothing comes of is none of its deeds
 abbrev pub deeds_at : ℕ → Moment → List Deed
 deeds_at id m =
-    if is_step_of id m then taken (input_of m.before m.line.event)
-    else (if is_crash_of id m.line.event then crashed m.line.shown
-    else (if is_restart_of id m.line.event then restarted m.line.shown else []))
+    if is_step_of id m then input_deeds (input_of m.before m.line.event)
+    else (if is_crash_of id m.line.event then crash_deeds m.line.shown
+    else (if is_restart_of id m.line.event then restart_deeds m.line.shown else []))
 
 abbrev pub deeds_of : ℕ → List Moment → List Deed
 deeds_of id moments = flat_map (deeds_at id) moments

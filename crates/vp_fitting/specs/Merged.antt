@@ -45,12 +45,12 @@ can_take all site d = is_ready all site (asks site d.turn.frame)
 
 -- ---- the events of a turn
 
-abbrev pub listed : Option Event → List Event
-listed None = []
-listed (Some e) = e ∷ []
+abbrev pub events_in : Option Event → List Event
+events_in None = []
+events_in (Some e) = e ∷ []
 
 abbrev pub own_events : List Sent → ℕ → Arrival → List Event
-own_events all site (Gives given) = listed (event_of all site given)
+own_events all site (Gives given) = events_in (event_of all site given)
 own_events all site (Bad at) = []
 own_events all site Stray = []
 own_events all site Stops = []
@@ -120,14 +120,14 @@ pub record Choice : Type 0 where
   pub due : Due
   pub rest : List Due
 
-abbrev pub chosen : (ℕ → Due → Bool) → ℕ → List Due → Option Choice → Option Choice
-chosen passes site [] other = other
-chosen passes site (d ∷ dues) other = if passes site d then Some (record { site = site; due = d; rest = dues }) else other
+abbrev pub choose_due : (ℕ → Due → Bool) → ℕ → List Due → Option Choice → Option Choice
+choose_due passes site [] other = other
+choose_due passes site (d ∷ dues) other = if passes site d then Some (record { site = site; due = d; rest = dues }) else other
 
 -- the first site of the list whose next turn passes, with that turn
 abbrev pub first_of : (ℕ → Due → Bool) → List ℕ → (ℕ → Track) → Option Choice
 first_of passes [] left = None
-first_of passes (site ∷ sites) left = chosen passes site (left site).dues (first_of passes sites left)
+first_of passes (site ∷ sites) left = choose_due passes site (left site).dues (first_of passes sites left)
 
 abbrev pub with_track : ℕ → Track → (ℕ → Track) → ℕ → Track
 with_track site track left id = if id == site then track else left id
@@ -139,12 +139,12 @@ pub data Merge : Type 0 where
   too_long : Counted → Merge
 
 -- No further turn can be done: none is left, or the lowest site with turns left waits in its next one.
-abbrev pub ended : Merging → Option Choice → Merge
-ended m None = Merge.whole m.events
-ended m (Some c) = Merge.unsent c.site c.due.number
+abbrev pub merge_end : Merging → Option Choice → Merge
+merge_end m None = Merge.whole m.events
+merge_end m (Some c) = Merge.unsent c.site c.due.number
 
 abbrev pub end_of : Catalogue → Merging → Merge
-end_of catalogue m = ended m (first_of (λ site d. true) (sites_of catalogue) m.left)
+end_of catalogue m = merge_end m (first_of (λ site d. true) (sites_of catalogue) m.left)
 
 abbrev pub ready : Catalogue → Merging → Option Choice
 ready catalogue m = first_of (can_take m.world.sent) (sites_of catalogue) m.left

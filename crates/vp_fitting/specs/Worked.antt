@@ -20,19 +20,19 @@ turn_of frame outs = record { frame = frame_bytes frame; outs = map (datagram_to
 abbrev pub life : ℕ → ℕ → List Turn → Recording
 life site number turns = record { site = site; life = number; turns = turns; ended = true }
 
-abbrev pub called : Call → Frame
-called words = frame_of 0 1 (body.Call words)
+abbrev pub frame_of_call : Call → Frame
+frame_of_call words = frame_of 0 1 (body.Call words)
 
 abbrev pub begun : Frame
 begun = frame_of 1 0 (body.Reply (answer.Begun (txn 1) opening))
 
 -- a lone site begins a transaction
 abbrev pub begin : List Recording
-begin = life 1 1 (turn_of (called call.Begin) (begun ∷ []) ∷ []) ∷ []
+begin = life 1 1 (turn_of (frame_of_call call.Begin) (begun ∷ []) ∷ []) ∷ []
 
 -- the same without its answer, in a life whose end is told
 abbrev pub without_answer : List Recording
-without_answer = life 1 1 (turn_of (called call.Begin) [] ∷ []) ∷ []
+without_answer = life 1 1 (turn_of (frame_of_call call.Begin) [] ∷ []) ∷ []
 
 -- site 2 took a vote of site 1, of which nothing is recorded
 abbrev pub vote : List Recording
@@ -46,11 +46,11 @@ tick_and_vote = life 2 1 (turn_of (frame_of 0 2 body.Tick) [] ∷ turn_of (frame
 abbrev pub first_view : ViewId
 first_view = record { number = 1; site = 1 }
 
-abbrev pub regrouped : List Recording
-regrouped =
+abbrev pub regroup_run : List Recording
+regroup_run =
     life 2 1 (turn_of (frame_of 1 2 (body.Message (message.Invite first_view))) (frame_of 2 1 (body.Message (message.Accept first_view)) ∷ []) ∷ [])
     ∷ life 1 1 []
-    ∷ life 1 2 (turn_of (called call.Regroup) (frame_of 1 2 (body.Message (message.Invite first_view)) ∷ frame_of 1 0 (body.Reply (answer.Inviting first_view)) ∷ []) ∷ [])
+    ∷ life 1 2 (turn_of (frame_of_call call.Regroup) (frame_of 1 2 (body.Message (message.Invite first_view)) ∷ frame_of 1 0 (body.Reply (answer.Inviting first_view)) ∷ []) ∷ [])
     ∷ []
 
 abbrev pub regrouping : List Event

@@ -16,7 +16,7 @@ use Rattle.vp_gateway.specs.declared.end.GateEnd.TheVariants as ends
 use Rattle.vp_gateway.specs.declared.asked.LineRequest.{LineRequest}
 use Rattle.vp_gateway.specs.Causes.{RisesAt}
 use Rattle.vp_gateway.specs.Ends.{end_of, end_of_input, end_of_output, end_of_catalog}
-use Rattle.vp_gateway.specs.Opening.{Opens, limited}
+use Rattle.vp_gateway.specs.Opening.{Opens, end_by_limit}
 use Rattle.vp_gateway.specs.Sessions.{Talk}
 use Rattle.vp_gateway.specs.Answering.{Says, AnswersLine}
 
@@ -98,7 +98,7 @@ opened_unput site ahead source source' (ends.TooMany l limit) h e = cc
 opened_unput site ahead source source' ends.NoSite h e = cc
 
 -- a limit in place of a refusal is no fault of the source
-pub limited_rises : (spent : Bool) (end : GateEnd) (before now : ℕ) → RisesAt ends.ReadFault end before now → RisesAt ends.ReadFault (limited spent end) before now
+pub limited_rises : (spent : Bool) (end : GateEnd) (before now : ℕ) → RisesAt ends.ReadFault end before now → RisesAt ends.ReadFault (end_by_limit spent end) before now
 limited_rises true (ends.BadLine line at) before now h = stays ends.ReadFault before now ends.Limit (λ (e : ends.Limit ≡ ends.ReadFault). cc) (h.same (λ (e : ends.BadLine line at ≡ ends.ReadFault). cc))
 limited_rises true (ends.Twice line) before now h = stays ends.ReadFault before now ends.Limit (λ (e : ends.Limit ≡ ends.ReadFault). cc) (h.same (λ (e : ends.Twice line ≡ ends.ReadFault). cc))
 limited_rises true (ends.TooMany line limit) before now h = stays ends.ReadFault before now ends.Limit (λ (e : ends.Limit ≡ ends.ReadFault). cc) (h.same (λ (e : ends.TooMany line limit ≡ ends.ReadFault). cc))

@@ -18,7 +18,7 @@ use Rattle.vp_outside.specs.Causes.{Rose}
 use Rattle.vp_outside.specs.Input.{SourceState, IsEnded, Took}
 use Rattle.vp_outside.specs.declared.source.InputFault.{InputFault}
 use Rattle.vp_outside.specs.declared.source.InputFault.TheVariants as input
-use Rattle.vp_lines.specs.Ahead.{Ahead, untaken, fitting, HasLine, HasNoLine, HasRest, Finds}
+use Rattle.vp_lines.specs.Ahead.{Ahead, ahead_at_start, fitting, HasLine, HasNoLine, HasRest, Finds}
 use Rattle.vp_lines.specs.declared.unread.LineFound.{LineFound}
 use Rattle.vp_lines.specs.declared.unread.LineFound.TheVariants as found
 use Rattle.vp_lines.proofs.Finding.{take_none, took_none, took_then, fitting_more}
@@ -31,7 +31,7 @@ use Rattle.vp_heads.proofs.Apart.{no_head, bad_no_head, repeats_no_head, overfil
 use Rattle.vp_gateway.specs.declared.end.GateEnd.{GateEnd}
 use Rattle.vp_gateway.specs.declared.end.GateEnd.TheVariants as ends
 use Rattle.vp_gateway.specs.Ends.{end_of_input, end_of_catalog}
-use Rattle.vp_gateway.specs.Opening.{most, key, IsBad, Refuses, LacksHead, HasTaken, HasTakenTooMany, HasRefused, FindsPort, IsRefused, Opens, limited, text_of, IsNoLine, TakesLine}
+use Rattle.vp_gateway.specs.Opening.{most, key, IsBad, Refuses, LacksHead, HasTaken, HasTakenTooMany, HasRefused, FindsPort, IsRefused, Opens, end_by_limit, text_of, IsNoLine, TakesLine}
 
 pub key_is : IsKey key
 key_is = record { line = key_line (codes "session") refl; no_site = refl; no_record = refl }
@@ -73,7 +73,7 @@ module _ (source : SourceState) where
     pub few : number ≤ length front + 1
     pub same_faults : source'.faults ≡ source.faults
 
-  pub begun : Heading source untaken blank 1
+  pub begun : Heading source ahead_at_start blank 1
   begun = record {
     bytes = [];
     took = took_none source;
@@ -350,7 +350,7 @@ module _ (site : ℕ) (ahead : Ahead) (source source' : SourceState) where
   unspent : (ahead.credit == 0) ≡ false → ahead.credit ≡ 0 → ⊥
   unspent e z = let no : true ≡ false = sym (ap (λ n. n == 0) z) ∙ e in false≢true (sym no)
 
-  judged : (b : Bool) → (ahead.credit == 0) ≡ b → (end : GateEnd) → FindsPort site ahead source source' (Err end) → Opens site ahead source source' (Err (limited b end))
+  judged : (b : Bool) → (ahead.credit == 0) ≡ b → (end : GateEnd) → FindsPort site ahead source source' (Err end) → Opens site ahead source source' (Err (end_by_limit b end))
   judged true e (ends.BadLine line at) f = too_many (ends.BadLine line at) f (spent_is e)
   judged true e (ends.Twice line) f = too_many (ends.Twice line) f (spent_is e)
   judged true e (ends.TooMany line limit) f = too_many (ends.TooMany line limit) f (spent_is e)
@@ -372,5 +372,5 @@ module _ (site : ℕ) (ahead : Ahead) (source source' : SourceState) where
   judged false e ends.Limit f = f
   judged false e ends.NoMemory f = f
 
-  pub opens : (end : GateEnd) → FindsPort site ahead source source' (Err end) → Opens site ahead source source' (Err (limited (ahead.credit == 0) end))
+  pub opens : (end : GateEnd) → FindsPort site ahead source source' (Err end) → Opens site ahead source source' (Err (end_by_limit (ahead.credit == 0) end))
   opens end f = judged (ahead.credit == 0) refl end f

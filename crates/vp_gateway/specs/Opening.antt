@@ -121,12 +121,12 @@ Opens site new source source' (Err end) = IsRefused site source source' end
 
 -- ---- its steps
 
-abbrev pub limited : Bool → GateEnd → GateEnd
-limited true (ends.BadLine line at) = ends.Limit
-limited true (ends.Twice line) = ends.Limit
-limited true (ends.TooMany line limit) = ends.Limit
-limited true ends.NoSite = ends.Limit
-limited spent end = end
+abbrev pub end_by_limit : Bool → GateEnd → GateEnd
+end_by_limit true (ends.BadLine line at) = ends.Limit
+end_by_limit true (ends.Twice line) = ends.Limit
+end_by_limit true (ends.TooMany line limit) = ends.Limit
+end_by_limit true ends.NoSite = ends.Limit
+end_by_limit spent end = end
 
 -- a line that was found, with its newline if that has come
 abbrev pub text_of : LineFound → List ℕ → List ℕ

@@ -3,10 +3,10 @@
 ghost use Rattle.std.specs.Prelude.{◌≡◌, ◌⊎◌, false, OnOk};
 ghost use Rattle.vp_text.specs.Documents.{HasNoNewline, IsLine};
 ghost use Rattle.vp_catalog.specs.Document.{IsCatalogueSoFar};
-ghost use Rattle.vp_lines.specs.Ahead.{untaken};
+ghost use Rattle.vp_lines.specs.Ahead.{ahead_at_start};
 ghost use Rattle.vp_gateway.specs.Causes.{RisesAt};
 ghost use Rattle.vp_gateway.specs.Ends.{end_of};
-ghost use Rattle.vp_gateway.specs.Opening.{text_of, limited, TakesLine, FindsPort, Opens};
+ghost use Rattle.vp_gateway.specs.Opening.{text_of, end_by_limit, TakesLine, FindsPort, Opens};
 ghost use Rattle.vp_gateway.specs.declared.end.GateEnd.TheVariants as ends;
 
 use crate::end::GateEnd;
@@ -26,20 +26,20 @@ pub fn open<S: Source>(
     unread: &mut ReadBuffer,
     site: SiteId,
 ) -> Result<u16, GateEnd>
-    requires { unread.old ≡ untaken }
+    requires { unread.old ≡ ahead_at_start }
     ensures opens { Opens site unread.new (S.state source.old) (S.state source.new) result }
     ensures cause { RisesAt ends.ReadFault (end_of result) (S.state source.old).faults
         (S.state source.new).faults }
 {
     match find_port(alloc, source, unread, site) {
         Ok(port) => Ok(port),
-        Err(end) => Err(limited(end, unread.is_spent())),
+        Err(end) => Err(end_by_limit(end, unread.is_spent())),
     }
 }
 
 /// Returns the fault `Limit` instead of the other one, if more bytes were taken than an input may have.
-fn limited(end: GateEnd, spent: bool) -> GateEnd
-    ensures { result ≡ limited spent end }
+fn end_by_limit(end: GateEnd, spent: bool) -> GateEnd
+    ensures { result ≡ end_by_limit spent end }
 {
     match end {
         GateEnd::BadLine { .. } if spent => GateEnd::Limit,
@@ -57,7 +57,7 @@ fn find_port<S: Source>(
     unread: &mut ReadBuffer,
     site: SiteId,
 ) -> Result<u16, GateEnd>
-    requires { unread.old ≡ untaken }
+    requires { unread.old ≡ ahead_at_start }
     ensures finds { FindsPort site unread.new (S.state source.old) (S.state source.new) result }
     ensures cause { RisesAt ends.ReadFault (end_of result) (S.state source.old).faults
         (S.state source.new).faults }

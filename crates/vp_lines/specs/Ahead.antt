@@ -14,8 +14,8 @@ pub record Ahead : Type 0 where
   pub credit : ℕ
 
 -- before anything is taken: 16,777,216 bytes may be
-abbrev pub untaken : Ahead
-untaken = record { unread = []; credit = 16777217 }
+abbrev pub ahead_at_start : Ahead
+ahead_at_start = record { unread = []; credit = 16777217 }
 
 -- of the bytes that are taken now, those within the limit
 abbrev pub fitting : ℕ → List ℕ → List ℕ

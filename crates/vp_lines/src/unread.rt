@@ -2,7 +2,7 @@
 
 ghost use Rattle.std.specs.Prelude.{◌≡◌, ◌==◌, ◌≤◌, ◌<◌, ◌++◌, length, take, vec_len, position, OnOk};
 ghost use Rattle.vp_outside.specs.Input.{HasInputCause};
-ghost use Rattle.vp_lines.specs.Ahead.{untaken, rest_found, Passes, Fills, Finds};
+ghost use Rattle.vp_lines.specs.Ahead.{ahead_at_start, rest_found, Passes, Fills, Finds};
 
 use std::alloc::AllocError;
 use std::marker::Model;
@@ -48,7 +48,7 @@ impl Model for ReadBuffer {
 impl ReadBuffer {
     /// Makes the state before anything is taken.
     pub fn new() -> ReadBuffer
-        ensures { result ≡ untaken }
+        ensures { result ≡ ahead_at_start }
     {
         ReadBuffer {
             piece: [0; PIECE],

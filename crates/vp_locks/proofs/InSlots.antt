@@ -7,7 +7,7 @@ use Rattle.std.specs.List.Sorted.{IsStrictlyIncreasing}
 use Rattle.std.proofs.lemmas.List.{get_or_default, get_or-map, length-map}
 use Rattle.std.proofs.lemmas.List.Edits.{map_over_more}
 use Rattle.vp_model.specs.Types.{Owner, Lock}
-use Rattle.vp_locks.specs.Places.{present, lock_at, passes, places, revised, if_kept}
+use Rattle.vp_locks.specs.Places.{present, lock_at, passes, places, revise_slot, if_kept}
 
 -- the locks at places after the first one
 later_locks : (s : Option Lock) (slots : List (Option Lock)) (ks : List ℕ) → filter_map (lock_at (s ∷ slots)) (map suc ks) ≡ filter_map (lock_at slots) ks
@@ -131,32 +131,32 @@ abbrev pub revised_where : (Lock → Bool) → (Lock → Option Lock) → Option
 revised_where test f s = option_map_or (λ lock. if test lock then f lock else Some lock) s None
 
 module _ (f : Lock → Option Lock) where
-  later_one : (s : Option Lock) (slots : List (Option Lock)) (k : ℕ) → revised f (s ∷ slots) (suc k) ≡ s ∷ revised f slots k
+  later_one : (s : Option Lock) (slots : List (Option Lock)) (k : ℕ) → revise_slot f (s ∷ slots) (suc k) ≡ s ∷ revise_slot f slots k
   later_one s slots k =
       elim (lock_at slots k) as (λ o. option_map_or (λ lock. set (s ∷ slots) (suc k) (f lock)) o (s ∷ slots) ≡ s ∷ option_map_or (λ lock. set slots k (f lock)) o slots)
       [ None ↦ refl | Some l ↦ refl ]
 
-  later_revised : (s : Option Lock) (slots : List (Option Lock)) (ks : List ℕ) → fold (revised f) (s ∷ slots) (map suc ks) ≡ s ∷ fold (revised f) slots ks
+  later_revised : (s : Option Lock) (slots : List (Option Lock)) (ks : List ℕ) → fold (revise_slot f) (s ∷ slots) (map suc ks) ≡ s ∷ fold (revise_slot f) slots ks
   later_revised s slots [] = refl
-  later_revised s slots (k ∷ ks) = ap (λ l. fold (revised f) l (map suc ks)) (later_one s slots k) ∙ later_revised s (revised f slots k) ks
+  later_revised s slots (k ∷ ks) = ap (λ l. fold (revise_slot f) l (map suc ks)) (later_one s slots k) ∙ later_revised s (revise_slot f slots k) ks
 
-  pub revised_each : (test : Lock → Bool) (slots : List (Option Lock)) → fold (revised f) slots (places test slots) ≡ map (revised_where test f) slots
+  pub revised_each : (test : Lock → Bool) (slots : List (Option Lock)) → fold (revise_slot f) slots (places test slots) ≡ map (revised_where test f) slots
   revised_each test [] = refl
   revised_each test (None ∷ slots) = later_revised None slots (places test slots) ∙ ap (λ l. None ∷ l) (revised_each test slots)
   revised_each test (Some l ∷ slots) =
-      elim (test l) as (λ b. fold (revised f) (Some l ∷ slots) (if b then 0 ∷ map suc (places test slots) else map suc (places test slots)) ≡ (if b then f l else Some l) ∷ map (revised_where test f) slots) [
+      elim (test l) as (λ b. fold (revise_slot f) (Some l ∷ slots) (if b then 0 ∷ map suc (places test slots) else map suc (places test slots)) ≡ (if b then f l else Some l) ∷ map (revised_where test f) slots) [
         | true ↦ later_revised (f l) slots (places test slots) ∙ ap (λ ls. f l ∷ ls) (revised_each test slots)
         | false ↦ later_revised (Some l) slots (places test slots) ∙ ap (λ ls. Some l ∷ ls) (revised_each test slots)
       ]
 
-  pub revised_same : (slots : List (Option Lock)) (p : ℕ) → option_map_or f (lock_at slots p) None ≡ lock_at slots p → revised f slots p ≡ slots
+  pub revised_same : (slots : List (Option Lock)) (p : ℕ) → option_map_or f (lock_at slots p) None ≡ lock_at slots p → revise_slot f slots p ≡ slots
   revised_same [] p h = refl
   revised_same (None ∷ slots) zero h = refl
   revised_same (Some l ∷ slots) zero h = ap (λ s. s ∷ slots) h
   revised_same (s ∷ slots) (suc p) h = later_one s slots p ∙ ap (λ l. s ∷ l) (revised_same slots p h)
 
   -- slot by slot
-  pub revised_at : (slots : List (Option Lock)) (i : ℕ) → i < length slots → revised f slots i ≡ set slots i (option_map_or f (get_or slots i None) None)
+  pub revised_at : (slots : List (Option Lock)) (i : ℕ) → i < length slots → revise_slot f slots i ≡ set slots i (option_map_or f (get_or slots i None) None)
   revised_at [] i h = absurd (omega (arith, h))
   revised_at (None ∷ slots) zero h = refl
   revised_at (Some l ∷ slots) zero h = refl
@@ -202,7 +202,7 @@ module _ (test : Lock → Bool) where
 
 -- what is released at one place
 module _ (keeps : Lock → Bool) (slots : List (Option Lock)) (p : ℕ) where
-  pub swept_none : option_map_or (λ (lock : Lock). if keeps lock then None else Some lock.owner) (lock_at slots p) None ≡ None → revised (if_kept keeps) slots p ≡ slots
+  pub swept_none : option_map_or (λ (lock : Lock). if keeps lock then None else Some lock.owner) (lock_at slots p) None ≡ None → revise_slot (if_kept keeps) slots p ≡ slots
   swept_none h = revised_same (if_kept keeps) slots p (by (lock_at slots p) h)
     where
       by : (s : Option Lock) → option_map_or (λ (lock : Lock). if keeps lock then None else Some lock.owner) s None ≡ None → option_map_or (if_kept keeps) s None ≡ s
@@ -210,11 +210,11 @@ module _ (keeps : Lock → Bool) (slots : List (Option Lock)) (p : ℕ) where
       by (Some l) h = grind (arith, h)
 
   pub swept_some : (owner : Owner) → option_map_or (λ (lock : Lock). if keeps lock then None else Some lock.owner) (lock_at slots p) None ≡ Some owner
-      → (l : Lock) × (lock_at slots p ≡ Some l) × (l.owner ≡ owner) × (revised (if_kept keeps) slots p ≡ set slots p None)
+      → (l : Lock) × (lock_at slots p ≡ Some l) × (l.owner ≡ owner) × (revise_slot (if_kept keeps) slots p ≡ set slots p None)
   swept_some owner h = by (lock_at slots p) refl h
     where
       by : (s : Option Lock) → lock_at slots p ≡ s → option_map_or (λ (lock : Lock). if keeps lock then None else Some lock.owner) s None ≡ Some owner
-          → (l : Lock) × (lock_at slots p ≡ Some l) × (l.owner ≡ owner) × (revised (if_kept keeps) slots p ≡ set slots p None)
+          → (l : Lock) × (lock_at slots p ≡ Some l) × (l.owner ≡ owner) × (revise_slot (if_kept keeps) slots p ≡ set slots p None)
       by None e h = absurd (cc h)
       by (Some l) e h =
           let is : l.owner ≡ owner = grind (arith, h) in
@@ -232,7 +232,7 @@ module _ (keeps : Lock → Bool) where
   present_all (Some l ∷ slots) = let rest = present_all slots in grind (arith, rest)
 
   pub swept_more : (xs ys : List (Option Lock)) (i : ℕ) → i < length xs → length ys ≡ length xs → ys ≡ map (if_kept_there keeps) (take i xs) ++ drop i xs
-      → revised (if_kept keeps) ys i ≡ map (if_kept_there keeps) (take (i + 1) xs) ++ drop (i + 1) xs
+      → revise_slot (if_kept keeps) ys i ≡ map (if_kept_there keeps) (take (i + 1) xs) ++ drop (i + 1) xs
   swept_more xs ys i within long e =
       let inside : i < length ys = omega (arith, within, long) in
       revised_at (if_kept keeps) ys i inside ∙ map_over_more (if_kept_there keeps) xs ys i (get_or ys i None) within e (get_or_default ys i None (get_or ys i None) inside)

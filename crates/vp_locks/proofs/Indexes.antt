@@ -11,7 +11,7 @@ use Rattle.vp_model.specs.Types.{Owner, Lock}
 use Rattle.vp_base.specs.declared.entry.Owner.TheVariants.{Txn, Refresh}
 use Rattle.vp_model.specs.Locks.{raised, lesser, conflicting, holds}
 use Rattle.vp_model.specs.Words.{same_owner}
-use Rattle.vp_locks.specs.Places.{present, lock_at, passes, places, revised, if_kept}
+use Rattle.vp_locks.specs.Places.{present, lock_at, passes, places, revise_slot, if_kept}
 use Rattle.vp_locks.specs.declared.places.RecPlaces.{RecPlaces}
 use Rattle.vp_locks.specs.Index.{places_of, Changes, IsIndex, IsRecIndex, IsOwnerIndex, OwnerKey, owner_key, key_eq, on_rec, exclusive_on, owned_by}
 use Rattle.vp_locks.proofs.InSlots.{found, places_more, places_rise, places_both, places_without, places_apart, places_changed, places_kept, places_untouched, present_changed, present_kept, revised_each, revised_where}
@@ -129,8 +129,8 @@ module _ (owner : Owner) where
 
 module _ {A S : Type 0} (lists : IndexMap OwnerKey (Vec ℕ A) S) (slots : List (Option Lock)) (index : IsOwnerIndex lists slots) (owner : Owner) where
   -- a change at each of the owner's places is a change of each of the owner's locks
-  pub owner_revised : (f : Lock → Option Lock) → fold (revised f) slots (places_of key_eq lists (owner_key owner)) ≡ map (revised_where (λ lock. owned_by lock (owner_key owner)) f) slots
-  owner_revised f = ap (fold (revised f) slots) (index (owner_key owner)) ∙ revised_each f (λ lock. owned_by lock (owner_key owner)) slots
+  pub owner_revised : (f : Lock → Option Lock) → fold (revise_slot f) slots (places_of key_eq lists (owner_key owner)) ≡ map (revised_where (λ lock. owned_by lock (owner_key owner)) f) slots
+  owner_revised f = ap (fold (revise_slot f) slots) (index (owner_key owner)) ∙ revised_each f (λ lock. owned_by lock (owner_key owner)) slots
 
   -- the owner's locks that aren't kept are released
   pub owner_swept : (keeps : Lock → Bool) → present (map (revised_where (λ lock. owned_by lock (owner_key owner)) (if_kept keeps)) slots) ≡ filter (λ lock. not (same_owner lock.owner owner) || keeps lock) (present slots)
@@ -161,8 +161,8 @@ module _ (rec : ℕ) (owner : Owner) where
   all_raised slots = present_changed (λ lock. on_rec lock rec) (raised rec true owner) slots ∙ (λ i. map (λ (lock : Lock). raised_on lock i) (present slots))
 
   module _ (old : RecPlaces) (slots : List (Option Lock)) (index : IsRecIndex old slots) where
-    pub rec_revised : (f : Lock → Option Lock) → fold (revised f) slots (places_of nat_eq old.all.lists rec) ≡ map (revised_where (λ lock. on_rec lock rec) f) slots
-    rec_revised f = ap (fold (revised f) slots) (index.0 rec) ∙ revised_each f (λ lock. on_rec lock rec) slots
+    pub rec_revised : (f : Lock → Option Lock) → fold (revise_slot f) slots (places_of nat_eq old.all.lists rec) ≡ map (revised_where (λ lock. on_rec lock rec) f) slots
+    rec_revised f = ap (fold (revise_slot f) slots) (index.0 rec) ∙ revised_each f (λ lock. on_rec lock rec) slots
 
     -- the record's exclusive locks are those from before and the owner's
     pub index_raised : {A S : Type 0} (new : IndexMap ℕ (Vec ℕ A) S) → ((q : ℕ) → places_of nat_eq new q ≡ (if nat_eq rec q then filter (λ k. passes (λ lock. lock.exclusive || same_owner lock.owner owner) (lock_at slots k)) (places_of nat_eq old.all.lists rec) else places_of nat_eq old.exclusive.lists q))

@@ -22,8 +22,8 @@ places test (s ∷ slots) =
     if passes test s then 0 ∷ map suc (places test slots) else map suc (places test slots)
 
 -- the slots after the lock at a place has changed, or was released
-abbrev pub revised : (Lock → Option Lock) → List (Option Lock) → ℕ → List (Option Lock)
-revised f slots place = option_map_or (λ lock. slice_set slots place (f lock)) (lock_at slots place) slots
+abbrev pub revise_slot : (Lock → Option Lock) → List (Option Lock) → ℕ → List (Option Lock)
+revise_slot f slots place = option_map_or (λ lock. slice_set slots place (f lock)) (lock_at slots place) slots
 
 -- the lock, unless it isn't kept
 abbrev pub if_kept : (Lock → Bool) → Lock → Option Lock

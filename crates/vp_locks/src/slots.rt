@@ -3,7 +3,7 @@
 ghost use Rattle.std.specs.Prelude.{◌≡◌, ◌<◌, ◌&&◌, ◌||◌, IfOk, IfSome, None, Some, filter, fold, if◌then◌else◌, is_some, length, map, true, false};
 ghost use Rattle.std.specs.Option.{option_copied, option_map_or};
 ghost use Rattle.vp_locks.specs.Index.{IsOwnerIndex, IsRecIndex};
-ghost use Rattle.vp_locks.specs.Places.{if_kept, lock_at, passes, revised};
+ghost use Rattle.vp_locks.specs.Places.{if_kept, lock_at, passes, revise_slot};
 ghost use Rattle.vp_model.specs.Locks.{raised};
 ghost use Rattle.vp_model.specs.Words.{same_owner};
 
@@ -73,7 +73,7 @@ fn raised(lock: &Lock, rec: RecId, owner: &Owner) -> Lock
 }
 
 fn raise_at(slots: &mut [Option<Lock>], place: usize, rec: RecId, owner: &Owner)
-    ensures { slots.new ≡ revised (λ lock. Some (raised rec true owner.now lock)) slots.old place }
+    ensures { slots.new ≡ revise_slot (λ lock. Some (raised rec true owner.now lock)) slots.old place }
 {
     if let Some(lock) = lock_at(slots, place) {
         slots[place] = Some(raised(lock, rec, owner));
@@ -83,7 +83,7 @@ fn raise_at(slots: &mut [Option<Lock>], place: usize, rec: RecId, owner: &Owner)
 /// Makes those locks at the places exclusive that are the owner's on the record.
 pub(crate) fn raise(slots: &mut [Option<Lock>], places: &[usize], rec: RecId, owner: &Owner)
     ensures { slots.new ≡
-        fold (revised (λ lock. Some (raised rec true owner.now lock))) slots.old places.now }
+        fold (revise_slot (λ lock. Some (raised rec true owner.now lock))) slots.old places.now }
 {
     for place in places {
         raise_at(slots, *place, rec, owner);
@@ -98,7 +98,7 @@ fn sweep_at<K: Keeps>(
     kept: &K,
 ) -> Option<Owner>
     requires index { IsRecIndex by_rec.old slots.old }
-    ensures slots { slots.new ≡ revised (if_kept (K.keeps kept.now)) slots.old place }
+    ensures slots { slots.new ≡ revise_slot (if_kept (K.keeps kept.now)) slots.old place }
     ensures index { IsRecIndex by_rec.new slots.new }
     ensures owner { result ≡
         option_map_or (λ lock. if K.keeps kept.now lock then None else Some lock.owner)
@@ -122,7 +122,7 @@ pub(crate) fn sweep<K: Keeps>(
     kept: &K,
 )
     requires index { IsRecIndex by_rec.old slots.old }
-    ensures slots { slots.new ≡ fold (revised (if_kept (K.keeps kept.now))) slots.old places.now }
+    ensures slots { slots.new ≡ fold (revise_slot (if_kept (K.keeps kept.now))) slots.old places.now }
     ensures index { IsRecIndex by_rec.new slots.new }
 {
     for place in places {

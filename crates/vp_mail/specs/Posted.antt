@@ -8,8 +8,8 @@ pub record Posted : Type 0 where
   pub delivered : List ℕ
 
 -- these are sent
-abbrev pub posted : List Sent → Posted → Posted
-posted messages m = record m { sent = m.sent ++ messages }
+abbrev pub post_messages : List Sent → Posted → Posted
+post_messages messages m = record m { sent = m.sent ++ messages }
 
 -- message K, from 1
 abbrev pub message_in : ℕ → List Sent → Option Sent

@@ -30,9 +30,9 @@ AreBelow n [] = Unit {0}
 AreBelow n (k ∷ numbers) = (k < n) × AreBelow n numbers
 
 -- the numbers of the messages of a queue that were never delivered
-abbrev pub undelivered : List Numbered → List ℕ
-undelivered [] = []
-undelivered (m ∷ rest) = if m.delivered then undelivered rest else m.number ∷ undelivered rest
+abbrev pub undelivered_numbers : List Numbered → List ℕ
+undelivered_numbers [] = []
+undelivered_numbers (m ∷ rest) = if m.delivered then undelivered_numbers rest else m.number ∷ undelivered_numbers rest
 
 -- the numbers ascend, and neither the first message nor the last one was delivered
 pub record IsTrimmed (messages : List Numbered) : Type 0 where

@@ -3,7 +3,7 @@
 ghost use Rattle.std.specs.Prelude.{◌≡◌, ◌≤◌, ◌<◌, ◌+◌, ◌++◌, ◌∷◌, ℕ, [], OnOk, OnErr, IfOk, Some, slice_index_or, nat_lt, map, length, take, if◌then◌else◌, option_copied};
 ghost use Rattle.vp_model.specs.Words.{first};
 ghost use Rattle.vp_mail.specs.Queues.{pair_of, waiting, AreBelow, AreSites, AreSited};
-ghost use Rattle.vp_mail.specs.Posted.{message_in, posted, first_number};
+ghost use Rattle.vp_mail.specs.Posted.{message_in, post_messages, first_number};
 
 use crate::kept::PackedMessage;
 use crate::queue::Queue;
@@ -171,9 +171,9 @@ impl Mail {
     /// Sends the messages. After want of memory the first ones are sent, but not all.
     pub fn send(&mut self, messages: Messages) -> Result<(), NoMemory>
         requires { length self.old.sent + length messages ≤ 2000000 }
-        ensures sent { OnOk result (self.new ≡ posted messages self.old) }
+        ensures sent { OnOk result (self.new ≡ post_messages messages self.old) }
         ensures err { OnErr result
-            ((n : ℕ) × (n < length messages) × (self.new ≡ posted (take n messages) self.old)) }
+            ((n : ℕ) × (n < length messages) × (self.new ≡ post_messages (take n messages) self.old)) }
     {
         for message in messages.into_vec() {
             self.post(message)?;
@@ -183,7 +183,7 @@ impl Mail {
 
     fn post(&mut self, message: Sent) -> Result<(), NoMemory>
         requires { length self.old.sent < 2000000 }
-        ensures sent { OnOk result (self.new ≡ posted (message ∷ []) self.old) }
+        ensures sent { OnOk result (self.new ≡ post_messages (message ∷ []) self.old) }
         ensures err { OnErr result (self.new ≡ self.old) }
     {
         let pair = pair_of(message.from, message.to);

@@ -2,7 +2,7 @@
 
 ghost use Rattle.std.specs.Prelude.{◌≡◌, ◌<◌, ◌++◌, ◌∷◌, [], None, IfSome, OnOk, OnErr, map, length, slice_index_or};
 ghost use Rattle.vp_model.specs.Words.{first};
-ghost use Rattle.vp_mail.specs.Queues.{without, undelivered, Rises, AreBelow, IsTrimmed};
+ghost use Rattle.vp_mail.specs.Queues.{without, undelivered_numbers, Rises, AreBelow, IsTrimmed};
 
 use std::alloc::Global;
 use std::collections::VecDeque;
@@ -25,11 +25,11 @@ pub struct Queue {
 
 impl Model for Queue {
     ghost use Rattle.std.specs.Prelude.{ℕ, List};
-    ghost use Rattle.vp_mail.specs.Queues.{undelivered, IsTrimmed};
+    ghost use Rattle.vp_mail.specs.Queues.{undelivered_numbers, IsTrimmed};
 
     ghost Value = { List ℕ };
 
-    ghost view = { λ q. undelivered q.messages.items };
+    ghost view = { λ q. undelivered_numbers q.messages.items };
 
     ghost invariant = { λ q. IsTrimmed q.messages.items };
 }
@@ -82,7 +82,7 @@ fn place_of(messages: &VecDeque<Numbered>, number: u32) -> Option<usize>
     ensures numbered { IfSome result
         (λ place. slice_index_or (map (λ m. m.number) messages.now.items) place number ≡ number) }
     ensures absent { result ≡ None →
-        without number (undelivered messages.now.items) ≡ undelivered messages.now.items }
+        without number (undelivered_numbers messages.now.items) ≡ undelivered_numbers messages.now.items }
 {
     if messages.front().is_some_and(|m| m.number == number) {
         return Some(0);
@@ -94,7 +94,7 @@ fn place_of(messages: &VecDeque<Numbered>, number: u32) -> Option<usize>
 fn trim(messages: &mut VecDeque<Numbered>)
     requires { Rises 0 (map (λ m. m.number) messages.old.items) }
     ensures trimmed { IsTrimmed messages.new.items }
-    ensures undelivered { undelivered messages.new.items ≡ undelivered messages.old.items }
+    ensures undelivered { undelivered_numbers messages.new.items ≡ undelivered_numbers messages.old.items }
 {
     while messages.front().is_some_and(|m| m.delivered) {
         messages.pop_front();

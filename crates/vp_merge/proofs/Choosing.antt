@@ -9,7 +9,7 @@ use Rattle.vp_laws.proofs.Lists.Members.{Has, contains, has_first, has_more}
 use Rattle.vp_laws.proofs.Lists.Numbers.{eq_self, eq_not}
 use Rattle.vp_recording.specs.declared.recording.Recording.{Recording}
 use Rattle.vp_fitting.specs.Asked.{Due}
-use Rattle.vp_fitting.specs.Merged.{Choice, Track as Left, chosen, first_of, first_track, with_track}
+use Rattle.vp_fitting.specs.Merged.{Choice, Track as Left, choose_due, first_of, first_track, with_track}
 use Rattle.vp_merge.specs.Dues.{due_of}
 use Rattle.vp_merge.specs.Merging.{choice_at, left_of}
 use Rattle.vp_merge.specs.Tracks.{can_go, is_ready_by, track_of}
@@ -124,10 +124,10 @@ module _ (numbers : FrameNumbers) (passes : ℕ → Due → Bool) (left : ℕ �
       by (Some n) p = (n, p)
 
   -- the site of the first one, whose turn passes or not
-  one : (t : Track) (other : Option Choice) → Agrees t → chosen passes t.site (left t.site).dues other ≡ cond (can_go numbers t) (choice_at t) other
+  one : (t : Track) (other : Option Choice) → Agrees t → choose_due passes t.site (left t.site).dues other ≡ cond (can_go numbers t) (choice_at t) other
   one t other a = by t.next refl
     where
-      by : (o : Option NextTurn) → t.next ≡ o → chosen passes t.site (left t.site).dues other ≡ cond (can_go numbers t) (choice_at t) other
+      by : (o : Option NextTurn) → t.next ≡ o → choose_due passes t.site (left t.site).dues other ≡ cond (can_go numbers t) (choice_at t) other
       by None p = rw (a.left_is, p) refl
       by (Some n) p = rw (a.left_is, p, a.passes_is n p) refl
 

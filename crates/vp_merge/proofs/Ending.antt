@@ -12,7 +12,7 @@ use Rattle.vp_schedule.specs.Events.{IsEvent}
 use Rattle.vp_recording.specs.declared.recording.Recording.{Recording}
 use Rattle.vp_recording.specs.Recordings.{AreOfNodes}
 use Rattle.vp_fitting.specs.Laws.{MatchesAll, MergesMatch, UnsentIsNeverSent, over}
-use Rattle.vp_fitting.specs.Merged.{Merge, Merging as MergingState, at_first, end_of, ended, first_of, first_track, merged, merged_from, turns_left}
+use Rattle.vp_fitting.specs.Merged.{Merge, Merging as MergingState, at_first, end_of, merge_end, first_of, first_track, merged, merged_from, turns_left}
 use Rattle.vp_merge.specs.Merges.{Merges}
 use Rattle.vp_merge.specs.Merging.{IsMerging, TakesTurn, left_of, state_of, waits_at}
 use Rattle.vp_merge.specs.Played.{IsPlayed, IsPut}
@@ -105,12 +105,12 @@ module _ (catalogue : Catalogue) (recordings : List Recording) (m : Merging) (h 
   end_by _ = Merge.whole m.played.events
 
   waits : (ts : List Track) → AllByRecursion (λ (t : Track). left_of recordings m.tracks.items t.site ≡ track_of t) ts
-      → ended (state_of recordings m) (first_of (λ site d. true) (sites_in ts) (left_of recordings m.tracks.items)) ≡ end_by (waits_at ts)
+      → merge_end (state_of recordings m) (first_of (λ site d. true) (sites_in ts) (left_of recordings m.tracks.items)) ≡ end_by (waits_at ts)
   waits [] fits = refl
   waits (t ∷ ts) fits = by t.next refl (waits ts fits.1)
     where
-      by : (o : Option NextTurn) → t.next ≡ o → ended (state_of recordings m) (first_of (λ site d. true) (sites_in ts) (left_of recordings m.tracks.items)) ≡ end_by (waits_at ts)
-          → ended (state_of recordings m) (first_of (λ site d. true) (sites_in (t ∷ ts)) (left_of recordings m.tracks.items)) ≡ end_by (waits_at (t ∷ ts))
+      by : (o : Option NextTurn) → t.next ≡ o → merge_end (state_of recordings m) (first_of (λ site d. true) (sites_in ts) (left_of recordings m.tracks.items)) ≡ end_by (waits_at ts)
+          → merge_end (state_of recordings m) (first_of (λ site d. true) (sites_in (t ∷ ts)) (left_of recordings m.tracks.items)) ≡ end_by (waits_at (t ∷ ts))
       by None e rest = rw (fits.0, e) rest
       by (Some n) e rest = rw (fits.0, e) refl
 
@@ -120,7 +120,7 @@ module _ (catalogue : Catalogue) (recordings : List Recording) (m : Merging) (h 
         let k = own catalogue m h.merging in
         h.same
         ∙ subst (λ (c : Catalogue). merged_from h.turns world_limits c (state_of recordings m) ≡ end_of c (state_of recordings m)) h.merging.catalogue_is (ended_at recordings m k h.turns none)
-        ∙ ap (λ (sites : List ℕ). ended (state_of recordings m) (first_of (λ site d. true) sites (left_of recordings m.tracks.items))) (sym h.merging.sites)
+        ∙ ap (λ (sites : List ℕ). merge_end (state_of recordings m) (first_of (λ site d. true) sites (left_of recordings m.tracks.items))) (sym h.merging.sites)
         ∙ waits m.tracks.items (left_fits recordings m.tracks.items (apart recordings m k))
 
     pub ends_waiting : (laws : UnsentIsNeverSent) → IsCatalogue catalogue → AreOfNodes catalogue recordings → (fault : MergeFault) → waits_at m.tracks.items ≡ Some fault → Merges catalogue recordings (Err fault)

@@ -16,7 +16,7 @@ use Rattle.vp_model.specs.Words.{has}
 use Rattle.vp_recording.specs.declared.recording.Recording.{Recording}
 use Rattle.vp_runs.specs.declared.arrival.Arrival.{Arrival}
 use Rattle.vp_fitting.specs.Asked.{Due, asks}
-use Rattle.vp_fitting.specs.Merged.{Choice, Merge, Merging as MergingState, Track as Left, by_choice, can_take, done_from, end_of, first_of, gone_on, is_own, is_told, listed, merged_from, own_events, is_ready, ready, restarts_then, taken_by, tells, turn_done, turns_left, with_track}
+use Rattle.vp_fitting.specs.Merged.{Choice, Merge, Merging as MergingState, Track as Left, by_choice, can_take, done_from, end_of, first_of, gone_on, is_own, is_told, events_in, merged_from, own_events, is_ready, ready, restarts_then, taken_by, tells, turn_done, turns_left, with_track}
 use Rattle.vp_fitting.proofs.Choices.{fewer_left}
 use Rattle.vp_merge.specs.Dues.{due_of, dues_left}
 use Rattle.vp_merge.specs.Lives.{Lives, StartsLives, Takes, TakesEvent}
@@ -147,7 +147,7 @@ module _ (recordings : List Recording) (m : Merging) (h : IsMerging m.played.wor
       life_is = ap (λ (left : Left). left.life) (all_there (λ (t : Track). left_of recordings tracks t.site ≡ track_of t) tracks place t (left_fits recordings tracks apart) there)
 
       pub own : List Event
-      own = listed (own_event m.numbers t.site n.due.turn.now.frame n.asked)
+      own = events_in (own_event m.numbers t.site n.due.turn.now.frame n.asked)
 
       turn_is : turn_done world_limits catalogue state c ≡ done_from world_limits catalogue t.site (restarts_then t.site (n.due.life - t.life) own) (done_at m.played [])
       unfolding own

@@ -10,7 +10,7 @@ use Rattle.vp_runs.specs.Arrivals.{IsArrival}
 use Rattle.vp_runs.specs.declared.arrival.Arrival.{Arrival}
 use Rattle.vp_runs.specs.declared.arrival.Arrival.TheVariants.{Bad, Stray, Stops, Gives}
 use Rattle.vp_fitting.specs.Asked.{asks}
-use Rattle.vp_fitting.specs.Merged.{event_of, is_ready, own_events, lowest, listed}
+use Rattle.vp_fitting.specs.Merged.{event_of, is_ready, own_events, lowest, events_in}
 use Rattle.vp_fitting.proofs.Messages.{AskedBy, asked_by}
 use Rattle.vp_merge.specs.Numbers.{entry_of, number_in, number_of, IsIndex, HasFrame}
 use Rattle.vp_merge.specs.Played.{IsPut}
@@ -42,8 +42,8 @@ module _ (numbers : FrameNumbers) (all : List Sent) (index : IsIndex numbers all
   same_ready Stray e = refl
   same_ready Stops e = refl
 
-  pub same_events : (a : Arrival) → asks site frame ≡ a → listed (own_event numbers site frame a) ≡ own_events all site a
-  same_events (Gives given) e = ap listed (same_event given e)
+  pub same_events : (a : Arrival) → asks site frame ≡ a → events_in (own_event numbers site frame a) ≡ own_events all site a
+  same_events (Gives given) e = ap events_in (same_event given e)
   same_events (Bad at) e = refl
   same_events Stray e = refl
   same_events Stops e = refl

@@ -3,7 +3,7 @@ use Rattle.std.specs.Prelude.{◌≡◌, ⊤, ℕ, Bool, List, [], Option, Resul
 use Rattle.vp_model.specs.Types.{Event}
 use Rattle.vp_model.specs.Limits.{world_limits}
 use Rattle.vp_world.specs.Limits.{limit_of}
-use Rattle.vp_fitting.specs.Merged.{done_from, restarts_then, tells, listed}
+use Rattle.vp_fitting.specs.Merged.{done_from, restarts_then, tells, events_in}
 use Rattle.vp_merge.specs.Numbers.{IsIndex, HaveSame}
 use Rattle.vp_merge.specs.declared.numbers.FrameNumbers.{FrameNumbers}
 use Rattle.vp_merge.specs.Played.{IsPlayed, done_at}
@@ -32,7 +32,7 @@ pub record Takes (site : ℕ) (event : Option Event) (short : Bool) (outs : List
   pub played : IsPlayed new
   pub catalogue : new.world.catalogue ≡ old.world.catalogue
   pub made : List (List ℕ)
-  pub on : done_from world_limits old.world.catalogue site (listed event) (done_at old []) ≡ Ok (done_at new made)
+  pub on : done_from world_limits old.world.catalogue site (events_in event) (done_at old []) ≡ Ok (done_at new made)
   pub told_is : told ≡ tells short outs made
   pub index : IsIndex before old.world.world.sent → IsIndex after new.world.world.sent
   pub same : HaveSame before after
@@ -40,7 +40,7 @@ pub record Takes (site : ℕ) (event : Option Event) (short : Bool) (outs : List
 abbrev pub TakesEvent : ℕ → Option Event → Bool → List (List ℕ) → Played → Result (Played × Bool) MergeFault → FrameNumbers → FrameNumbers → Type 0
 TakesEvent site event short outs old (Ok r) before after = Takes site event short outs old r.0 r.1 before after
 TakesEvent site event short outs old (Err (faults.Limit what limit)) before after =
-    (done_from world_limits old.world.catalogue site (listed event) (done_at old []) ≡ Err what) × (limit ≡ limit_of what)
+    (done_from world_limits old.world.catalogue site (events_in event) (done_at old []) ≡ Err what) × (limit ≡ limit_of what)
 TakesEvent site event short outs old (Err (faults.Unsent s turn)) before after = ⊥
 TakesEvent site event short outs old (Err (faults.Differs s turn)) before after = ⊥
 TakesEvent site event short outs old (Err faults.NoMemory) before after = ⊤

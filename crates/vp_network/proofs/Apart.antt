@@ -11,7 +11,7 @@ use Rattle.vp_laws.proofs.Lists.Numbers.{eq_self}
 use Rattle.vp_outside.specs.declared.datagram.Datagram.{Datagram}
 use Rattle.vp_runs.specs.Arrivals.{arrival}
 use Rattle.vp_runs.specs.Turns.{turn_on}
-use Rattle.vp_network.specs.Cluster.{Process, ClusterState, Happening, process_of, change_process, running, known, started, turned, ended, dead, whole_turn, broken_turn, whose, after}
+use Rattle.vp_network.specs.Cluster.{Process, ClusterState, Happening, process_of, change_process, running, known, start_process, turn_process, end_process, dead, whole_turn, broken_turn, whose, after}
 use Rattle.vp_network.specs.Apart.{own, ProcessesAreApart}
 use Rattle.vp_network.proofs.Linked.{process-same, process-other}
 use Rattle.vp_network.proofs.Held.{keeps_id}
@@ -25,10 +25,10 @@ module _ (all : Catalogue) (id : ℕ) where
 
   -- the process after a happening, and what that hands over
   abbrev pub made : Happening → Option Process → Option Process
-  made (Happening.Starts k sites) o = option_map (started all sites) o
-  made (Happening.Comes k d) o = option_map_or (λ x. option_map (turned x (turn_on (kn o) x (arrival (kn o) x.id d))) o) (up_in o) o
-  made (Happening.Dies k left) o = option_map_or (λ x. option_map (ended left) o) (up_in o) o
-  made (Happening.Breaks k d left sent) o = option_map_or (λ x. option_map (ended left) o) (up_in o) o
+  made (Happening.Starts k sites) o = option_map (start_process all sites) o
+  made (Happening.Comes k d) o = option_map_or (λ x. option_map (turn_process x (turn_on (kn o) x (arrival (kn o) x.id d))) o) (up_in o) o
+  made (Happening.Dies k left) o = option_map_or (λ x. option_map (end_process left) o) (up_in o) o
+  made (Happening.Breaks k d left sent) o = option_map_or (λ x. option_map (end_process left) o) (up_in o) o
 
   abbrev pub given : Happening → Option Process → List Datagram
   given (Happening.Starts k sites) o = []
@@ -50,8 +50,8 @@ module _ (all : Catalogue) (id : ℕ) where
   pub makes : (what : Happening) (c : ClusterState) → Makes what c
   unfolding after
   makes (Happening.Starts k sites) c = record {
-    process = same_of k (started all sites) (keeps_id all sites) c.processes;
-    other = other_of k (started all sites) (keeps_id all sites) c.processes;
+    process = same_of k (start_process all sites) (keeps_id all sites) c.processes;
+    other = other_of k (start_process all sites) (keeps_id all sites) c.processes;
     handed = sym (append-nil c.handed);
   }
   makes (Happening.Comes k d) c = record {
@@ -60,13 +60,13 @@ module _ (all : Catalogue) (id : ℕ) where
     handed = hand (running k c);
   }
     where
-      go : (o : Option SiteState) → process_of id (for_some o (whole_turn (known all id c) id d) c).processes ≡ option_map_or (λ x. option_map (turned x (turn_on (known all id c) x (arrival (known all id c) x.id d))) (process_of id c.processes)) o (process_of id c.processes)
+      go : (o : Option SiteState) → process_of id (for_some o (whole_turn (known all id c) id d) c).processes ≡ option_map_or (λ x. option_map (turn_process x (turn_on (known all id c) x (arrival (known all id c) x.id d))) (process_of id c.processes)) o (process_of id c.processes)
       go None = refl
-      go (Some x) = process-same id (turned x (turn_on (known all id c) x (arrival (known all id c) x.id d))) c.processes (λ p. refl)
+      go (Some x) = process-same id (turn_process x (turn_on (known all id c) x (arrival (known all id c) x.id d))) c.processes (λ p. refl)
 
       off : k ≢ id → (o : Option SiteState) → process_of id (for_some o (whole_turn (known all k c) k d) c).processes ≡ process_of id c.processes
       off n None = refl
-      off n (Some x) = other_of k (turned x (turn_on (known all k c) x (arrival (known all k c) x.id d))) (λ p. refl) c.processes n
+      off n (Some x) = other_of k (turn_process x (turn_on (known all k c) x (arrival (known all k c) x.id d))) (λ p. refl) c.processes n
 
       hand : (o : Option SiteState) → (for_some o (whole_turn (known all k c) k d) c).handed ≡ c.handed ++ option_map_or (λ x. (turn_on (known all k c) x (arrival (known all k c) x.id d)).datagrams) o []
       hand None = sym (append-nil c.handed)
@@ -77,13 +77,13 @@ module _ (all : Catalogue) (id : ℕ) where
     handed = hand (running k c);
   }
     where
-      go : (o : Option SiteState) → process_of id (for_some o (dead id left) c).processes ≡ option_map_or (λ x. option_map (ended left) (process_of id c.processes)) o (process_of id c.processes)
+      go : (o : Option SiteState) → process_of id (for_some o (dead id left) c).processes ≡ option_map_or (λ x. option_map (end_process left) (process_of id c.processes)) o (process_of id c.processes)
       go None = refl
-      go (Some x) = process-same id (ended left) c.processes (λ p. refl)
+      go (Some x) = process-same id (end_process left) c.processes (λ p. refl)
 
       off : k ≢ id → (o : Option SiteState) → process_of id (for_some o (dead k left) c).processes ≡ process_of id c.processes
       off n None = refl
-      off n (Some x) = other_of k (ended left) (λ p. refl) c.processes n
+      off n (Some x) = other_of k (end_process left) (λ p. refl) c.processes n
 
       hand : (o : Option SiteState) → (for_some o (dead k left) c).handed ≡ c.handed ++ []
       hand None = sym (append-nil c.handed)
@@ -94,13 +94,13 @@ module _ (all : Catalogue) (id : ℕ) where
     handed = hand (running k c);
   }
     where
-      go : (o : Option SiteState) → process_of id (for_some o (broken_turn (known all id c) id d left sent) c).processes ≡ option_map_or (λ x. option_map (ended left) (process_of id c.processes)) o (process_of id c.processes)
+      go : (o : Option SiteState) → process_of id (for_some o (broken_turn (known all id c) id d left sent) c).processes ≡ option_map_or (λ x. option_map (end_process left) (process_of id c.processes)) o (process_of id c.processes)
       go None = refl
-      go (Some x) = process-same id (ended left) c.processes (λ p. refl)
+      go (Some x) = process-same id (end_process left) c.processes (λ p. refl)
 
       off : k ≢ id → (o : Option SiteState) → process_of id (for_some o (broken_turn (known all k c) k d left sent) c).processes ≡ process_of id c.processes
       off n None = refl
-      off n (Some x) = other_of k (ended left) (λ p. refl) c.processes n
+      off n (Some x) = other_of k (end_process left) (λ p. refl) c.processes n
 
       hand : (o : Option SiteState) → (for_some o (broken_turn (known all k c) k d left sent) c).handed ≡ c.handed ++ option_map_or (λ x. take sent (turn_on (known all k c) x (arrival (known all k c) x.id d)).datagrams) o []
       hand None = sym (append-nil c.handed)

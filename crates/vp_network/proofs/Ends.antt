@@ -15,8 +15,8 @@ use Rattle.vp_runs.specs.Arrivals.{arrival}
 use Rattle.vp_runs.specs.Keeping.{durable_in}
 use Rattle.vp_runs.specs.Turns.{turn_on}
 use Rattle.vp_runs.specs.Runs.{NodeState, NodeRun, with_turn, start_of, after_turn, one_turn, node_run}
-use Rattle.vp_network.specs.Cluster.{Process, ClusterState, Happening, new_cluster, cluster, process_of, running, known, ended, dead, broken_turn, whose, after, MayAlone, May, MayAll}
-use Rattle.vp_network.specs.Lives.{lived, Lives}
+use Rattle.vp_network.specs.Cluster.{Process, ClusterState, Happening, new_cluster, cluster, process_of, running, known, end_process, dead, broken_turn, whose, after, MayAlone, May, MayAll}
+use Rattle.vp_network.specs.Lives.{happenings_of_life, Lives}
 use Rattle.vp_network.specs.Ends.{RunsBreak, RunsEnd, LivesFollow}
 use Rattle.vp_network.specs.Together.{MayAllAlone}
 use Rattle.vp_network.proofs.Lives.{goes, stays, runs_happen}
@@ -54,19 +54,19 @@ come_of : (id : ℕ) (arrived : List Datagram) → AreOf id (map (Happening.Come
 come_of id [] = tt
 come_of id (d ∷ arrived) = (refl, come_of id arrived)
 
-pub lived_of : (id : ℕ) (sites : List (ℕ × ℕ)) (arrived : List Datagram) → AreOf id (lived id sites arrived)
+pub lived_of : (id : ℕ) (sites : List (ℕ × ℕ)) (arrived : List Datagram) → AreOf id (happenings_of_life id sites arrived)
 lived_of id sites arrived = (refl, come_of id arrived)
 
-pub lived_front : (catalogue : Catalogue) (id : ℕ) (sites : List (ℕ × ℕ)) (front rest arrived : List Datagram) (c : ClusterState) → arrived ≡ front ++ rest → MayAll catalogue (lived id sites arrived) c → MayAll catalogue (lived id sites front) c
+pub lived_front : (catalogue : Catalogue) (id : ℕ) (sites : List (ℕ × ℕ)) (front rest arrived : List Datagram) (c : ClusterState) → arrived ≡ front ++ rest → MayAll catalogue (happenings_of_life id sites arrived) c → MayAll catalogue (happenings_of_life id sites front) c
 lived_front catalogue id sites front rest arrived c is h =
-    may_front catalogue (lived id sites front) (map (Happening.Comes id) rest) c
-    (subst (λ (xs : List Happening). MayAll catalogue xs c) (ap (lived id sites) is ∙ ap (λ (xs : List Happening). Happening.Starts id sites ∷ xs) (map-append (Happening.Comes id) front rest)) h)
+    may_front catalogue (happenings_of_life id sites front) (map (Happening.Comes id) rest) c
+    (subst (λ (xs : List Happening). MayAll catalogue xs c) (ap (happenings_of_life id sites) is ∙ ap (λ (xs : List Happening). Happening.Starts id sites ∷ xs) (map-append (Happening.Comes id) front rest)) h)
 
 come_alone : (catalogue : Catalogue) (id : ℕ) (arrived : List Datagram) (c : ClusterState) → MayAllAlone catalogue (map (Happening.Comes id) arrived) c
 come_alone catalogue id [] c = tt
 come_alone catalogue id (d ∷ arrived) c = (tt, come_alone catalogue id arrived (after catalogue (Happening.Comes id d) c))
 
-lived_alone : (catalogue : Catalogue) (id : ℕ) (sites : List (ℕ × ℕ)) (arrived : List Datagram) (c : ClusterState) → keys sites ≡ sites_of catalogue → MayAllAlone catalogue (lived id sites arrived) c
+lived_alone : (catalogue : Catalogue) (id : ℕ) (sites : List (ℕ × ℕ)) (arrived : List Datagram) (c : ClusterState) → keys sites ≡ sites_of catalogue → MayAllAlone catalogue (happenings_of_life id sites arrived) c
 lived_alone catalogue id sites arrived c e = (e, come_alone catalogue id arrived (after catalogue (Happening.Starts id sites) c))
 
 -- ---- a run until it stopped
@@ -130,7 +130,7 @@ dies catalogue c d id p sites run left l folds =
     let up : running id d ≡ Some run.node.site = ap (option_and_then (λ (p : Process). p.up)) l.process_is in
     let died : for_some (running id d) (dead id left) d ≡ dead id left run.node.site d = ap (λ (o : Option SiteState). for_some o (dead id left) d) up in (
       subst (λ (o : Option SiteState). IfSome o (λ site. durable_in catalogue id left ≡ durable_of site)) (sym up) folds,
-      ap (λ (e : ClusterState). process_of id e.processes) died ∙ process-same id (ended left) d.processes (λ p. refl) ∙ ap (option_map (ended left)) l.process_is,
+      ap (λ (e : ClusterState). process_of id e.processes) died ∙ process-same id (end_process left) d.processes (λ p. refl) ∙ ap (option_map (end_process left)) l.process_is,
       ap (λ (e : ClusterState). e.handed) died,
     )
 
@@ -140,17 +140,17 @@ runs_end catalogue c id p sites arrived n left at none lives folds =
     let here = record catalogue { sites = sites } in
     let came = take n arrived in
     let s = settle catalogue sites came (start_of here id p.batches) refl in
-    let later = for_each (lived id sites s.front) (after catalogue) c in
+    let later = for_each (happenings_of_life id sites s.front) (after catalogue) c in
     let l : Lives catalogue c id p sites (node_run here id p.batches s.front) later = runs_happen catalogue c id p sites s.front at none lives s.going in
     let left_folds : durable_in catalogue id left ≡ durable_of (node_run here id p.batches s.front).node.site = folds ∙ ap (λ (n : NodeState). durable_of n.site) (sym s.node) in
     let d = dies catalogue c later id p sites (node_run here id p.batches s.front) left l left_folds in
-    let end = then_one catalogue (lived id sites s.front) (Happening.Dies id left) c in
+    let end = then_one catalogue (happenings_of_life id sites s.front) (Happening.Dies id left) c in
     let is : arrived ≡ s.front ++ (s.rest ++ drop n arrived) = sym (take-append-drop n arrived) ∙ ap (λ ds. ds ++ drop n arrived) s.is ∙ append_assoc s.front s.rest (drop n arrived) in
     record {
-      happenings = lived id sites s.front ++ Happening.Dies id left ∷ [];
-      are_of = all_then id (lived id sites s.front) (Happening.Dies id left) (lived_of id sites s.front) refl;
-      alone = λ e. alone_then catalogue (lived id sites s.front) (Happening.Dies id left) c (lived_alone catalogue id sites s.front c e) d.0;
-      may = λ m. may_then catalogue (lived id sites s.front) (Happening.Dies id left) c (lived_front catalogue id sites s.front (s.rest ++ drop n arrived) arrived c is m) (d.0, tt);
+      happenings = happenings_of_life id sites s.front ++ Happening.Dies id left ∷ [];
+      are_of = all_then id (happenings_of_life id sites s.front) (Happening.Dies id left) (lived_of id sites s.front) refl;
+      alone = λ e. alone_then catalogue (happenings_of_life id sites s.front) (Happening.Dies id left) c (lived_alone catalogue id sites s.front c e) d.0;
+      may = λ m. may_then catalogue (happenings_of_life id sites s.front) (Happening.Dies id left) c (lived_front catalogue id sites s.front (s.rest ++ drop n arrived) arrived c is m) (d.0, tt);
       p = record p { sites = sites; batches = left; up = None };
       at = ap (λ (e : ClusterState). process_of id e.processes) end ∙ d.1;
       log = refl;
@@ -177,7 +177,7 @@ breaks catalogue c d id p sites run last left sent l folds =
     ap (λ (o : Option SiteState). for_some o (broken_turn (known catalogue id d) id last left sent) d) up ∙ ap (λ (k : Catalogue). broken_turn k id last left sent run.node.site d) known_is in (
       subst (λ (o : Option SiteState). IfSome o (λ site. durable_in catalogue id left ≡ durable_of (turn_on (known catalogue id d) site (arrival (known catalogue id d) site.id last)).site)) (sym up)
           (subst (λ (k : Catalogue). durable_in catalogue id left ≡ durable_of (turn_on k run.node.site (arrival k run.node.site.id last)).site) (sym known_is) folds),
-      ap (λ (e : ClusterState). process_of id e.processes) broke ∙ process-same id (ended left) d.processes (λ p. refl) ∙ ap (option_map (ended left)) l.process_is,
+      ap (λ (e : ClusterState). process_of id e.processes) broke ∙ process-same id (end_process left) d.processes (λ p. refl) ∙ ap (option_map (end_process left)) l.process_is,
       ap (λ (e : ClusterState). e.handed) broke,
     )
 
@@ -185,20 +185,20 @@ pub runs_break : RunsBreak
 runs_break catalogue c id p sites front last left sent at none lives going folds =
     let here : Catalogue = record catalogue { sites = sites } in
     let run = node_run here id p.batches front in
-    let later = for_each (lived id sites front) (after catalogue) c in
+    let later = for_each (happenings_of_life id sites front) (after catalogue) c in
     let l : Lives catalogue c id p sites run later = runs_happen catalogue c id p sites front at none lives going in
     let turn : node_run here id p.batches (front ++ last ∷ []) ≡ with_turn last (arrival here run.node.site.id last) (turn_on here run.node.site (arrival here run.node.site.id last)) run = runs_go_on here id p.batches front last ∙ goes catalogue sites last run going in
     let b = breaks catalogue c later id p sites run last left sent l (folds ∙ ap (λ (r : NodeRun). durable_of r.node.site) turn) in
-    let end = then_one catalogue (lived id sites front) (Happening.Breaks id last left sent) c in
+    let end = then_one catalogue (happenings_of_life id sites front) (Happening.Breaks id last left sent) c in
     let more : List Datagram = take sent (turn_on here run.node.site (arrival here run.node.site.id last)).datagrams in
-    let all : lived id sites (front ++ last ∷ []) ≡ lived id sites front ++ Happening.Comes id last ∷ [] = ap (λ (xs : List Happening). Happening.Starts id sites ∷ xs) (map-append (Happening.Comes id) front (last ∷ [])) in
+    let all : happenings_of_life id sites (front ++ last ∷ []) ≡ happenings_of_life id sites front ++ Happening.Comes id last ∷ [] = ap (λ (xs : List Happening). Happening.Starts id sites ∷ xs) (map-append (Happening.Comes id) front (last ∷ [])) in
     record {
-      happenings = lived id sites front ++ Happening.Breaks id last left sent ∷ [];
-      are_of = all_then id (lived id sites front) (Happening.Breaks id last left sent) (lived_of id sites front) refl;
-      alone = λ e. alone_then catalogue (lived id sites front) (Happening.Breaks id last left sent) c (lived_alone catalogue id sites front c e) b.0;
+      happenings = happenings_of_life id sites front ++ Happening.Breaks id last left sent ∷ [];
+      are_of = all_then id (happenings_of_life id sites front) (Happening.Breaks id last left sent) (lived_of id sites front) refl;
+      alone = λ e. alone_then catalogue (happenings_of_life id sites front) (Happening.Breaks id last left sent) c (lived_alone catalogue id sites front c e) b.0;
       may = λ m.
-          let each : MayAll catalogue (lived id sites front ++ Happening.Comes id last ∷ []) c = subst (λ (xs : List Happening). MayAll catalogue xs c) all m in
-          may_then catalogue (lived id sites front) (Happening.Breaks id last left sent) c (may_front catalogue (lived id sites front) (Happening.Comes id last ∷ []) c each) (b.0, (last_may catalogue (lived id sites front) (Happening.Comes id last) c each).1);
+          let each : MayAll catalogue (happenings_of_life id sites front ++ Happening.Comes id last ∷ []) c = subst (λ (xs : List Happening). MayAll catalogue xs c) all m in
+          may_then catalogue (happenings_of_life id sites front) (Happening.Breaks id last left sent) c (may_front catalogue (happenings_of_life id sites front) (Happening.Comes id last ∷ []) c each) (b.0, (last_may catalogue (happenings_of_life id sites front) (Happening.Comes id last) c each).1);
       p = record p { sites = sites; batches = left; up = None };
       at = ap (λ (e : ClusterState). process_of id e.processes) end ∙ b.1;
       log = refl;

@@ -25,7 +25,7 @@ use Rattle.vp_runs.proofs.Delivered.{IsSingle}
 use Rattle.vp_ports.specs.Ports.{site_from}
 use Rattle.vp_ports.proofs.Catalogues.{starts_are_same}
 use Rattle.vp_model.specs.Words.{keys}
-use Rattle.vp_network.specs.Cluster.{Process, ClusterState, process_of, change_process, running, started, ended, dead, IsLeft}
+use Rattle.vp_network.specs.Cluster.{Process, ClusterState, process_of, change_process, running, start_process, end_process, dead, IsLeft}
 use Rattle.vp_network.specs.Schedules.{no_port, act_of}
 use Rattle.vp_network.proofs.Extending.{run_over, then_run, run_more, crashes, restarts}
 use Rattle.vp_network.proofs.Linked.{process-id, Matches, Placed, AllPlaced, placed_on, IsKnown, Linked, Runs, runs, site_there}
@@ -90,7 +90,7 @@ module _ (catalogue : Catalogue) where
   none_placed : (id : ℕ) (f : Process → Process) → ((p : Process) → (f p).id ≡ p.id) → (ps : List Process) (w : WorldState) → AllPlaced catalogue ps w → process_of id ps ≡ None → AllPlaced catalogue (change_process id f ps) w
   none_placed id f keeps ps w all none = placed_on catalogue id f keeps ps w w all (λ k n. refl) (λ q there was. let z = sym none ∙ there in absurd cc)
 
-  pub keeps_id : (sites : List (ℕ × ℕ)) (p : Process) → (started catalogue sites p).id ≡ p.id
+  pub keeps_id : (sites : List (ℕ × ℕ)) (p : Process) → (start_process catalogue sites p).id ≡ p.id
   keeps_id sites p = go (is_some p.up) ((durable_in catalogue p.id p.batches).life == 2 ^ 32 - 1)
     where
       node : Process
@@ -116,8 +116,8 @@ module _ (catalogue : Catalogue) where
           let m : Moved = shows (record (counted w) { places = change_place id (λ place. record place { up = None }) w.places }) shown.Nothing in
           more c (dead id left x c) h (event.Crash id) tt tt
           (quiet c (run_over catalogue h.events) (event.Crash id) m h.linked (record { moved = crashes catalogue w id (site_from no_port x) (site_there catalogue id c w x r); no_act = λ n. refl; journal = refl; sent = refl; cuts = refl })
-          (change_process id (ended left) c.processes)
-          (one_placed id (ended left) (λ p. refl) c.processes w m.world h.linked.processes (λ k n. place-other id k (λ place. record place { up = None }) w.places (λ p. refl) n) r.p r.at
+          (change_process id (end_process left) c.processes)
+          (one_placed id (end_process left) (λ p. refl) c.processes w m.world h.linked.processes (λ k n. place-other id k (λ place. record place { up = None }) w.places (λ p. refl) n) r.p r.at
           (record r.place { up = None }, place-same id (λ place. record place { up = None }) w.places (λ p. refl) ∙ ap (option_map (λ (place : Place). record place { up = None })) r.there, Matches.ran (is_left ∙ r.kept) refl (λ y up. cc) (λ y up. cc))))
 
     -- ---- a process starts
@@ -127,13 +127,13 @@ module _ (catalogue : Catalogue) where
       here = record catalogue { sites = sites }
 
       abbrev pub begun : ClusterState
-      begun = with_processes (change_process id (started catalogue sites) c.processes) c
+      begun = with_processes (change_process id (start_process catalogue sites) c.processes) c
 
       -- it runs already, or its lives are spent
-      stays : (p : Process) → process_of id c.processes ≡ Some p → started catalogue sites p ≡ p → Held catalogue begun
+      stays : (p : Process) → process_of id c.processes ≡ Some p → start_process catalogue sites p ≡ p → Held catalogue begun
       stays p at e =
-          same c h (change_process id (started catalogue sites) c.processes)
-          (one_placed id (started catalogue sites) (keeps_id sites) c.processes w w h.linked.processes (λ k n. refl) p at (subst (λ q. Placed catalogue id q w) (sym e) (h.linked.processes id p at)))
+          same c h (change_process id (start_process catalogue sites) c.processes)
+          (one_placed id (start_process catalogue sites) (keeps_id sites) c.processes w w h.linked.processes (λ k n. refl) p at (subst (λ q. Placed catalogue id q w) (sym e) (h.linked.processes id p at)))
 
       module _ (p : Process) (at : process_of id c.processes ≡ Some p) (none : p.up ≡ None) (left : ((durable_in catalogue p.id p.batches).life == 2 ^ 32 - 1) ≡ false) where
         p_id : p.id ≡ id
@@ -142,7 +142,7 @@ module _ (catalogue : Catalogue) where
         abbrev node : Process
         node = record p { sites = sites; batches = (start_node (here) p.id p.batches).batches; up = Some (start_node (here) p.id p.batches).site }
 
-        starts_so : started catalogue sites p ≡ node
+        starts_so : start_process catalogue sites p ≡ node
         starts_so = rw (none, left) refl
 
         abbrev d : DurableState
@@ -175,8 +175,8 @@ module _ (catalogue : Catalogue) where
         starts_new place there b is =
             let empty = empty_durable (start_copies catalogue id) in
             let d_is : d ≡ empty = ap (durable_in catalogue id) b in
-            same c h (change_process id (started catalogue sites) c.processes)
-            (one_placed id (started catalogue sites) (keeps_id sites) c.processes w w h.linked.processes (λ k n. refl) p at
+            same c h (change_process id (start_process catalogue sites) c.processes)
+            (one_placed id (start_process catalogue sites) (keeps_id sites) c.processes w w h.linked.processes (λ k n. refl) p at
             (subst (λ q. Placed catalogue id q w) (sym starts_so)
             (place, there, matches place (ap (λ (q : Place). q.durable) is ∙ ap (λ (e : DurableState). apply (start_record e) e) (sym d_is)) (ap (λ (q : Place). q.up) is ∙ ap (λ (e : DurableState). Some (start catalogue id e)) (sym d_is)))))
 
@@ -187,8 +187,8 @@ module _ (catalogue : Catalogue) where
             let life : (place.durable.life == 2 ^ 32 - 1) ≡ false = ap (λ (e : DurableState). e.life == 2 ^ 32 - 1) (sym folds) ∙ ap (λ n. (durable_in catalogue n p.batches).life == 2 ^ 32 - 1) (sym p_id) ∙ left in
             more c begun h (event.Restart id) tt tt
             (quiet c (run_over catalogue h.events) (event.Restart id) m h.linked (record { moved = restarts catalogue w id place there place_is down life; no_act = λ n. refl; journal = refl; sent = refl; cuts = refl })
-            (change_process id (started catalogue sites) c.processes)
-            (one_placed id (started catalogue sites) (keeps_id sites) c.processes w m.world h.linked.processes (λ k n. place-other id k (restart_place catalogue) w.places (λ p. refl) n) p at
+            (change_process id (start_process catalogue sites) c.processes)
+            (one_placed id (start_process catalogue sites) (keeps_id sites) c.processes w m.world h.linked.processes (λ k n. place-other id k (restart_place catalogue) w.places (λ p. refl) n) p at
             (subst (λ q. Placed catalogue id q m.world) (sym starts_so) (
               restart_place catalogue place,
               place-same id (restart_place catalogue) w.places (λ p. refl) ∙ ap (option_map (restart_place catalogue)) there,
@@ -211,5 +211,5 @@ module _ (catalogue : Catalogue) where
           by_up p at None e = by_life p at e ((durable_in catalogue p.id p.batches).life == 2 ^ 32 - 1) refl
 
           go : (o : Option Process) → process_of id c.processes ≡ o → Held catalogue begun
-          go None e = same c h (change_process id (started catalogue sites) c.processes) (none_placed id (started catalogue sites) (keeps_id sites) c.processes w h.linked.processes e)
+          go None e = same c h (change_process id (start_process catalogue sites) c.processes) (none_placed id (start_process catalogue sites) (keeps_id sites) c.processes w h.linked.processes e)
           go (Some p) e = by_up p e p.up refl

@@ -15,7 +15,7 @@ use Rattle.vp_runs.specs.Arrivals.{arrival}
 use Rattle.vp_runs.specs.Turns.{turn_on}
 use Rattle.vp_network.specs.Cluster.{Process, ClusterState, Happening, new_cluster, process_of, known, whose, datagram_of, after, cluster, IsLeft, MayAlone, IsHonest, ComesHonestly, MayAll}
 use Rattle.vp_network.specs.Apart.{own}
-use Rattle.vp_network.specs.Together.{Timed, AreInOrder, happened, before, MayAllAlone, IsHandedBefore, ComeAfter, ProcessesMakeClusters}
+use Rattle.vp_network.specs.Together.{Timed, AreInOrder, happenings_of, before, MayAllAlone, IsHandedBefore, ComeAfter, ProcessesMakeClusters}
 use Rattle.vp_network.proofs.Apart.{given, makes, processes_are_apart}
 
 module _ (catalogue : Catalogue) where
@@ -97,42 +97,42 @@ module _ (catalogue : Catalogue) where
   -- ---- the whole
 
   abbrev so_far : List Timed → ClusterState
-  so_far front = for_each (happened front) (after catalogue) (new_cluster catalogue)
+  so_far front = for_each (happenings_of front) (after catalogue) (new_cluster catalogue)
 
   abbrev own_so_far : ℕ → List Timed → ClusterState
-  own_so_far id front = for_each (own id (happened front)) (after catalogue) (new_cluster catalogue)
+  own_so_far id front = for_each (own id (happenings_of front)) (after catalogue) (new_cluster catalogue)
 
   same_process : (front : List Timed) (id : ℕ) → process_of id (so_far front).processes ≡ process_of id (own_so_far id front).processes
-  same_process front id = (processes_are_apart catalogue (new_cluster catalogue) (happened front) id).process
+  same_process front id = (processes_are_apart catalogue (new_cluster catalogue) (happenings_of front) id).process
 
   handed_by_then : (front rest : List Timed) (t : Timed) → AreInOrder (front ++ t ∷ rest) → (d : Datagram) → IsHandedBefore catalogue (front ++ t ∷ rest) t.moment d → Contains (so_far front).handed d
   unfolding cluster
   handed_by_then front rest t order d (id, has) =
       let b = begins front rest t order in
       let of_first : Contains (own_so_far id b.first).handed d = subst (λ ts. Contains (own_so_far id ts).handed d) b.before_is has in
-      let in_first = (processes_are_apart catalogue (new_cluster catalogue) (happened b.first) id).handed d of_first in
-      let is : so_far front ≡ for_each (happened b.later) (after catalogue) (so_far b.first) = ap so_far b.is ∙ ap (λ hs. for_each hs (after catalogue) (new_cluster catalogue)) (map-append (λ (t : Timed). t.what) b.first b.later) ∙ over_more (happened b.first) (happened b.later) (new_cluster catalogue) in
-      contains _ d (subst (λ (c : ClusterState). Has c.handed d) (sym is) (stays (happened b.later) (so_far b.first) d (has_of _ d in_first)))
+      let in_first = (processes_are_apart catalogue (new_cluster catalogue) (happenings_of b.first) id).handed d of_first in
+      let is : so_far front ≡ for_each (happenings_of b.later) (after catalogue) (so_far b.first) = ap so_far b.is ∙ ap (λ hs. for_each hs (after catalogue) (new_cluster catalogue)) (map-append (λ (t : Timed). t.what) b.first b.later) ∙ over_more (happenings_of b.first) (happenings_of b.later) (new_cluster catalogue) in
+      contains _ d (subst (λ (c : ClusterState). Has c.handed d) (sym is) (stays (happenings_of b.later) (so_far b.first) d (has_of _ d in_first)))
 
-  module _ (all : List Timed) (order : AreInOrder all) (each : (id : ℕ) → MayAllAlone catalogue (own id (happened all)) (new_cluster catalogue)) (come : ComeAfter catalogue all) where
+  module _ (all : List Timed) (order : AreInOrder all) (each : (id : ℕ) → MayAllAlone catalogue (own id (happenings_of all)) (new_cluster catalogue)) (come : ComeAfter catalogue all) where
     one_may : (front rest : List Timed) (t : Timed) → all ≡ front ++ t ∷ rest → MayAlone catalogue t.what (so_far front) × ComesHonestly catalogue (Contains (so_far front).handed) t.what (so_far front)
     unfolding cluster
     one_may front rest t e =
         let id = whose t.what in
-        let own_is : own id (happened all) ≡ own id (happened front) ++ t.what ∷ own id (happened rest) = ap (λ ts. own id (happened ts)) e ∙ ap (own id) (map-append (λ (t : Timed). t.what) front (t ∷ rest)) ∙ own_at (happened front) (happened rest) t.what in
-        let may = alone_at (own id (happened front)) (own id (happened rest)) t.what (new_cluster catalogue) (subst (λ hs. MayAllAlone catalogue hs (new_cluster catalogue)) own_is (each id)) in (
+        let own_is : own id (happenings_of all) ≡ own id (happenings_of front) ++ t.what ∷ own id (happenings_of rest) = ap (λ ts. own id (happenings_of ts)) e ∙ ap (own id) (map-append (λ (t : Timed). t.what) front (t ∷ rest)) ∙ own_at (happenings_of front) (happenings_of rest) t.what in
+        let may = alone_at (own id (happenings_of front)) (own id (happenings_of rest)) t.what (new_cluster catalogue) (subst (λ hs. MayAllAlone catalogue hs (new_cluster catalogue)) own_is (each id)) in (
           allows t.what (so_far front) (own_so_far id front) (same_process front id) may,
           comes (IsHandedBefore catalogue all t.moment) (Contains (so_far front).handed)
               (λ d has. handed_by_then front rest t (subst AreInOrder e order) d (subst (λ ts. IsHandedBefore catalogue ts t.moment d) e has))
               t.what (so_far front) (own_so_far id front) (same_process front id) (come front rest t e),
         )
 
-    all_may : (front rest : List Timed) → all ≡ front ++ rest → MayAll catalogue (happened rest) (so_far front)
+    all_may : (front rest : List Timed) → all ≡ front ++ rest → MayAll catalogue (happenings_of rest) (so_far front)
     all_may front [] e = tt
     all_may front (t ∷ rest) e =
-        let next : so_far (front ++ t ∷ []) ≡ after catalogue t.what (so_far front) = ap (λ hs. for_each hs (after catalogue) (new_cluster catalogue)) (map-append (λ (t : Timed). t.what) front (t ∷ [])) ∙ over_more (happened front) (t.what ∷ []) (new_cluster catalogue) in (
+        let next : so_far (front ++ t ∷ []) ≡ after catalogue t.what (so_far front) = ap (λ hs. for_each hs (after catalogue) (new_cluster catalogue)) (map-append (λ (t : Timed). t.what) front (t ∷ [])) ∙ over_more (happenings_of front) (t.what ∷ []) (new_cluster catalogue) in (
           one_may front rest t e,
-          subst (MayAll catalogue (happened rest)) next (all_may (front ++ t ∷ []) rest (e ∙ sym (append_assoc front (t ∷ []) rest))),
+          subst (MayAll catalogue (happenings_of rest)) next (all_may (front ++ t ∷ []) rest (e ∙ sym (append_assoc front (t ∷ []) rest))),
         )
 
 pub processes_make_clusters : ProcessesMakeClusters

@@ -23,7 +23,7 @@ use Rattle.vp_runs.proofs.Checkpoints.{steps_fold}
 use Rattle.vp_ports.specs.Ports.{AreAlike}
 use Rattle.vp_ports.proofs.Catalogues.{steps_are_same}
 use Rattle.std.specs.Option.{option_map_or}
-use Rattle.vp_network.specs.Cluster.{Process, known, ClusterState, Happening, process_of, change_process, running, ended, dead, turned, act, acts_on, with_turn, whole_turn, broken_turn, after, IsHonest, IsLeft, May, MayAll}
+use Rattle.vp_network.specs.Cluster.{Process, known, ClusterState, Happening, process_of, change_process, running, end_process, dead, turn_process, act, acts_on, with_turn, whole_turn, broken_turn, after, IsHonest, IsLeft, May, MayAll}
 use Rattle.vp_network.proofs.Extending.{run_over}
 use Rattle.vp_network.proofs.Coming.{gives}
 use Rattle.vp_network.proofs.Linked.{process-same, changed_twice, changed_alike, Placed, Runs, runs}
@@ -64,23 +64,23 @@ module _ (catalogue : Catalogue) (k : IsCatalogue catalogue) (id : ℕ) (c : Clu
   nothing_more ps ds e = rw (e, append-nil c.handed, append-nil c.acts) refl
 
   -- a process that does nothing
-  unchanged : Held catalogue (with_turn id (turned x (quiet_turn x false)) [] [] c)
+  unchanged : Held catalogue (with_turn id (turn_process x (quiet_turn x false)) [] [] c)
   unchanged =
-      let ps = change_process id (turned x (quiet_turn x false)) c.processes in
+      let ps = change_process id (turn_process x (quiet_turn x false)) c.processes in
       subst (Held catalogue) (nothing_more ps [] refl)
       (same catalogue c h ps
-      (one_placed catalogue id (turned x (quiet_turn x false)) (λ p. refl) c.processes run.world run.world h.linked.processes (λ k n. refl) r.p r.at
+      (one_placed catalogue id (turn_process x (quiet_turn x false)) (λ p. refl) c.processes run.world run.world h.linked.processes (λ k n. refl) r.p r.at
       (subst (λ q. Placed catalogue id q run.world) (ap (λ u. record r.p { up = u }) r.up) (h.linked.processes id r.p r.at))))
 
   -- a process that ends
-  ends : Held catalogue (with_turn id (turned x (quiet_turn x true)) [] [] c)
+  ends : Held catalogue (with_turn id (turn_process x (quiet_turn x true)) [] [] c)
   ends =
-      let ps = change_process id (turned x (quiet_turn x true)) c.processes in
+      let ps = change_process id (turn_process x (quiet_turn x true)) c.processes in
       subst (Held catalogue) (nothing_more ps [] refl)
       (subst (λ qs. Held catalogue (with_processes catalogue qs c)) (same_change r.p r.at) (kill catalogue id c h r.p.batches x up (r.folds ∙ sym r.kept)))
     where
-      same_change : (p : Process) → process_of id c.processes ≡ Some p → change_process id (ended p.batches) c.processes ≡ change_process id (turned x (quiet_turn x true)) c.processes
-      same_change p at = changed_alike id (ended p.batches) (turned x (quiet_turn x true)) c.processes p at refl
+      same_change : (p : Process) → process_of id c.processes ≡ Some p → change_process id (end_process p.batches) c.processes ≡ change_process id (turn_process x (quiet_turn x true)) c.processes
+      same_change p at = changed_alike id (end_process p.batches) (turn_process x (quiet_turn x true)) c.processes p at refl
 
   folds_on : (given : Input) → durable_in catalogue id (kept_with (durable_of (step catalogue x given).site) (step catalogue x given).effects.records r.p.batches) ≡ durable_of (step catalogue x given).site
   folds_on given =
@@ -91,13 +91,13 @@ module _ (catalogue : Catalogue) (k : IsCatalogue catalogue) (id : ℕ) (c : Clu
   unfolding turn_on
   whole = go (arrival here x.id d) refl
     where
-      go : (what : Arrival) → arrival here x.id d ≡ what → Held catalogue (with_turn id (turned x (turn_on here x what)) (turn_on here x what).datagrams (acts_on here x what) c)
+      go : (what : Arrival) → arrival here x.id d ≡ what → Held catalogue (with_turn id (turn_process x (turn_on here x what)) (turn_on here x what).datagrams (acts_on here x what) c)
       go (Bad at) e = unchanged
       go Stray e = unchanged
       go Stops e = ends
       go (Gives given) e =
-          subst (λ (o : Stepped). Held catalogue (with_turn id (turned x (step_turn here x.id o)) (datagrams_of here x.id o.effects) (act x.id given o.effects ∷ []) c)) (step_same given)
-          (stepped given e (turned x (step_turn here x.id (step catalogue x given))) (λ p. refl) r.alike refl (folds_on given) (datagrams_of here x.id (step catalogue x given).effects) (λ d h. h))
+          subst (λ (o : Stepped). Held catalogue (with_turn id (turn_process x (step_turn here x.id o)) (datagrams_of here x.id o.effects) (act x.id given o.effects ∷ []) c)) (step_same given)
+          (stepped given e (turn_process x (step_turn here x.id (step catalogue x given))) (λ p. refl) r.alike refl (folds_on given) (datagrams_of here x.id (step catalogue x given).effects) (λ d h. h))
 
   -- ---- a kill within the turn
 
@@ -105,32 +105,32 @@ module _ (catalogue : Catalogue) (k : IsCatalogue catalogue) (id : ℕ) (c : Clu
     abbrev alive : SiteState → Process → Process
     alive y p = record p { up = Some y }
 
-    breaks_quiet : durable_in catalogue id batches ≡ durable_of x → Held catalogue (with_turn id (ended batches) (take sent []) [] c)
-    breaks_quiet left = subst (Held catalogue) (nothing_more (change_process id (ended batches) c.processes) (take sent []) (take_none sent [] refl)) (kill catalogue id c h batches x up left)
+    breaks_quiet : durable_in catalogue id batches ≡ durable_of x → Held catalogue (with_turn id (end_process batches) (take sent []) [] c)
+    breaks_quiet left = subst (Held catalogue) (nothing_more (change_process id (end_process batches) c.processes) (take sent []) (take_none sent [] refl)) (kill catalogue id c h batches x up left)
 
     breaks_step : (given : Input) → arrival here x.id d ≡ Gives given → durable_in catalogue id batches ≡ durable_of (step catalogue x given).site
-        → Held catalogue (with_turn id (ended batches) (take sent (datagrams_of here x.id (step catalogue x given).effects)) (act x.id given (step catalogue x given).effects ∷ []) c)
+        → Held catalogue (with_turn id (end_process batches) (take sent (datagrams_of here x.id (step catalogue x given).effects)) (act x.id given (step catalogue x given).effects ∷ []) c)
     unfolding turn_on
     breaks_step given e left =
         let o = step catalogue x given in
         let ds = datagrams_of here x.id o.effects in
-        let f = turned x (step_turn here x.id o) in
+        let f = turn_process x (step_turn here x.id o) in
         let c1 = with_turn id f (take sent ds) (act x.id given o.effects ∷ []) c in
         let runs_now : running id c1 ≡ Some o.site = ap (option_and_then (λ (p : Process). p.up)) (process-same id f c.processes (λ p. refl) ∙ ap (option_map f) r.at) in
         let killed = kill catalogue id c1 (stepped given e f (λ p. refl) r.alike refl (folds_on given) (take sent ds) (λ d h. take_has sent ds d h)) batches o.site runs_now left in
-        subst (Held catalogue) (ap (λ ps. with_processes catalogue ps c1) (changed_twice id (ended batches) f (λ p. refl) c.processes)) killed
+        subst (Held catalogue) (ap (λ ps. with_processes catalogue ps c1) (changed_twice id (end_process batches) f (λ p. refl) c.processes)) killed
 
     pub breaks : IsLeft catalogue id batches (turn_on here x (arrival here x.id d)).site → Held catalogue (broken_turn here id d batches sent x c)
     unfolding turn_on
     breaks left = go (arrival here x.id d) refl left
       where
         go : (what : Arrival) → arrival here x.id d ≡ what → durable_in catalogue id batches ≡ durable_of (turn_on here x what).site
-            → Held catalogue (with_turn id (ended batches) (take sent (turn_on here x what).datagrams) (acts_on here x what) c)
+            → Held catalogue (with_turn id (end_process batches) (take sent (turn_on here x what).datagrams) (acts_on here x what) c)
         go (Bad at) e left = breaks_quiet left
         go Stray e left = breaks_quiet left
         go Stops e left = breaks_quiet left
         go (Gives given) e left =
-            subst (λ (o : Stepped). Held catalogue (with_turn id (ended batches) (take sent (datagrams_of here x.id o.effects)) (act x.id given o.effects ∷ []) c)) (step_same given)
+            subst (λ (o : Stepped). Held catalogue (with_turn id (end_process batches) (take sent (datagrams_of here x.id o.effects)) (act x.id given o.effects ∷ []) c)) (step_same given)
             (breaks_step given e (left ∙ ap (λ (o : Stepped). durable_of o.site) (sym (step_same given))))
 
 -- ---- every happening

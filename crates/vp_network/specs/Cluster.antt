@@ -76,22 +76,22 @@ pub data Happening : Type 0 where
   Breaks : ℕ → Datagram → List (List LogRecord) → ℕ → Happening
 
 -- a process that runs already stays as it is, and so does one whose lives are spent
-abbrev pub started : Catalogue → List (ℕ × ℕ) → Process → Process
-started catalogue sites p =
+abbrev pub start_process : Catalogue → List (ℕ × ℕ) → Process → Process
+start_process catalogue sites p =
     let node = start_node (record catalogue { sites = sites }) p.id p.batches in
     if is_some p.up
     then p
     else (if (durable_in catalogue p.id p.batches).life == 2 ^ 32 - 1 then p else record p { sites = sites; batches = node.batches; up = Some node.site })
 
 -- the node after a turn; it no longer runs if the turn ends it
-abbrev pub turned : SiteState → Turn → Process → Process
-turned site turn p =
+abbrev pub turn_process : SiteState → Turn → Process → Process
+turn_process site turn p =
     let node = after_turn (record { site = site; batches = p.batches }) turn in
     record p { batches = node.batches; up = if turn.stop then None else Some node.site }
 
 -- the process no longer runs, and its log has these batches
-abbrev pub ended : List (List LogRecord) → Process → Process
-ended left p = record p { batches = left; up = None }
+abbrev pub end_process : List (List LogRecord) → Process → Process
+end_process left p = record p { batches = left; up = None }
 
 -- the step of a turn that does one
 abbrev pub act : ℕ → Input → Effects → Act
@@ -112,19 +112,19 @@ abbrev pub whole_turn : Catalogue → ℕ → Datagram → SiteState → Cluster
 whole_turn catalogue id d site c =
     let what = arrival catalogue site.id d in
     let turn = turn_on catalogue site what in
-    with_turn id (turned site turn) turn.datagrams (acts_on catalogue site what) c
+    with_turn id (turn_process site turn) turn.datagrams (acts_on catalogue site what) c
 
 abbrev pub broken_turn : Catalogue → ℕ → Datagram → List (List LogRecord) → ℕ → SiteState → ClusterState → ClusterState
 broken_turn catalogue id d left sent site c =
     let what = arrival catalogue site.id d in
-    with_turn id (ended left) (take sent (turn_on catalogue site what).datagrams) (acts_on catalogue site what) c
+    with_turn id (end_process left) (take sent (turn_on catalogue site what).datagrams) (acts_on catalogue site what) c
 
 abbrev pub dead : ℕ → List (List LogRecord) → SiteState → ClusterState → ClusterState
-dead id left site c = record c { processes = change_process id (ended left) c.processes }
+dead id left site c = record c { processes = change_process id (end_process left) c.processes }
 
 -- nothing comes to a process that doesn't run
 unfoldable pub after : Catalogue → Happening → ClusterState → ClusterState
-after catalogue (Happening.Starts id sites) c = record c { processes = change_process id (started catalogue sites) c.processes }
+after catalogue (Happening.Starts id sites) c = record c { processes = change_process id (start_process catalogue sites) c.processes }
 after catalogue (Happening.Comes id d) c = c |> for_some (running id c) (whole_turn (known catalogue id c) id d)
 after catalogue (Happening.Dies id left) c = c |> for_some (running id c) (dead id left)
 after catalogue (Happening.Breaks id d left sent) c = c |> for_some (running id c) (broken_turn (known catalogue id c) id d left sent)

@@ -11,7 +11,7 @@ use Rattle.vp_runs.specs.Keeping.{durable_in}
 use Rattle.vp_runs.specs.Turns.{turn_on}
 use Rattle.vp_runs.specs.Runs.{node_run}
 use Rattle.vp_network.specs.Cluster.{Process, ClusterState, Happening, new_cluster, process_of, whose, after, cluster, MayAll}
-use Rattle.vp_network.specs.Lives.{lived}
+use Rattle.vp_network.specs.Lives.{happenings_of_life}
 use Rattle.vp_network.specs.Together.{MayAllAlone}
 
 -- What happened to a process that started and got these datagrams, until its end. Its process allows it, and it may happen if they may
@@ -20,7 +20,7 @@ pub record Happened (catalogue : Catalogue) (c : ClusterState) (id : ℕ) (sites
   pub happenings : List Happening
   pub are_of : AllByRecursion (λ h. whose h ≡ id) happenings
   pub alone : keys sites ≡ sites_of catalogue → MayAllAlone catalogue happenings c
-  pub may : MayAll catalogue (lived id sites arrived) c → MayAll catalogue happenings c
+  pub may : MayAll catalogue (happenings_of_life id sites arrived) c → MayAll catalogue happenings c
   pub p : Process
   pub at : process_of id (for_each happenings (after catalogue) c).processes ≡ Some p
   pub log : p.batches ≡ left

@@ -16,15 +16,15 @@ abbrev pub AreInOrder : List Timed → Type 0
 AreInOrder [] = ⊤
 AreInOrder (t ∷ all) = AllByRecursion (λ (later : Timed). t.moment ≤ later.moment) all × AreInOrder all
 
-abbrev pub happened : List Timed → List Happening
-happened all = map (λ (t : Timed). t.what) all
+abbrev pub happenings_of : List Timed → List Happening
+happenings_of all = map (λ (t : Timed). t.what) all
 
 abbrev pub before : ℕ → List Timed → List Timed
 before moment all = filter (λ (t : Timed). nat_lt t.moment moment) all
 
 -- the cluster in which things happened to this one process alone
 abbrev pub cluster_alone : Catalogue → ℕ → List Timed → ClusterState
-cluster_alone catalogue id all = cluster catalogue (own id (happened all))
+cluster_alone catalogue id all = cluster catalogue (own id (happenings_of all))
 
 -- each of them may happen to its process once those before it have, whatever the network brings
 abbrev pub MayAllAlone : Catalogue → List Happening → ClusterState → Type 0
@@ -43,5 +43,5 @@ ComeAfter catalogue all =
 -- What happened to all processes, put in the order of its moments, may happen, if what happened to each process may, whatever the network
 -- brings, and each message came after it was handed over.
 abbrev pub ProcessesMakeClusters : Type 0
-ProcessesMakeClusters = (catalogue : Catalogue) (all : List Timed) → AreInOrder all → ((id : ℕ) → MayAllAlone catalogue (own id (happened all)) (new_cluster catalogue)) → ComeAfter catalogue all
-    → MayAll catalogue (happened all) (new_cluster catalogue)
+ProcessesMakeClusters = (catalogue : Catalogue) (all : List Timed) → AreInOrder all → ((id : ℕ) → MayAllAlone catalogue (own id (happenings_of all)) (new_cluster catalogue)) → ComeAfter catalogue all
+    → MayAll catalogue (happenings_of all) (new_cluster catalogue)

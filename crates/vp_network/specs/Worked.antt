@@ -11,7 +11,7 @@ use Rattle.vp_wire.specs.declared.frame.Body.TheVariants as body
 use Rattle.vp_wire.specs.Grammar.{frame_of}
 use Rattle.vp_runs.specs.Turns.{datagram_to}
 use Rattle.vp_runs.specs.Asking.{call_frame}
-use Rattle.vp_runs.specs.Worked.{both, txn, called}
+use Rattle.vp_runs.specs.Worked.{both, txn, datagram_of_call}
 use Rattle.vp_network.specs.Cluster.{Happening}
 
 -- a message as it comes: from its sender's port
@@ -25,26 +25,26 @@ abbrev pub writes : List (ℕ × List ℕ)
 writes = (0, codes "11") ∷ []
 
 -- a client writes x at site 1, and commits; site 2 votes
-abbrev pub prepared : List Happening
-prepared =
+abbrev pub prepared_run : List Happening
+prepared_run =
     Happening.Starts 1 both.sites
     ∷ Happening.Starts 2 both.sites
-    ∷ Happening.Comes 1 (called call.Begin)
-    ∷ Happening.Comes 1 (called (call.Write (txn 1) 1 (codes "x") (codes "11")))
+    ∷ Happening.Comes 1 (datagram_of_call call.Begin)
+    ∷ Happening.Comes 1 (datagram_of_call (call.Write (txn 1) 1 (codes "x") (codes "11")))
     ∷ Happening.Comes 2 (from_one (message.WriteRequest (txn 1) opening 1 0))
     ∷ Happening.Comes 1 (from_two (message.WriteAnswer (txn 1) 1))
-    ∷ Happening.Comes 1 (called (call.Commit (txn 1) 2))
+    ∷ Happening.Comes 1 (datagram_of_call (call.Commit (txn 1) 2))
     ∷ Happening.Comes 2 (from_one (message.Prepare (txn 1) opening 2 [] writes))
     ∷ []
 
-abbrev pub decided : List (List LogRecord)
-decided = (log_record.Start 1 ∷ []) ∷ (log_record.Commit (txn 1) opening writes (2 ∷ []) ∷ []) ∷ []
+abbrev pub decided_log : List (List LogRecord)
+decided_log = (log_record.Start 1 ∷ []) ∷ (log_record.Commit (txn 1) opening writes (2 ∷ []) ∷ []) ∷ []
 
 -- Site 1 is killed as it decides: the decision is in its log, and the outcome was handed over, but not the answer. It starts again, at
 -- another port; the outcome comes twice, and site 2 is killed after it.
-abbrev pub killed : List Happening
-killed =
-    Happening.Breaks 1 (from_two (message.Vote (txn 1))) decided 1
+abbrev pub killed_run : List Happening
+killed_run =
+    Happening.Breaks 1 (from_two (message.Vote (txn 1))) decided_log 1
     ∷ Happening.Starts 1 ((1, 7003) ∷ (2, 7002) ∷ [])
     ∷ Happening.Comes 2 (from_one (message.Outcome (txn 1) true))
     ∷ Happening.Comes 2 (from_one (message.Outcome (txn 1) true))
@@ -66,14 +66,14 @@ abbrev pub at_two : Call → Datagram
 at_two words = datagram_to 7100 (call_frame 2 words)
 
 -- Site 2 has never been asked for its lock and its vote, whatever comes to site 1; then a client reads x there.
-abbrev pub forged : List Happening
-forged =
+abbrev pub forged_run : List Happening
+forged_run =
     Happening.Starts 1 both.sites
     ∷ Happening.Starts 2 both.sites
-    ∷ Happening.Comes 1 (called call.Begin)
-    ∷ Happening.Comes 1 (called (call.Write (txn 1) 1 (codes "x") (codes "11")))
+    ∷ Happening.Comes 1 (datagram_of_call call.Begin)
+    ∷ Happening.Comes 1 (datagram_of_call (call.Write (txn 1) 1 (codes "x") (codes "11")))
     ∷ Happening.Comes 1 (from_two (message.WriteAnswer (txn 1) 1))
-    ∷ Happening.Comes 1 (called (call.Commit (txn 1) 2))
+    ∷ Happening.Comes 1 (datagram_of_call (call.Commit (txn 1) 2))
     ∷ Happening.Comes 1 (from_two (message.Vote (txn 1)))
     ∷ Happening.Comes 2 (at_two call.Begin)
     ∷ Happening.Comes 2 (at_two (call.Read txn_two 1 (codes "x")))
@@ -96,14 +96,14 @@ forgotten =
     ∷ Happening.Comes 2 (from_one (message.Outcome (txn 1) true))
     ∷ Happening.Dies 1 ((log_record.Start 1 ∷ []) ∷ [])
     ∷ Happening.Starts 1 both.sites
-    ∷ Happening.Comes 1 (called call.Regroup)
+    ∷ Happening.Comes 1 (datagram_of_call call.Regroup)
     ∷ Happening.Comes 2 (from_one (message.Invite view))
     ∷ Happening.Comes 1 (from_two (message.Accept view))
     ∷ Happening.Comes 1 (datagram_to 7100 (frame_of 0 1 body.Tick))
     ∷ Happening.Comes 2 (from_one (message.ViewCommit view (1 ∷ 2 ∷ [])))
     ∷ Happening.Comes 2 (from_one (message.RefreshRequest view 0))
     ∷ Happening.Comes 1 (from_two (message.RefreshAnswer view 0 (record { value = codes "11"; date = opening })))
-    ∷ Happening.Comes 1 (called call.Begin)
-    ∷ Happening.Comes 1 (called (call.Read next_life 1 (codes "x")))
-    ∷ Happening.Comes 1 (called (call.Commit next_life 2))
+    ∷ Happening.Comes 1 (datagram_of_call call.Begin)
+    ∷ Happening.Comes 1 (datagram_of_call (call.Read next_life 1 (codes "x")))
+    ∷ Happening.Comes 1 (datagram_of_call (call.Commit next_life 2))
     ∷ []

@@ -6,7 +6,7 @@ use Rattle.std.specs.Prelude.{IfSome, if◌then◌else◌}
 use Rattle.vp_model.specs.Types.{LogRecord}
 use Rattle.vp_model.specs.Durable.{DurableState}
 use Rattle.vp_outside.specs.Disk.{Halves, DiskState, IsDisk, Becomes, Elapses}
-use Rattle.vp_stable.specs.Halves.{Standing, StandsAt, HaveBatches, AreSettled, GainsAt, MayGainAt, MaySaveAt, DueIsOfTheBatches, IsShort, saved, due, is_due}
+use Rattle.vp_stable.specs.Halves.{Standing, StandsAt, HaveBatches, AreSettled, GainsAt, MayGainAt, MaySaveAt, DueIsOfTheBatches, IsShort, save_batches, due, is_due}
 use Rattle.vp_stable.specs.Moments.{LeavesOnly}
 use Rattle.vp_stable.proofs.Times.{elapses_none, elapses_as, elapses_then, leaves_only}
 use Rattle.vp_runs.specs.Keeping.{saved_if_due, kept_with}
@@ -54,7 +54,7 @@ leaves_as P Q as_q old new None leaves = tt
 pub may_save_due : (d : DurableState) (at : Standing) → is_due at ≡ true → DueIsOfTheBatches → (old new : Halves) → MaySaveAt d at old new → MaySaveDueAt d at old new
 may_save_due d at is_due_is law old new may batches stands =
     let due_is : due batches ≡ true = sym (law at batches old stands) ∙ is_due_is in
-    ⊎_elim (λ same. inl same) (λ kept. inr (subst (λ b. HaveBatches (if b then saved d batches else batches) new) (sym due_is) kept)) (may batches stands)
+    ⊎_elim (λ same. inl same) (λ kept. inr (subst (λ b. HaveBatches (if b then save_batches d batches else batches) new) (sym due_is) kept)) (may batches stands)
 
 -- ---- records after the batches, and a checkpoint after them if one is due
 

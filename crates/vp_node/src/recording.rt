@@ -3,7 +3,8 @@
 ghost use Rattle.std.specs.Prelude.{◌≡◌, ◌++◌, IfOk, OnOk, map};
 ghost use Rattle.std.specs.Fmt.{decimal};
 ghost use Rattle.hex.specs.Hex.{encode_lower};
-ghost use Rattle.vp_runs.specs.Turns.{worded, arrival_line, out_line};
+ghost use Rattle.vp_runs.specs.Turns.{arrival_line, out_line};
+ghost use Rattle.vp_text.specs.Documents.{word_line};
 
 use crate::turned::Lines;
 use std::alloc::Global;
@@ -17,7 +18,7 @@ const ROOM: usize = 128;
 
 /// Makes a line of the word and the bytes in lower-case hexadecimal.
 fn hex_line(alloc: Global, word: &[u8], bytes: &[u8]) -> Result<Seq<u8>, NoMemory>
-    ensures { IfOk result (λ line. line ≡ worded word.now (encode_lower bytes.now)) }
+    ensures { IfOk result (λ line. line ≡ word_line word.now (encode_lower bytes.now)) }
 {
     let mut line = Vec::with_capacity(alloc, ROOM)?;
     line.extend_from_slice(word)?;
@@ -28,7 +29,7 @@ fn hex_line(alloc: Global, word: &[u8], bytes: &[u8]) -> Result<Seq<u8>, NoMemor
 
 /// Makes a line of the word and the number in decimal.
 pub fn number_line(alloc: Global, word: &[u8], number: u64) -> Result<Seq<u8>, NoMemory>
-    ensures { IfOk result (λ line. line ≡ worded word.now (decimal number)) }
+    ensures { IfOk result (λ line. line ≡ word_line word.now (decimal number)) }
 {
     let mut line = Vec::new(alloc);
     line.extend_from_slice(word)?;

@@ -22,11 +22,11 @@ InHalf (suc n) step old new = step old.1 new.1 × (new.0 ≡ old.0)
 -- ---- what a call that is done leaves
 
 -- a half with these bytes at this place; what is between the old end and that place is 0
-abbrev pub written : ℕ → List ℕ → List ℕ → List ℕ
-written at bytes old = take at (old ++ replicate (at - length old) 0) ++ bytes ++ drop (at + length bytes) old
+abbrev pub write_bytes_at : ℕ → List ℕ → List ℕ → List ℕ
+write_bytes_at at bytes old = take at (old ++ replicate (at - length old) 0) ++ bytes ++ drop (at + length bytes) old
 
 abbrev pub Written : ℕ → List ℕ → List ℕ → List ℕ → Type 0
-Written at bytes old new = new ≡ written at bytes old
+Written at bytes old new = new ≡ write_bytes_at at bytes old
 
 abbrev pub CutTo : ℕ → List ℕ → List ℕ → Type 0
 CutTo n old new = new ≡ take n old

@@ -14,11 +14,11 @@ pub struct FaultPlan {
 }
 
 impl FaultPlan {
-    ghost use Rattle.vp_outside.specs.Plans.{CountsCall, FailsNext, failed, passed, unstarted};
+    ghost use Rattle.vp_outside.specs.Plans.{CountsCall, FailsNext, fail_call, pass_call, new_plan};
 
     /// Makes a plan in which the calls with these numbers fail. The first call has number 1.
     pub fn new(failing: Vec<u64>) -> FaultPlan
-        ensures { result ≡ unstarted failing }
+        ensures { result ≡ new_plan failing }
     {
         FaultPlan {
             failing,
@@ -37,7 +37,7 @@ impl FaultPlan {
 
     /// Counts a call that succeeds.
     pub fn pass(&mut self)
-        ensures { self.new ≡ passed self.old }
+        ensures { self.new ≡ pass_call self.old }
     {
         self.calls = self.calls.saturating_add(1);
         self.until_stop = self.until_stop.map(|calls| calls.saturating_sub(1));
@@ -45,7 +45,7 @@ impl FaultPlan {
 
     /// Counts a call that fails, and a fault.
     pub fn fail(&mut self)
-        ensures { self.new ≡ failed self.old }
+        ensures { self.new ≡ fail_call self.old }
     {
         self.pass();
         self.faults = self.faults.saturating_add(1);

@@ -2,7 +2,7 @@
 
 ghost use Rattle.std.specs.Prelude.{◌≡◌, ◌<◌, [], Some, length, min, IsErr, IsErrOf, IfOk};
 ghost use Rattle.vp_outside.specs.Output.{Puts};
-ghost use Rattle.vp_outside.specs.Plans.{CountsCall, unstarted};
+ghost use Rattle.vp_outside.specs.Plans.{CountsCall, new_plan};
 
 use crate::fault_plan::FaultPlan;
 use crate::sink::{OutFault, Sink};
@@ -23,7 +23,7 @@ impl TextSink {
     /// Makes an empty sink at which the calls with these numbers fail. The first call has number 1.
     pub fn new(alloc: Global, failing: Vec<u64>) -> TextSink
         ensures held { (⟦<TextSink as Sink>⟧.state result).held ≡ Some [] }
-        ensures plan { result.plan ≡ unstarted failing }
+        ensures plan { result.plan ≡ new_plan failing }
         ensures most { result.most ≡ usize.MAX }
     {
         TextSink {

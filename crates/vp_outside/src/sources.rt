@@ -2,7 +2,7 @@
 
 ghost use Rattle.std.specs.Prelude.{◌≡◌, ◌+◌, ◌-◌, ◌<◌, ◌≤◌, ◌==◌, ◌++◌, if◌then◌else◌, nat_lt, min, false, Some, length, take, drop, vec_len, IsErr, IfOk, IfSome};
 ghost use Rattle.vp_outside.specs.Input.{Takes};
-ghost use Rattle.vp_outside.specs.Plans.{CountsCall, unstarted};
+ghost use Rattle.vp_outside.specs.Plans.{CountsCall, new_plan};
 
 use crate::fault_plan::FaultPlan;
 use crate::source::{Failed, Source};
@@ -64,7 +64,7 @@ impl TextSource {
         ensures left { (⟦<TextSource as Source>⟧.state result).left ≡ Some bytes.items }
         ensures taken { (⟦<TextSource as Source>⟧.state result).taken ≡ 0 }
         ensures ended { (⟦<TextSource as Source>⟧.state result).ended ≡ false }
-        ensures plan { result.plan ≡ unstarted failing }
+        ensures plan { result.plan ≡ new_plan failing }
         ensures most { result.most ≡ usize.MAX }
     {
         TextSource {

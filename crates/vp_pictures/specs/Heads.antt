@@ -5,7 +5,7 @@ use Rattle.std.specs.Option.{option_map_or}
 use Rattle.vp_model.specs.Words.{◌|>◌, for_each, opening, value_at}
 use Rattle.vp_model.specs.Catalogue.{Catalogue, RecordEntry, sites_of}
 use Rattle.vp_pictures.specs.Places.{column}
-use Rattle.vp_pictures.specs.Sheets.{next_line, said, written}
+use Rattle.vp_pictures.specs.Sheets.{next_line, add_text_line, add_text}
 use Rattle.vp_pictures.specs.Words.{view_words, weight_words}
 use Rattle.vp_pictures.specs.declared.shape.Ink.TheVariants as ink
 use Rattle.vp_pictures.specs.declared.sheet.Sheet.{Sheet}
@@ -14,23 +14,23 @@ use Rattle.vp_pictures.specs.declared.sheet.Sheet.{Sheet}
 abbrev pub site_head : Catalogue → ℕ × ℕ → Sheet → Sheet
 site_head catalogue site s =
     let x = column catalogue site.0 in
-    s |> written (x - 4) ink.Site (codes "site " ++ decimal site.0) |> written (x + 66) ink.Faint (codes "port " ++ decimal site.1)
+    s |> add_text (x - 4) ink.Site (codes "site " ++ decimal site.0) |> add_text (x + 66) ink.Faint (codes "port " ++ decimal site.1)
 
 -- the weight of a site's copy of a record, if it has one
 abbrev pub weight_head : Catalogue → RecordEntry → ℕ × ℕ → Sheet → Sheet
 weight_head catalogue entry site s =
     let weight = option_map_or (λ w. w) (value_at site.0 entry.weights) 0 in
-    if weight == 0 then s else written (column catalogue site.0 - 4) ink.Event (weight_words entry weight) s
+    if weight == 0 then s else add_text (column catalogue site.0 - 4) ink.Event (weight_words entry weight) s
 
 abbrev pub record_head : Catalogue → RecordEntry → Sheet → Sheet
 record_head catalogue entry s = next_line (for_each catalogue.sites (weight_head catalogue entry) s)
 
 -- the opening view, if the picture begins with it
-abbrev pub opened : Catalogue → Sheet → Sheet
-opened catalogue s =
+abbrev pub with_opening : Catalogue → Sheet → Sheet
+with_opening catalogue s =
     if nat_lt 1 s.part.from
     then next_line s
-    else said 76 ink.View (view_words catalogue (record { id = opening; members = sites_of catalogue })) s
+    else add_text_line 76 ink.View (view_words catalogue (record { id = opening; members = sites_of catalogue })) s
 
 unfoldable pub head : Catalogue → Sheet → Sheet
 head catalogue s =
@@ -38,4 +38,4 @@ head catalogue s =
     |> for_each catalogue.sites (site_head catalogue)
     |> next_line
     |> for_each catalogue.records (record_head catalogue)
-    |> opened catalogue
+    |> with_opening catalogue

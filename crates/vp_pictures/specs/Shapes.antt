@@ -30,8 +30,8 @@ abbrev pub escape : ℕ → List ℕ
 escape byte =
     if byte == 60 then codes "&lt;" else (if byte == 38 then codes "&amp;" else (if byte == 34 then codes "&quot;" else byte ∷ []))
 
-abbrev pub escaped : List ℕ → List ℕ
-escaped bytes = flat_map escape bytes
+abbrev pub escape_bytes : List ℕ → List ℕ
+escape_bytes bytes = flat_map escape bytes
 
 -- an attribute that is a number
 abbrev pub attribute : List ℕ → ℕ → List ℕ
@@ -40,7 +40,7 @@ attribute name number = name ++ (decimal number ++ 34 ∷ [])
 abbrev pub shape_text : Shape → List ℕ
 shape_text (shape.Text kind x y text) =
     codes "<text class=\""
-    ++ (ink_word kind ++ (attribute (codes "\" x=\"") x ++ (attribute (codes " y=\"") y ++ (codes ">" ++ (escaped text ++ codes "</text>\n")))))
+    ++ (ink_word kind ++ (attribute (codes "\" x=\"") x ++ (attribute (codes " y=\"") y ++ (codes ">" ++ (escape_bytes text ++ codes "</text>\n")))))
 shape_text (shape.Line kind x1 y1 x2 y2) =
     codes "<line class=\""
     ++ (ink_word kind

@@ -12,11 +12,11 @@ abbrev pub next_line : Sheet → Sheet
 next_line s = record s { lines = s.lines + 1 }
 
 -- a text on this line; and one after which the next line begins
-abbrev pub written : ℕ → Ink → List ℕ → Sheet → Sheet
-written x ink text s = record s { wide = max s.wide (x + 8 * length text); texts = s.texts ++ shape.Text ink x (top s.lines + 13) text ∷ [] }
+abbrev pub add_text : ℕ → Ink → List ℕ → Sheet → Sheet
+add_text x ink text s = record s { wide = max s.wide (x + 8 * length text); texts = s.texts ++ shape.Text ink x (top s.lines + 13) text ∷ [] }
 
-abbrev pub said : ℕ → Ink → List ℕ → Sheet → Sheet
-said x ink text s = next_line (written x ink text s)
+abbrev pub add_text_line : ℕ → Ink → List ℕ → Sheet → Sheet
+add_text_line x ink text s = next_line (add_text x ink text s)
 
 -- the message that was sent as number k
 abbrev pub mark_at : Sheet → ℕ → Option Mark

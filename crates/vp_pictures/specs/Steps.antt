@@ -12,7 +12,7 @@ use Rattle.vp_model.specs.Texts.Answers.{answer_text}
 use Rattle.vp_model.specs.Texts.Calls.{event_text}
 use Rattle.vp_model.specs.Texts.Messages.{message_text}
 use Rattle.vp_pictures.specs.Places.{column, edge, top}
-use Rattle.vp_pictures.specs.Sheets.{mark_at, said, site_drawn, written}
+use Rattle.vp_pictures.specs.Sheets.{mark_at, add_text_line, site_drawn, add_text}
 use Rattle.vp_pictures.specs.Words.{arrival_words, commit_words, idle_words, sent_words, view_words}
 use Rattle.vp_pictures.specs.declared.shape.Ink.{Ink}
 use Rattle.vp_pictures.specs.declared.shape.Ink.TheVariants as ink
@@ -90,10 +90,10 @@ words_of_event e s = event_text e
 
 -- an event, with the number of its line at the left
 unfoldable pub said_event : ℕ → ℕ → Event → Sheet → Sheet
-said_event x number e s = said x ink.Event (words_of_event e s) (written 4 ink.Faint (decimal number) s)
+said_event x number e s = add_text_line x ink.Event (words_of_event e s) (add_text 4 ink.Faint (decimal number) s)
 
 abbrev pub said_commit : ℕ → Commit → Sheet → Sheet
-said_commit x commit s = said x ink.Commit (commit_words commit) s
+said_commit x commit s = add_text_line x ink.Commit (commit_words commit) s
 
 -- the next message that is sent
 abbrev pub with_mark : Catalogue → Bool → ℕ → Sent → Sheet → Sheet
@@ -114,13 +114,13 @@ with_mark catalogue is_drawn line sent s =
 
 abbrev pub said_message : Catalogue → ℕ → Sent → Sheet → Sheet
 said_message catalogue x sent s =
-    with_mark catalogue true s.lines sent (said (x + 22) ink.Message (sent_words (length s.marks + 1) sent.to (message_text catalogue sent.message)) s)
+    with_mark catalogue true s.lines sent (add_text_line (x + 22) ink.Message (sent_words (length s.marks + 1) sent.to (message_text catalogue sent.message)) s)
 
 abbrev pub said_reply : ℕ → Reply → Sheet → Sheet
-said_reply x reply s = said x (if refuses reply.answer then ink.Refusal else ink.Reply) (answer_text reply.answer) s
+said_reply x reply s = add_text_line x (if refuses reply.answer then ink.Refusal else ink.Reply) (answer_text reply.answer) s
 
 abbrev pub said_idle : ℕ → Shown → Sheet → Sheet
-said_idle x what s = said x ink.Idle (idle_words what) s
+said_idle x what s = add_text_line x ink.Idle (idle_words what) s
 
 -- the effects of the step: its commits, its messages and its replies; or why it did nothing
 unfoldable pub said_shown : Catalogue → ℕ → Shown → Sheet → Sheet
@@ -132,7 +132,7 @@ said_shown catalogue x what s = said_idle x what s
 -- the view that the site of the step holds from here on
 unfoldable pub said_view : Catalogue → ℕ → Option View → Sheet → Sheet
 said_view catalogue x None s = s
-said_view catalogue x (Some view) s = said x ink.View (view_words catalogue view) s
+said_view catalogue x (Some view) s = add_text_line x ink.View (view_words catalogue view) s
 
 -- ---- the step
 
@@ -160,9 +160,9 @@ stepped catalogue number line looks joined s =
 abbrev pub hidden_message : Catalogue → Sent → Sheet → Sheet
 hidden_message catalogue sent s = with_mark catalogue false s.lines sent s
 
-abbrev pub hidden : Catalogue → Shown → Sheet → Sheet
-hidden catalogue (shown.Step commits first messages replies) s = for_each messages (hidden_message catalogue) s
-hidden catalogue _ s = s
+abbrev pub hide_messages : Catalogue → Shown → Sheet → Sheet
+hide_messages catalogue (shown.Step commits first messages replies) s = for_each messages (hidden_message catalogue) s
+hide_messages catalogue _ s = s
 
 abbrev pub is_drawn : Sheet → ℕ → Bool
 is_drawn s number = nat_le s.part.from number && nat_le number s.part.to
@@ -170,4 +170,4 @@ is_drawn s number = nat_le s.part.from number && nat_le number s.part.to
 unfoldable pub drawn : Catalogue → ℕ → Line → List (ℕ × Look) → Option View → Sheet → Sheet
 drawn catalogue number line looks joined s =
     let arrived = with_arrow catalogue (is_drawn s number) line.event line.shown s in
-    if is_drawn s number then stepped catalogue number line looks joined arrived else hidden catalogue line.shown arrived
+    if is_drawn s number then stepped catalogue number line looks joined arrived else hide_messages catalogue line.shown arrived

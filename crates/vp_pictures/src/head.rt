@@ -3,7 +3,7 @@
 ghost use Rattle.std.specs.Prelude.{◌≡◌, ◌++◌, ◌≤◌, OnOk, [], codes};
 ghost use Rattle.std.specs.List.{flat_map};
 ghost use Rattle.vp_model.specs.Words.{for_each};
-ghost use Rattle.vp_pictures.specs.Heads.{head, opened, record_head, site_head, weight_head};
+ghost use Rattle.vp_pictures.specs.Heads.{head, with_opening, record_head, site_head, weight_head};
 ghost use Rattle.vp_pictures.specs.Style.{style};
 ghost use Rattle.vp_pictures.specs.Pictures.{picture_text, size_text, stub, stub_of, stub_text};
 
@@ -130,7 +130,7 @@ impl Sheet {
 
     /// Writes the opening view, if the picture begins with it.
     fn open(&mut self, catalog: &Catalog) -> Result<(), NoMemory>
-        ensures { OnOk result (self.new ≡ opened catalog.now self.old) }
+        ensures { OnOk result (self.new ≡ with_opening catalog.now self.old) }
     {
         if 1 < self.part.from {
             return self.next_line();

@@ -2,7 +2,7 @@
 
 ghost use Rattle.std.specs.Prelude.{◌≡◌, ◌++◌, OnOk};
 ghost use Rattle.std.specs.List.{flat_map};
-ghost use Rattle.vp_pictures.specs.Shapes.{attribute, escape, escaped, ink_word, shape_text};
+ghost use Rattle.vp_pictures.specs.Shapes.{attribute, escape, escape_bytes, ink_word, shape_text};
 
 use vp_base::{NoMemory, Word};
 use vp_text::print_number;
@@ -103,7 +103,7 @@ fn print_escaped(byte: u8, out: &mut Vec<u8>) -> Result<(), NoMemory>
 }
 
 fn print_all_escaped(text: &[u8], out: &mut Vec<u8>) -> Result<(), NoMemory>
-    ensures { OnOk result (out.new.items ≡ out.old.items ++ escaped text.now) }
+    ensures { OnOk result (out.new.items ≡ out.old.items ++ escape_bytes text.now) }
 {
     for byte in text {
         print_escaped(*byte, out)?;

@@ -1,7 +1,7 @@
 //! The sheet on which steps are drawn.
 
 ghost use Rattle.std.specs.Prelude.{◌≡◌, ◌++◌, ◌∷◌, [], ◌≤◌, OnOk, option_copied, option_to_list};
-ghost use Rattle.vp_pictures.specs.Sheets.{mark_at, next_line, said, site_drawn, written};
+ghost use Rattle.vp_pictures.specs.Sheets.{mark_at, next_line, add_text_line, site_drawn, add_text};
 
 use crate::places::top;
 use crate::shape::{Ink, Shape};
@@ -97,7 +97,7 @@ impl Sheet {
     /// 1,000,000 bytes.
     pub fn write(&mut self, x: u64, ink: Ink, text: Word) -> Result<(), NoMemory>
         requires { x ≤ 10000 }
-        ensures { OnOk result (self.new ≡ written x ink text self.old) }
+        ensures { OnOk result (self.new ≡ add_text x ink text self.old) }
     {
         let size = text.as_slice().len();
         if MOST_BYTES < size {
@@ -111,7 +111,7 @@ impl Sheet {
     /// Writes a text on this line, with its left end at `x` pixels, and goes to the next line.
     pub fn say(&mut self, x: u64, ink: Ink, text: Word) -> Result<(), NoMemory>
         requires { x ≤ 10000 }
-        ensures { OnOk result (self.new ≡ said x ink text self.old) }
+        ensures { OnOk result (self.new ≡ add_text_line x ink text self.old) }
     {
         self.write(x, ink, text)?;
         self.next_line()

@@ -4,7 +4,7 @@ ghost use Rattle.std.specs.Prelude.{◌≡◌, ◌≤◌, ◌^◌, ◌<◌, Bool
 ghost use Rattle.vp_model.specs.Words.{for_each};
 ghost use Rattle.vp_pictures.specs.Sheets.{mark_at};
 ghost use Rattle.vp_pictures.specs.Places.{top};
-ghost use Rattle.vp_pictures.specs.Steps.{arrow_kind, arrow_of, bar_of, colour, cut_of, delivery, drawn, event_x, hidden, hidden_message, is_drawn, life_of, refuses, said_commit, said_event, said_idle, said_message, said_reply, said_shown, said_view, stepped, with_arrow, with_look, words_of_event};
+ghost use Rattle.vp_pictures.specs.Steps.{arrow_kind, arrow_of, bar_of, colour, cut_of, delivery, drawn, event_x, hide_messages, hidden_message, is_drawn, life_of, refuses, said_commit, said_event, said_idle, said_message, said_reply, said_shown, said_view, stepped, with_arrow, with_look, words_of_event};
 
 use crate::places::{column, edge, top};
 use crate::shape::{Ink, Shape};
@@ -190,7 +190,7 @@ impl Sheet {
 
     /// Keeps the messages of a step that isn't drawn.
     fn hide(&mut self, catalog: &Catalog, shown: &Shown) -> Result<(), NoMemory>
-        ensures { OnOk result (self.new ≡ hidden catalog.now shown.now self.old) }
+        ensures { OnOk result (self.new ≡ hide_messages catalog.now shown.now self.old) }
     {
         let Shown::Step { messages, .. } = shown else {
             return Ok(());

@@ -40,14 +40,14 @@ abbrev pub going_on : Place → Option (Option View × List Lock × List Refresh
 going_on place = option_map (λ x. (x.held, x.locks, x.refresh, x.live, x.parts, x.doubts)) place.up
 
 -- the transactions about which a site is in doubt, whether it is up or down
-abbrev pub doubted : Place → List TxnId
-doubted place = map (λ (d : Doubt). d.txn) place.durable.doubts
+abbrev pub doubted_txns : Place → List TxnId
+doubted_txns place = map (λ (d : Doubt). d.txn) place.durable.doubts
 
 abbrev pub both : View
 both = record { id = view 1 1; members = 1 ∷ 2 ∷ [] }
 
 abbrev pub IsInDoubt : Type 0
-IsInDoubt = map doubted (world_of in_doubt).places ≡ [] ∷ (txn 1 1 1 ∷ []) ∷ []
+IsInDoubt = map doubted_txns (world_of in_doubt).places ≡ [] ∷ (txn 1 1 1 ∷ []) ∷ []
 
 abbrev pub IsMending : Type 0
 IsMending = EachPasses in_doubt.catalogue (mends (sites_of in_doubt.catalogue)) (world_of in_doubt) recovery
@@ -83,7 +83,7 @@ abbrev pub values_at : Place → List (List ℕ)
 values_at place = map (λ (c : ℕ × Stored). c.1.value) place.durable.copies
 
 abbrev pub AreInDoubt : Type 0
-AreInDoubt = map doubted (world_of three_in_doubt).places ≡ [] ∷ (txn 1 1 1 ∷ []) ∷ (txn 1 1 1 ∷ []) ∷ []
+AreInDoubt = map doubted_txns (world_of three_in_doubt).places ≡ [] ∷ (txn 1 1 1 ∷ []) ∷ (txn 1 1 1 ∷ []) ∷ []
 
 abbrev pub AreDown : Type 0
 AreDown = map going_on (world_of three_in_doubt).places ≡ None ∷ None ∷ None ∷ []

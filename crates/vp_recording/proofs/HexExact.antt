@@ -8,7 +8,7 @@ use Rattle.hex.specs.Hex.{encode_lower, decode_of, IsBytes}
 use Rattle.hex.specs.declared.error.FromHexError.{FromHexError}
 use Rattle.hex.proofs.HexLemmas.{decode_of-encode_lower}
 use Rattle.vp_text.specs.Meaning.{Begins}
-use Rattle.vp_text.specs.Reading.{scan, word_step, ended}
+use Rattle.vp_text.specs.Reading.{scan, word_step, whole_reading}
 use Rattle.vp_text.proofs.Exact.{Exact}
 use Rattle.vp_text.proofs.Items.{all_at, all_push}
 use Rattle.vp_text.proofs.Scan.{scan_exact, scan_on, scan_off}
@@ -159,7 +159,7 @@ step_none bytes n lt stops =
     go true e = rw (digit (let z = ltb-true (length (take n bytes)) most_digits e in let y = length-take-le n bytes (omega (arith, lt)) in omega (arith, z, y))) refl
     go false e = refl
 
-bytes_ends : (bytes : List ℕ) (n : ℕ) → n ≤ length bytes → StopsAt bytes n → bytes_from bytes n → bytes_at bytes ≡ ended (pairs_done (take n bytes)) (drop n bytes)
+bytes_ends : (bytes : List ℕ) (n : ℕ) → n ≤ length bytes → StopsAt bytes n → bytes_from bytes n → bytes_at bytes ≡ whole_reading (pairs_done (take n bytes)) (drop n bytes)
 bytes_ends bytes n le stops h = sym h ∙ ⊎_elim
     (λ (lt : n < length bytes). rw (drop_more bytes n 0 lt) (scan_off (word_step is_digit most_digits) pairs_done (take n bytes) (get_or bytes n 0) (drop (n + 1) bytes) (step_none bytes n lt stops)))
     (λ (over : length bytes ≤ n). rw (drop_all n bytes over) refl)
@@ -187,7 +187,7 @@ even_done (c ∷ p) some n = go (is_paired (c ∷ p)) refl
     go false t = absurd (let r = odd_length (c ∷ p) t in let z = r.1 in n (omega (arith, z)))
 
 none_read : (bytes : List ℕ) (n : ℕ) → n ≤ length bytes → pairs_done (take n bytes) ≡ None → StopsAt bytes n → bytes_from bytes n → bytes_at bytes ≡ Err (length bytes - n)
-none_read bytes n le none stops h = bytes_ends bytes n le stops h ∙ ap (λ (o : Option (List ℕ)). ended o (drop n bytes)) none ∙ ap (λ (k : ℕ). Err k) (length-drop n bytes)
+none_read bytes n le none stops h = bytes_ends bytes n le stops h ∙ ap (λ (o : Option (List ℕ)). whole_reading o (drop n bytes)) none ∙ ap (λ (k : ℕ). Err k) (length-drop n bytes)
 
 pub bytes_none : (bytes : List ℕ) (n : ℕ) → n ≤ length bytes → n ≡ 0 → StopsAt bytes n → bytes_from bytes n → bytes_at bytes ≡ Err (length bytes - n)
 bytes_none bytes n le none stops h = none_read bytes n le (ap (λ (k : ℕ). pairs_done (take k bytes)) none) stops h
@@ -198,7 +198,7 @@ bytes_odd bytes n le odd stops h = none_read bytes n le (odd_done (take n bytes)
 pub bytes_read : (bytes : List ℕ) (n : ℕ) → n ≤ length bytes → (n ≡ 0 → ⊥) → (n % 2 ≡ 1 → ⊥) → StopsAt bytes n → bytes_from bytes n → bytes_at bytes ≡ Ok (bytes_of (take n bytes), drop n bytes)
 bytes_read bytes n le some even stops h =
     let long : length (take n bytes) ≡ n = length-take-le n bytes le in
-    bytes_ends bytes n le stops h ∙ ap (λ (o : Option (List ℕ)). ended o (drop n bytes))
+    bytes_ends bytes n le stops h ∙ ap (λ (o : Option (List ℕ)). whole_reading o (drop n bytes))
     (even_done (take n bytes) (omega (arith, long, some)) (λ odd. even (ap (λ (k : ℕ). k % 2) (sym long) ∙ odd)))
 
 small_bytes : (xs : List ℕ) → AllByRecursion (λ b. b < 256) xs → IsBytes xs

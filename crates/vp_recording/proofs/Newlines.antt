@@ -3,20 +3,20 @@ use Rattle.std.proofs.Common.{◌≡◌, ℕ, ◌^◌, ◌<◌, List, [], ◌∷
 use Rattle.std.specs.Fmt.{decimal}
 use Rattle.std.proofs.lemmas.Bool.Decides.{nat_tests}
 use Rattle.hex.specs.Hex.{encode_lower}
-use Rattle.vp_text.specs.Documents.{HasNoNewline, IsLine}
+use Rattle.vp_text.specs.Documents.{HasNoNewline, IsLine, word_line}
 use Rattle.vp_text.proofs.Items.{all_each}
 use Rattle.vp_text.proofs.Newlines.{decimal_clean, clean, key_clean, key_line, last_line, line_push}
 use Rattle.vp_model.specs.Words.{has}
 use Rattle.vp_catalog.specs.Sites.{AllSites}
 use Rattle.vp_catalog.proofs.Sites.{site_range}
 use Rattle.vp_recording.specs.Hex.{IsDatagram, is_digit}
-use Rattle.vp_recording.specs.Lines.{worded, hex_line, number_line}
+use Rattle.vp_recording.specs.Lines.{hex_line, number_line}
 use Rattle.vp_recording.proofs.Digits.{written_are}
 
 digit_clean : (c : ℕ) → is_digit c ≡ true → c ≡ 10 → ⊥
 digit_clean c h e = grind (arith, nat_tests, h, e)
 
-worded_line : (word text : List ℕ) → clean word ≡ true → HasNoNewline text → IsLine (worded word text)
+worded_line : (word text : List ℕ) → clean word ≡ true → HasNoNewline text → IsLine (word_line word text)
 worded_line word text e h = line_push word (text ++ 10 ∷ []) (key_clean word e) (line_push text (10 ∷ []) h last_line)
 
 pub hex_is_line : (word : List ℕ) → clean word ≡ true → (frame t : List ℕ) → IsDatagram frame → t ≡ hex_line word frame → IsLine t

@@ -22,7 +22,7 @@ use Rattle.vp_recording.specs.declared.draft.RecordingSet.{RecordingSet}
 use Rattle.vp_recording.specs.declared.line.RecordingLine.{RecordingLine}
 use Rattle.vp_recording.specs.declared.line.RecordingLine.TheVariants as kind
 use Rattle.vp_recording.specs.Lines.{key}
-use Rattle.vp_recording.specs.Drafts.{sites_said, last_life, life_named, with_turn, with_block, turn_closed, block_closed, started, after}
+use Rattle.vp_recording.specs.Drafts.{sites_said, last_life, life_named, with_turn, with_block, turn_closed, block_closed, start_recording, after}
 use Rattle.vp_recording.specs.Document.{recorded_of, IsRecordedText}
 use Rattle.vp_recording.specs.Recordings.{AreAbove, AreOfNodes}
 use Rattle.vp_recording.proofs.Steps.{said, Lines, sites_are, catalogue_said}
@@ -161,7 +161,7 @@ head_opens : (d : RecordingDraft) (line : HeadLine) (t : List ℕ) → heads.Lin
 head_opens d (heads_kind.Entry entry) t h = h.0
 head_opens d heads_kind.Key t h = h.0
 
-starts : (named : Option ℕ) (life : ℕ) (d : RecordingDraft) → d.named ≡ named → d.head.opened ≡ true → AllSites (sites_said d) → is_some named ≡ true → life_named named d.lives < life → life ≤ 2 ^ 32 - 1 → Holds d → Holds (started named life d)
+starts : (named : Option ℕ) (life : ℕ) (d : RecordingDraft) → d.named ≡ named → d.head.opened ≡ true → AllSites (sites_said d) → is_some named ≡ true → life_named named d.lives < life → life ≤ 2 ^ 32 - 1 → Holds d → Holds (start_recording named life d)
 starts None life d is on all some up fits h = absurd (false≢true some)
 starts (Some site) life d is on all some up fits h =
     let n = h.named site is in

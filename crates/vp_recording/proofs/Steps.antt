@@ -19,7 +19,7 @@ use Rattle.vp_recording.specs.declared.draft.RecordingDraft.{RecordingDraft}
 use Rattle.vp_recording.specs.declared.line.RecordingLine.{RecordingLine}
 use Rattle.vp_recording.specs.declared.line.RecordingLine.TheVariants as kind
 use Rattle.vp_recording.specs.Lines.{key}
-use Rattle.vp_recording.specs.Drafts.{sites_said, life_named, life_before, LineText, Allows, blank, after, started, Onward}
+use Rattle.vp_recording.specs.Drafts.{sites_said, life_named, life_before, LineText, Allows, blank, after, start_recording, Onward}
 use Rattle.vp_recording.specs.LineReading.{line_at}
 use Rattle.vp_recording.proofs.LineTexts.{AreSites, line_exact}
 use Rattle.vp_recording.proofs.Newlines.{hex_is_line, number_is_line, site_is_line, word_is_line}
@@ -54,7 +54,7 @@ heads_of (kind.End ∷ es) = heads_of es
 heads_of (kind.LinkFault ∷ es) = heads_of es
 heads_of (kind.DiskFault ∷ es) = heads_of es
 
-start_head : (named : Option ℕ) (life : ℕ) (d : RecordingDraft) → (started named life d).head ≡ d.head
+start_head : (named : Option ℕ) (life : ℕ) (d : RecordingDraft) → (start_recording named life d).head ≡ d.head
 start_head None life d = refl
 start_head (Some site) life d = refl
 
@@ -105,7 +105,7 @@ sites_are es t h on =
 
 -- ---- a site that is named has a life left
 
-started_left : (named : Option ℕ) (life : ℕ) (d : RecordingDraft) → life_named named d.lives < 2 ^ 32 - 1 → d.named ≡ named → life_before (started named life d) < 2 ^ 32 - 1
+started_left : (named : Option ℕ) (life : ℕ) (d : RecordingDraft) → life_named named d.lives < 2 ^ 32 - 1 → d.named ≡ named → life_before (start_recording named life d) < 2 ^ 32 - 1
 started_left None life d h is = subst (λ (named : Option ℕ). life_named named d.lives < 2 ^ 32 - 1) (sym is) h
 started_left (Some site) life d h is = omega arith
 

@@ -83,15 +83,15 @@ block_closed ended d = record d { recordings = with_block ended (option_map (wit
 abbrev pub first_turn : List ℕ → Turn
 first_turn frame = record { frame = frame; outs = [] }
 
-abbrev pub started : Option ℕ → ℕ → RecordingDraft → RecordingDraft
-started None life d = d
-started (Some site) life d =
+abbrev pub start_recording : Option ℕ → ℕ → RecordingDraft → RecordingDraft
+start_recording None life d = d
+start_recording (Some site) life d =
     record d { named = None; block = Some (record { site = site; life = life; turns = []; ended = false }); lives = set d.lives (site - 1) life }
 
 abbrev pub after : RecordingDraft → RecordingLine → RecordingDraft
 after d (kind.Head line) = record d { head = heads.after d.head line }
 after d (kind.Node site) = record (block_closed false d) { named = Some site }
-after d (kind.Start life) = started d.named life d
+after d (kind.Start life) = start_recording d.named life d
 after d (kind.In frame) = record (turn_closed d) { turn = Some (first_turn frame) }
 after d (kind.Out frame) = record d { turn = option_map (with_out frame) d.turn }
 after d kind.Bad = turn_closed d

@@ -2,21 +2,18 @@
 use Rattle.std.specs.Prelude.{◌≡◌, ℕ, ◌≤◌, List, [], ◌∷◌, ◌++◌, codes}
 use Rattle.std.specs.Fmt.{decimal}
 use Rattle.hex.specs.Hex.{encode_lower}
+use Rattle.vp_text.specs.Documents.{word_line}
 use Rattle.vp_recording.specs.Hex.{IsDatagram, most_bytes}
 
 -- the line after the catalogue
 abbrev pub key : List ℕ
 key = codes "recordings\n"
 
--- a word, a text, and the end of the line
-abbrev pub worded : List ℕ → List ℕ → List ℕ
-worded word text = word ++ (text ++ 10 ∷ [])
-
 abbrev pub hex_line : List ℕ → List ℕ → List ℕ
-hex_line word bytes = worded word (encode_lower bytes)
+hex_line word bytes = word_line word (encode_lower bytes)
 
 abbrev pub number_line : List ℕ → ℕ → List ℕ
-number_line word n = worded word (decimal n)
+number_line word n = word_line word (decimal n)
 
 -- The line is of what was no frame, with a place in it; or of a frame that was passed over.
 abbrev pub BadText : List ℕ → Type 0

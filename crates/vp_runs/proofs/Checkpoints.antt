@@ -6,7 +6,7 @@ use Rattle.vp_model.specs.Types.{LogRecord, Stored}
 use Rattle.vp_model.specs.Words.{for_each, has, keys, replace_at}
 use Rattle.vp_model.specs.Catalogue.{Catalogue, RecordEntry, copies_from, start_copies}
 use Rattle.vp_model.specs.Durable.{DurableState, empty_durable, apply, apply_all}
-use Rattle.vp_stable.specs.Halves.{due, saved, checkpointed, is_last, generation_of}
+use Rattle.vp_stable.specs.Halves.{due, save_batches, checkpoint_batches, is_last, generation_of}
 use Rattle.vp_stable.proofs.Restored.{folded_keys, not_below, not_above}
 use Rattle.vp_runs.specs.Keeping.{durable_in, kept_with, saved_if_due}
 use Rattle.vp_runs.specs.Laws.{CheckpointsFold, StepsFold}
@@ -71,7 +71,7 @@ filled (x ∷ xs) (y ∷ ys) e h =
 
 module _ (catalogue : Catalogue) (id : ℕ) where
   checkpoint_folds : (last : Bool) (batches : List (List LogRecord)) →
-      durable_in catalogue id (if last then batches else checkpointed (durable_in catalogue id batches) batches) ≡ durable_in catalogue id batches
+      durable_in catalogue id (if last then batches else checkpoint_batches (durable_in catalogue id batches) batches) ≡ durable_in catalogue id batches
   unfolding apply
   checkpoint_folds true batches = refl
   checkpoint_folds false batches =
@@ -81,7 +81,7 @@ module _ (catalogue : Catalogue) (id : ℕ) where
       ap (λ (c : List Pair). record { promise = d.promise; life = d.life; copies = c; doubts = d.doubts; decisions = d.decisions }) (filled d.copies (start_copies catalogue id) (sym same) ascend)
 
   saved_folds : (due_now : Bool) (batches : List (List LogRecord)) →
-      durable_in catalogue id (if due_now then saved (durable_in catalogue id batches) batches else batches) ≡ durable_in catalogue id batches
+      durable_in catalogue id (if due_now then save_batches (durable_in catalogue id batches) batches else batches) ≡ durable_in catalogue id batches
   saved_folds true batches = checkpoint_folds (is_last (generation_of batches)) batches
   saved_folds false batches = refl
 

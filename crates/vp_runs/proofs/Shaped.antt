@@ -25,7 +25,7 @@ use Rattle.vp_wire.specs.declared.frame.Body.TheVariants as body
 use Rattle.vp_wire.specs.Decoded.{read_frame}
 use Rattle.vp_wire.specs.Grammar.{IsBody, IsFrame, IsSpelling}
 use Rattle.vp_wire.proofs.Decoded.{bytes_are_read}
-use Rattle.vp_stable.specs.Halves.{folded}
+use Rattle.vp_stable.specs.Halves.{apply_batches}
 use Rattle.vp_runs.specs.declared.arrival.Arrival.{Arrival}
 use Rattle.vp_runs.specs.declared.arrival.Arrival.TheVariants.{Bad, Stray, Stops, Gives}
 use Rattle.vp_runs.specs.Arrivals.{IsArrival, is_for, arrival_in, arrival_of, arrival}
@@ -105,7 +105,7 @@ turns_are_shaped catalogue site d k s p = turn_shaped catalogue site (arrival ca
 
 -- ---- runs
 
-folded_durable : (catalogue : Catalogue) (id : ℕ) (batches : List (List LogRecord)) (d : DurableState) → AllByRecursion IsBatch batches → IsDurable catalogue id d → IsDurable catalogue id (folded batches d)
+folded_durable : (catalogue : Catalogue) (id : ℕ) (batches : List (List LogRecord)) (d : DurableState) → AllByRecursion IsBatch batches → IsDurable catalogue id d → IsDurable catalogue id (apply_batches batches d)
 folded_durable catalogue id [] d h i = i
 folded_durable catalogue id (batch ∷ batches) d h i = folded_durable catalogue id batches (apply_all batch d) h.1 (all_applied catalogue id batch d h.0 i)
 

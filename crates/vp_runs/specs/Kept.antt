@@ -25,12 +25,12 @@ input_of w (event.Probe site) = Some input.Probe
 input_of w _ = None
 
 -- the records that the site's step forces
-abbrev pub forced : Catalogue → Option SiteState → Option Input → List LogRecord
-forced catalogue (Some site) (Some given) = (step catalogue site given).effects.records
-forced catalogue _ _ = []
+abbrev pub forced_records : Catalogue → Option SiteState → Option Input → List LogRecord
+forced_records catalogue (Some site) (Some given) = (step catalogue site given).effects.records
+forced_records catalogue _ _ = []
 
 abbrev pub forced_at : Catalogue → ℕ → Moment → List LogRecord
-forced_at catalogue id m = forced catalogue (site_of m.before id) (input_of m.before m.line.event)
+forced_at catalogue id m = forced_records catalogue (site_of m.before id) (input_of m.before m.line.event)
 
 -- the durable part of a site
 abbrev pub durable_at : ℕ → WorldState → Option DurableState

@@ -17,7 +17,7 @@ use Rattle.vp_laws.specs.ShapeLaws.{message_frame, reply_frame}
 use Rattle.vp_outside.specs.declared.datagram.Datagram.{Datagram}
 use Rattle.vp_wire.specs.declared.frame.Frame.{Frame}
 use Rattle.vp_wire.specs.Grammar.{IsFrame, IsSpelling, IsAnswer}
-use Rattle.vp_stable.specs.Halves.{saved}
+use Rattle.vp_stable.specs.Halves.{save_batches}
 use Rattle.vp_runs.specs.declared.arrival.Arrival.TheVariants.{Gives}
 use Rattle.vp_runs.specs.Arrivals.{arrival, site_at}
 use Rattle.vp_runs.specs.Keeping.{durable_in, kept_with}
@@ -36,7 +36,7 @@ RunsGoOn = (catalogue : Catalogue) (id : ℕ) (batches : List (List LogRecord)) 
 -- One checkpoint of the durable part replaces all batches that fold to it: it sets just the copies that the site has.
 abbrev pub CheckpointsFold : Type 0
 CheckpointsFold = (catalogue : Catalogue) (id : ℕ) (batches : List (List LogRecord)) →
-    durable_in catalogue id (saved (durable_in catalogue id batches) batches) ≡ durable_in catalogue id batches
+    durable_in catalogue id (save_batches (durable_in catalogue id batches) batches) ≡ durable_in catalogue id batches
 
 -- if records take the durable part that a log keeps to this one, the log keeps this one after them
 abbrev pub StepsFold : Type 0

@@ -63,5 +63,5 @@ unfoldable pub node_run : Catalogue → ℕ → List (List LogRecord) → List D
 node_run catalogue id batches arrived = for_each arrived (one_turn catalogue) (start_of catalogue id batches)
 
 -- the bytes of the recording so far
-abbrev pub recorded : NodeRun → List ℕ
-recorded run = concat run.lines
+abbrev pub recorded_bytes : NodeRun → List ℕ
+recorded_bytes run = concat run.lines

@@ -3,6 +3,7 @@ use Rattle.std.specs.Prelude.{ℕ, Bool, true, false, List, [], ◌∷◌, ◌++
 use Rattle.std.specs.Option.{option_map_or}
 use Rattle.std.specs.Fmt.{decimal}
 use Rattle.hex.specs.Hex.{encode_lower}
+use Rattle.vp_text.specs.Documents.{word_line}
 use Rattle.vp_model.specs.Types.{LogRecord, Commit, Sent, Reply, Effects}
 use Rattle.vp_model.specs.Words.{value_at}
 use Rattle.vp_model.specs.Catalogue.{Catalogue}
@@ -62,25 +63,21 @@ turn_on catalogue site (Gives given) = step_turn catalogue site.id (step catalog
 
 -- ---- the recording
 
--- a word, a text and the end of the line
-abbrev pub worded : List ℕ → List ℕ → List ℕ
-worded word text = word ++ (text ++ 10 ∷ [])
-
 -- the line with the bytes that came, and with what they are
 abbrev pub arrival_line : List ℕ → Arrival → List ℕ
-arrival_line bytes (Bad at) = worded (codes "bad ") (decimal at)
-arrival_line bytes Stray = worded (codes "stray ") (encode_lower bytes)
-arrival_line bytes Stops = worded (codes "in ") (encode_lower bytes)
-arrival_line bytes (Gives given) = worded (codes "in ") (encode_lower bytes)
+arrival_line bytes (Bad at) = word_line (codes "bad ") (decimal at)
+arrival_line bytes Stray = word_line (codes "stray ") (encode_lower bytes)
+arrival_line bytes Stops = word_line (codes "in ") (encode_lower bytes)
+arrival_line bytes (Gives given) = word_line (codes "in ") (encode_lower bytes)
 
 abbrev pub out_line : Datagram → List ℕ
-out_line d = worded (codes "out ") (encode_lower d.bytes)
+out_line d = word_line (codes "out ") (encode_lower d.bytes)
 
 abbrev pub turn_lines : Datagram → Arrival → Turn → List (List ℕ)
 turn_lines d what turn = arrival_line d.bytes what ∷ map out_line turn.datagrams
 
 abbrev pub start_line : ℕ → List ℕ
-start_line life = worded (codes "start ") (decimal life)
+start_line life = word_line (codes "start ") (decimal life)
 
 abbrev pub end_line : List ℕ
 end_line = codes "end\n"

@@ -26,8 +26,8 @@ abbrev pub txn : ℕ → TxnId
 txn seq = record { site = 1; life = 1; seq = seq }
 
 -- a call from a client
-abbrev pub called : Call → Datagram
-called words = datagram_to 7100 (call_frame 1 words)
+abbrev pub datagram_of_call : Call → Datagram
+datagram_of_call words = datagram_to 7100 (call_frame 1 words)
 
 -- ---- bytes
 
@@ -50,10 +50,10 @@ passed_over =
 -- a client writes a record that another site holds too, and commits; that site grants its lock, and votes
 abbrev pub commit : List Datagram
 commit =
-    called call.Begin
-    ∷ called (call.Write (txn 1) 1 (codes "x") (codes "11"))
+    datagram_of_call call.Begin
+    ∷ datagram_of_call (call.Write (txn 1) 1 (codes "x") (codes "11"))
     ∷ datagram_to 7002 (frame_of 2 1 (body.Message (message.WriteAnswer (txn 1) 1)))
-    ∷ called (call.Commit (txn 1) 2)
+    ∷ datagram_of_call (call.Commit (txn 1) 2)
     ∷ datagram_to 7002 (frame_of 2 1 (body.Message (message.Vote (txn 1))))
     ∷ []
 
@@ -63,9 +63,9 @@ committed = (log_record.Start 1 ∷ []) ∷ (log_record.Commit (txn 1) opening (
 
 -- ---- an answer
 
-abbrev pub replied : ℕ → Answer → Datagram
-replied port answer = datagram_to port (frame_of 1 0 (body.Reply answer))
+abbrev pub datagram_of_reply : ℕ → Answer → Datagram
+datagram_of_reply port answer = datagram_to port (frame_of 1 0 (body.Reply answer))
 
 -- none of these is the answer to the commit: they are of another transaction, with another number, or from another port
 abbrev pub others : List Datagram
-others = replied 7001 (answer.Committed (txn 2) 2) ∷ replied 7001 (answer.Written (txn 1) 1) ∷ replied 7002 (answer.Committed (txn 1) 2) ∷ []
+others = datagram_of_reply 7001 (answer.Committed (txn 2) 2) ∷ datagram_of_reply 7001 (answer.Written (txn 1) 1) ∷ datagram_of_reply 7002 (answer.Committed (txn 1) 2) ∷ []

@@ -9,7 +9,7 @@ use Rattle.vp_model.specs.Types.log_record
 use Rattle.vp_model.specs.Catalogue.{Catalogue}
 use Rattle.vp_model.specs.Words.{opening}
 use Rattle.vp_model.specs.World.{Schedule}
-use Rattle.vp_stable.specs.Log.{opened}
+use Rattle.vp_stable.specs.Log.{open_batches}
 use Rattle.vp_runs.specs.Worked.{alone, both, txn}
 
 abbrev pub over : Catalogue → List Event → Schedule
@@ -17,15 +17,15 @@ over catalogue events = record { catalogue = catalogue; events = events }
 
 -- the text of a half with these batches
 abbrev pub half_text : List (List LogRecord) → List ℕ
-half_text batches = encode_lower (opened batches ++ 0 ∷ [])
+half_text batches = encode_lower (open_batches batches ++ 0 ∷ [])
 
-abbrev pub started : ℕ → List LogRecord
-started life = log_record.Start life ∷ []
+abbrev pub start_batch : ℕ → List LogRecord
+start_batch life = log_record.Start life ∷ []
 
 -- ---- restarts
 
-abbrev pub unused : Schedule
-unused = over alone []
+abbrev pub unused_schedule : Schedule
+unused_schedule = over alone []
 
 abbrev pub again : Schedule
 again = over alone (event.Crash 1 ∷ event.Restart 1 ∷ [])
@@ -35,8 +35,8 @@ again = over alone (event.Crash 1 ∷ event.Restart 1 ∷ [])
 abbrev pub idle : Schedule
 idle = over both (event.Tick 1 ∷ event.Crash 1 ∷ event.Tick 1 ∷ event.Crash 1 ∷ event.Crash 2 ∷ event.Restart 2 ∷ event.Restart 2 ∷ event.Tick 2 ∷ event.Restart 1 ∷ [])
 
-abbrev pub promised : ℕ → List LogRecord
-promised number = log_record.Promise (record { number = number; site = 2 }) ∷ []
+abbrev pub promise_batch : ℕ → List LogRecord
+promise_batch number = log_record.Promise (record { number = number; site = 2 }) ∷ []
 
 -- ---- a transaction that two sites vote on
 
@@ -51,10 +51,10 @@ decision =
     ∷ [])
 
 abbrev pub left_at_one : List (List LogRecord)
-left_at_one = started 1 ∷ (log_record.Commit (txn 1) opening ((0, codes "11") ∷ []) (2 ∷ []) ∷ []) ∷ (log_record.Acked (txn 1) 2 ∷ []) ∷ []
+left_at_one = start_batch 1 ∷ (log_record.Commit (txn 1) opening ((0, codes "11") ∷ []) (2 ∷ []) ∷ []) ∷ (log_record.Acked (txn 1) 2 ∷ []) ∷ []
 
 abbrev pub left_at_two : List (List LogRecord)
-left_at_two = started 1 ∷ (log_record.Yes (txn 1) opening ((0, codes "11") ∷ []) ∷ []) ∷ (log_record.Outcome (txn 1) true ∷ []) ∷ []
+left_at_two = start_batch 1 ∷ (log_record.Yes (txn 1) opening ((0, codes "11") ∷ []) ∷ []) ∷ (log_record.Outcome (txn 1) true ∷ []) ∷ []
 
 -- ---- a checkpoint
 
@@ -79,13 +79,13 @@ abbrev pub last_lengths : ℕ → ℕ
 last_lengths n = if n == 0 then 235 else 249
 
 -- The log is 65,529 bytes long, and 65,543 with the start of the next life: a checkpoint is due then, and made by the next step.
-abbrev pub filled : List Event
-filled =
+abbrev pub filling_events : List Event
+filling_events =
     filling 1 (λ n. 255)
     ++ (filling 2 (λ n. 255) ++ (filling 3 (λ n. 255) ++ (filling 4 last_lengths ++ event.Crash 1 ∷ event.Restart 1 ∷ [])))
 
 abbrev pub saved_copies : List (ℕ × Stored)
 saved_copies = map (λ n. (n, record { value = long (last_lengths n); date = opening })) numbers
 
-abbrev pub saved : List (List LogRecord)
-saved = (log_record.Checkpoint 1 2 (record { number = 1; site = 1 }) saved_copies [] [] ∷ []) ∷ []
+abbrev pub saved_log : List (List LogRecord)
+saved_log = (log_record.Checkpoint 1 2 (record { number = 1; site = 1 }) saved_copies [] [] ∷ []) ∷ []

@@ -9,8 +9,8 @@ use Rattle.vp_model.specs.World.{Schedule}
 use Rattle.vp_runs.specs.Worked.{both, txn}
 
 -- Site 1 decides in the second step of the second flow; it starts again later, and gets a tick.
-abbrev pub decided : Schedule
-decided = record {
+abbrev pub decided_schedule : Schedule
+decided_schedule = record {
   catalogue = both;
   events =
       event.Call 1 call.Begin
@@ -63,5 +63,5 @@ with_decision =
 abbrev pub committed : List Commit
 committed = record { txn = txn 1; view = opening; ops = op.Write 0 (codes "11") ∷ [] } ∷ []
 
-abbrev pub restarted : Schedule
-restarted = record { catalogue = both; events = event.Crash 1 ∷ event.Restart 1 ∷ [] }
+abbrev pub restart_schedule : Schedule
+restart_schedule = record { catalogue = both; events = event.Crash 1 ∷ event.Restart 1 ∷ [] }

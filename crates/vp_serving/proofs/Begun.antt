@@ -12,7 +12,7 @@ use Rattle.vp_stable.specs.Halves.{StandsAt, AreBadLog, ReadAlike}
 use Rattle.vp_stable.specs.Moments.{LeavesOthers}
 use Rattle.vp_runs.specs.Keeping.{durable_in}
 use Rattle.vp_runs.specs.Turns.{start_line}
-use Rattle.vp_runs.specs.Runs.{NodeRun, node_run, recorded}
+use Rattle.vp_runs.specs.Runs.{NodeRun, node_run, recorded_bytes}
 use Rattle.vp_node.specs.Causes.{HasNodeCause}
 use Rattle.vp_serving.specs.Ends.{end_of_node}
 use Rattle.vp_node.specs.Nodes.{NodeValue, HasLifeLeft, IsNode, IsKept, Starts, MayStart, IsSpent}
@@ -65,7 +65,7 @@ module _ (catalogue : Catalogue) (id turns : ℕ) (link0 link1 : LinkState) (sin
   unfolding node_run
   stands = started.has
 
-  recorded_is : recorded run ≡ start_line life
+  recorded_is : recorded_bytes run ≡ start_line life
   unfolding node_run
   recorded_is = append-nil _ ∙ ap start_line (ap (λ (s : SiteState). s.life) (sym started.site) ∙ sym life_is)
 
@@ -127,7 +127,7 @@ module _ (catalogue : Catalogue) (id turns : ℕ) (link0 link1 : LinkState) (sin
     written = take cut.0 (start_line life);
     handed = [];
     did = record { writes = cut.2; hands = hands_none link0.handed link1.handed asks.hands_none.same_handed };
-    written_of = subst (λ (l : List ℕ). take cut.0 (start_line life) ≡ take (length (take cut.0 (start_line life))) l) (sym (append-nil (recorded run) ∙ recorded_is)) (prefix_take cut.0 (start_line life) cut.1);
+    written_of = subst (λ (l : List ℕ). take cut.0 (start_line life) ≡ take (length (take cut.0 (start_line life))) l) (sym (append-nil (recorded_bytes run) ∙ recorded_is)) (prefix_take cut.0 (start_line life) cut.1);
     handed_of = refl;
     safe = safe_all catalogue id started.batches [] node disk0 disk1 stands kept others link0.given [] refl;
   }

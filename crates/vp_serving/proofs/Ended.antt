@@ -10,7 +10,7 @@ use Rattle.vp_outside.specs.Links.{LinkState, Receives}
 use Rattle.vp_outside.specs.Output.{SinkState, AppendsPrefix}
 use Rattle.vp_outside.specs.declared.datagram.Dispatch.{Dispatch}
 use Rattle.vp_runs.specs.Turns.{end_line}
-use Rattle.vp_runs.specs.Runs.{NodeRun, node_run, recorded}
+use Rattle.vp_runs.specs.Runs.{NodeRun, node_run, recorded_bytes}
 use Rattle.vp_node.specs.Nodes.{NodeValue}
 use Rattle.vp_serving.specs.Handed.{handed_in}
 use Rattle.vp_serving.specs.Serving.{outside, Course, IsWhole, HasStopped, HasDone, IsBroken, IsUnwritten, Serves, either}
@@ -48,7 +48,7 @@ module _ (catalogue : Catalogue) (id turns count : ℕ) (stopped : Bool) (link0 
     whole b is = record {
       course = course sink2;
       stopped_is = h.stopped_is ∙ is;
-      did = record { writes = Appends-trans sink0.held sink1.held sink2.held (recorded run) end_line h.did.writes printed; hands = h.did.hands };
+      did = record { writes = Appends-trans sink0.held sink1.held sink2.held (recorded_bytes run) end_line h.did.writes printed; hands = h.did.hands };
       kept = kept_as catalogue id h.batches h.arrived node disk0 disk1 h.stands h.kept h.others;
     }
 
@@ -67,10 +67,10 @@ module _ (catalogue : Catalogue) (id turns count : ℕ) (stopped : Bool) (link0 
       course = course sink2;
       end = end_line;
       end_is = inr (refl, ⊎_elim (λ s. inl (h.stopped_is ∙ s)) (λ all. inr (h.many ∙ all)) over);
-      written = recorded run ++ take cut.0 end_line;
+      written = recorded_bytes run ++ take cut.0 end_line;
       handed = sent;
-      did = record { writes = Appends-trans sink0.held sink1.held sink2.held (recorded run) (take cut.0 end_line) h.did.writes cut.2; hands = h.did.hands };
-      written_of = prefix_after (recorded run) (take cut.0 end_line) end_line (prefix_take cut.0 end_line cut.1);
+      did = record { writes = Appends-trans sink0.held sink1.held sink2.held (recorded_bytes run) (take cut.0 end_line) h.did.writes cut.2; hands = h.did.hands };
+      written_of = prefix_after (recorded_bytes run) (take cut.0 end_line) end_line (prefix_take cut.0 end_line cut.1);
       handed_of = prefix_all sent;
       safe = safe_all catalogue id h.batches h.arrived node disk0 disk1 h.stands h.kept h.others link0.given sent (prefix_all sent);
     }
@@ -82,7 +82,7 @@ module _ (catalogue : Catalogue) (id turns count : ℕ) (stopped : Bool) (link0 
       few = omega arith;
       last = omega arith;
       handed = refl;
-      printed = inr (rw (take-length h.arrived) (prefix_front (recorded run) (take cut.0 end_line)));
+      printed = inr (rw (take-length h.arrived) (prefix_front (recorded_bytes run) (take cut.0 end_line)));
     }
 
   module _ (sink2 : SinkState) (end : End) where
@@ -129,7 +129,7 @@ is_lost catalogue id turns count link0 link1 link2 sink0 sink1 disk0 disk1 node 
         moments = h.moments;
       };
       stopped_is = h.stopped_is;
-      did = record { writes = rw (append-nil (recorded (node_run catalogue id h.batches h.arrived))) h.did.writes; hands = rw s.hands_none.same_handed h.did.hands };
+      did = record { writes = rw (append-nil (recorded_bytes (node_run catalogue id h.batches h.arrived))) h.did.writes; hands = rw s.hands_none.same_handed h.did.hands };
       kept = kept_as catalogue id h.batches h.arrived node disk0 disk1 h.stands h.kept h.others;
     };
     more = let m = h.many in omega (arith, m, more);

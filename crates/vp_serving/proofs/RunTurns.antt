@@ -13,7 +13,7 @@ use Rattle.vp_runs.specs.declared.arrival.Arrival.TheVariants.{Bad, Stray, Stops
 use Rattle.vp_runs.specs.Arrivals.{arrival}
 use Rattle.vp_runs.specs.Keeping.{durable_in, kept_with}
 use Rattle.vp_runs.specs.Turns.{Turn, turn_on}
-use Rattle.vp_runs.specs.Runs.{NodeState, NodeRun, with_turn, one_turn, node_run, recorded}
+use Rattle.vp_runs.specs.Runs.{NodeState, NodeRun, with_turn, one_turn, node_run, recorded_bytes}
 use Rattle.vp_runs.proofs.Checkpoints.{batch_folds, steps_fold}
 use Rattle.vp_runs.proofs.Runs.{runs_go_on, runs_keep}
 use Rattle.vp_node.specs.Keeping.{MayKeep}
@@ -71,8 +71,8 @@ module _ (catalogue : Catalogue) (id : ℕ) (batches : List (List LogRecord)) (f
   pub stopped_after : after.stopped ≡ turn.stop
   stopped_after = ap (λ (run : NodeRun). run.stopped) is_turn
 
-  pub recorded_after : recorded after ≡ recorded before ++ lines_of catalogue node d
-  recorded_after = ap recorded is_turn ∙ concat-append before.lines _
+  pub recorded_after : recorded_bytes after ≡ recorded_bytes before ++ lines_of catalogue node d
+  recorded_after = ap recorded_bytes is_turn ∙ concat-append before.lines _
 
   pub left_folds : (left : List (List LogRecord)) → MayKeep (durable_of turn.site) turn.batch before.node.batches left
       → (durable_in catalogue id left ≡ durable_of before.node.site) ⊎ (durable_in catalogue id left ≡ durable_of after.node.site)

@@ -14,7 +14,7 @@ use Rattle.vp_outside.specs.declared.datagram.Dispatch.{Dispatch}
 use Rattle.vp_stable.specs.Halves.{Standing, StandsAt, HaveBatches}
 use Rattle.vp_stable.specs.Moments.{LeavesOthers}
 use Rattle.vp_runs.specs.Keeping.{kept_with}
-use Rattle.vp_runs.specs.Runs.{NodeRun, node_run, recorded}
+use Rattle.vp_runs.specs.Runs.{NodeRun, node_run, recorded_bytes}
 use Rattle.vp_runs.proofs.Runs.{runs_keep}
 use Rattle.vp_node.specs.Keeping.{KeepsAt}
 use Rattle.vp_node.specs.Nodes.{NodeValue, HasLifeLeft, IsNode, IsKept, Keeps, MaySave, turn_of}
@@ -42,7 +42,7 @@ pub record SoFar (catalogue : Catalogue) (id count : ℕ) (stopped : Bool) (o : 
   pub ended : stopped ≡ true → (front : List Datagram) × (last : Datagram) × (arrived ≡ front ++ last ∷ []) × ((node_run catalogue id batches front).stopped ≡ false)
   pub site : node.site ≡ (node_run catalogue id batches arrived).node.site
   pub stands : Steps (λ _ log. StandsAt node.at (node_run catalogue id batches arrived).node.batches log) o.disk o.disk'
-  pub did : Did o (recorded (node_run catalogue id batches arrived)) (handed_in catalogue id batches o.link.given arrived (length arrived))
+  pub did : Did o (recorded_bytes (node_run catalogue id batches arrived)) (handed_in catalogue id batches o.link.given arrived (length arrived))
   pub node_is : IsNode catalogue node
   pub kept : IsKept catalogue node o.disk'
   pub others : LeavesOthers o.disk o.disk'

@@ -8,7 +8,7 @@ use Rattle.vp_model.specs.Catalogue.{Catalogue}
 use Rattle.vp_model.specs.Step.{durable_of}
 use Rattle.vp_outside.specs.Causes.{count_after}
 use Rattle.vp_outside.specs.Disk.{DiskState, Becomes, Steps, log_of}
-use Rattle.vp_outside.specs.Links.{LinkState, Gave, Hands, HandsNow, StaysBound, GivesNone, Receives, received, handed_after}
+use Rattle.vp_outside.specs.Links.{LinkState, Gave, Hands, HandsNow, StaysBound, GivesNone, Receives, received_datagram, handed_after}
 use Rattle.vp_outside.specs.Output.{SinkState, AppendsPrefix}
 use Rattle.vp_outside.specs.declared.datagram.Datagram.{Datagram}
 use Rattle.vp_outside.specs.declared.datagram.Dispatch.{Dispatch}
@@ -16,7 +16,7 @@ use Rattle.vp_stable.specs.Halves.{StandsAt}
 use Rattle.vp_stable.specs.Moments.{LeavesOnly, LeavesOthers}
 use Rattle.vp_stable.proofs.Times.{others_join}
 use Rattle.vp_runs.specs.Turns.{Turn}
-use Rattle.vp_runs.specs.Runs.{NodeRun, node_run, recorded}
+use Rattle.vp_runs.specs.Runs.{NodeRun, node_run, recorded_bytes}
 use Rattle.vp_node.specs.Keeping.{KeepsAt}
 use Rattle.vp_node.specs.Nodes.{NodeValue, MaySave, turn_of}
 use Rattle.vp_serving.specs.Handed.{handed_in}
@@ -35,9 +35,9 @@ module _ (catalogue : Catalogue) (id turns count : ℕ) (link0 link1 link2 link3
     (h : SoFar catalogue id count false (outside link0 link1 sink0 sink1 disk0 disk1) node) (more : count < turns)
     {E : Type 0} (buf buf' : List ℕ) (r : ℕ × ℕ) (came : Receives {E = E} buf buf' link1 link2 (Ok r))
     (stays : StaysBound link2 link3) (gives_none : GivesNone link2 link3) (same_faults : link3.faults ≡ link2.faults) (others : LeavesOthers disk1 disk2)
-    (turns_at : disk1.honest → IfSome (log_of disk1) (λ log. LeavesOnly disk1 disk2 (MaySave catalogue node (turn_of catalogue node (received r buf')) log))) where
+    (turns_at : disk1.honest → IfSome (log_of disk1) (λ log. LeavesOnly disk1 disk2 (MaySave catalogue node (turn_of catalogue node (received_datagram r buf')) log))) where
   abbrev d : Datagram
-  d = received r buf'
+  d = received_datagram r buf'
 
   abbrev front : List Datagram
   front = h.arrived
@@ -69,7 +69,7 @@ module _ (catalogue : Catalogue) (id turns count : ℕ) (link0 link1 link2 link3
   many : length (front ++ d ∷ []) ≡ count + 1
   many = let m = h.many in omega (arith, one_longer front d, m)
 
-  recorded_is : recorded after ≡ recorded before ++ lines
+  recorded_is : recorded_bytes after ≡ recorded_bytes before ++ lines
   recorded_is = recorded_after catalogue id h.batches front d node h.site h.stopped_is
 
   datagrams_are : after.datagrams ≡ before.datagrams ++ turn.datagrams
@@ -133,7 +133,7 @@ module _ (catalogue : Catalogue) (id turns count : ℕ) (link0 link1 link2 link3
       site = turned.site ∙ sym (site_after catalogue id h.batches front d node h.site h.stopped_is);
       stands = stands;
       did = record {
-        writes = rw recorded_is (Appends-trans sink0.held sink1.held sink2.held (recorded before) lines h.did.writes tells.0);
+        writes = rw recorded_is (Appends-trans sink0.held sink1.held sink2.held (recorded_bytes before) lines h.did.writes tells.0);
         hands = subst (Hands link0.handed link3.handed) (sym all_sent) (hands_then link0.handed link2.handed link3.handed sent (handed_after link2.given turn.datagrams) hands_before tells.1);
       };
       node_is = turned.node_is;
@@ -156,13 +156,13 @@ module _ (catalogue : Catalogue) (id turns count : ℕ) (link0 link1 link2 link3
           course = course sink2;
           end = [];
           end_is = inl refl;
-          written = recorded before ++ written;
+          written = recorded_bytes before ++ written;
           handed = sent ++ now;
           did = record {
-            writes = Appends-trans sink0.held sink1.held sink2.held (recorded before) written h.did.writes writes;
+            writes = Appends-trans sink0.held sink1.held sink2.held (recorded_bytes before) written h.did.writes writes;
             hands = hands_then link0.handed link2.handed link3.handed sent now hands_before hands;
           };
-          written_of = subst (IsPrefix (recorded before ++ written)) (sym (append-nil (recorded after) ∙ recorded_is)) (prefix_after (recorded before) written lines written_of);
+          written_of = subst (IsPrefix (recorded_bytes before ++ written)) (sym (append-nil (recorded_bytes after) ∙ recorded_is)) (prefix_after (recorded_bytes before) written lines written_of);
           handed_of = front_of_all;
           safe = safe_all catalogue id h.batches (front ++ d ∷ []) kept_now disk0 disk2 stands turned.kept (others_join h.others others) link0.given (sent ++ now) front_of_all;
         }
@@ -175,7 +175,7 @@ module _ (catalogue : Catalogue) (id turns count : ℕ) (link0 link1 link2 link3
       few = omega (arith, one_longer front d);
       last = omega (arith, one_longer front d);
       handed = append-nil sent ∙ sym same_sent;
-      printed = inr (rw (take-append_seam front (d ∷ [])) (prefix_front (recorded before) (take cut.0 lines)));
+      printed = inr (rw (take-append_seam front (d ∷ [])) (prefix_front (recorded_bytes before) (take cut.0 lines)));
     }
 
     may_tell : TellsTurn catalogue node d link2 link3 sink1 sink2 (Err ends.NoMemory) → IsBroken catalogue id turns (outside link0 link3 sink0 sink2 disk0 disk2)
@@ -185,7 +185,7 @@ module _ (catalogue : Catalogue) (id turns count : ℕ) (link0 link1 link2 link3
   -- ---- the node is gone in it
 
   module _ (may : MayHaveTurned catalogue node d disk1 disk2) (still : (link3 ≡ link2) × (sink2 ≡ sink1)) where
-    writes_before : Appends sink0.held sink2.held (recorded before)
+    writes_before : Appends sink0.held sink2.held (recorded_bytes before)
     writes_before = rw still.1 h.did.writes
 
     abbrev sent_before : List Dispatch
@@ -213,10 +213,10 @@ module _ (catalogue : Catalogue) (id turns count : ℕ) (link0 link1 link2 link3
       course = course sink2;
       end = [];
       end_is = inl refl;
-      written = recorded before;
+      written = recorded_bytes before;
       handed = sent_before;
       did = record { writes = writes_before; hands = all_before };
-      written_of = subst (IsPrefix (recorded before)) (sym (append-nil (recorded after) ∙ recorded_is)) (prefix_front (recorded before) lines);
+      written_of = subst (IsPrefix (recorded_bytes before)) (sym (append-nil (recorded_bytes after) ∙ recorded_is)) (prefix_front (recorded_bytes before) lines);
       handed_of = subst (λ (hs : List Dispatch). IsPrefix hs (handed_in catalogue id h.batches link0.given (front ++ d ∷ []) (length (front ++ d ∷ [])))) (sym same_sent)
           (subst (IsPrefix sent) (sym all_sent) (prefix_front sent (handed_after link2.given turn.datagrams)));
       safe = safe_before;

@@ -15,7 +15,7 @@ use Rattle.vp_stable.specs.Halves.{HaveBatches, AreBadLog, ReadAlike}
 use Rattle.vp_stable.specs.Moments.{LeavesOnly}
 use Rattle.vp_runs.specs.Keeping.{durable_in}
 use Rattle.vp_runs.specs.Turns.{end_line}
-use Rattle.vp_runs.specs.Runs.{NodeRun, node_run, recorded}
+use Rattle.vp_runs.specs.Runs.{NodeRun, node_run, recorded_bytes}
 use Rattle.vp_node.specs.Nodes.{HasLifeLeft, MayStart, IsSpent}
 use Rattle.vp_serving.specs.Handed.{handed_in}
 use Rattle.vp_serving.specs.declared.end.End.{End}
@@ -128,7 +128,7 @@ module _ (catalogue : Catalogue) (id turns : ℕ) (o : Outside) where
   pub record IsWhole (stopped : Bool) (end : List ℕ) : Type 0 where
     pub course : Course catalogue id turns o
     pub stopped_is : (run_of course).stopped ≡ stopped
-    pub did : Did o (recorded (run_of course) ++ end) (handed_by course (length course.arrived))
+    pub did : Did o (recorded_bytes (run_of course) ++ end) (handed_by course (length course.arrived))
     pub kept : IsKeptAs (run_of course) o.disk o.disk'
 
   -- The last datagram ended the run, and none before it.
@@ -156,7 +156,7 @@ module _ (catalogue : Catalogue) (id turns : ℕ) (o : Outside) where
     pub last : Datagram
     pub arrived : course.arrived ≡ front ++ last ∷ []
     pub going : (node_run catalogue id course.batches front).stopped ≡ false
-    pub did : Did o (recorded (node_run catalogue id course.batches front)) (handed_by course (length front))
+    pub did : Did o (recorded_bytes (node_run catalogue id course.batches front)) (handed_by course (length front))
     pub safe : IsSafe catalogue id course.batches o.link.given course.arrived (handed_by course (length front)) o.disk o.disk'
 
   -- the last line of a recording, which comes only after a run that is over
@@ -171,7 +171,7 @@ module _ (catalogue : Catalogue) (id turns : ℕ) (o : Outside) where
     pub written : List ℕ
     pub handed : List Dispatch
     pub did : Did o written handed
-    pub written_of : IsPrefix written (recorded (run_of course) ++ end)
+    pub written_of : IsPrefix written (recorded_bytes (run_of course) ++ end)
     pub handed_of : IsPrefix handed (handed_by course (length course.arrived))
     pub safe : IsSafe catalogue id course.batches o.link.given course.arrived handed o.disk o.disk'
 
@@ -183,7 +183,7 @@ module _ (catalogue : Catalogue) (id turns : ℕ) (o : Outside) where
     pub few : turns_done ≤ length broken.course.arrived
     pub last : length broken.course.arrived ≤ turns_done + 1
     pub handed : broken.handed ≡ handed_by broken.course turns_done
-    pub printed : (broken.handed ≡ []) ⊎ IsPrefix (recorded (node_run catalogue id broken.course.batches (take turns_done broken.course.arrived))) broken.written
+    pub printed : (broken.handed ≡ []) ⊎ IsPrefix (recorded_bytes (node_run catalogue id broken.course.batches (take turns_done broken.course.arrived))) broken.written
 
   -- what each end of serving means
   abbrev pub Serves : End → Type 0

@@ -7,7 +7,7 @@ use Rattle.vp_base.specs.declared.entry.Stored.{Stored}
 use Rattle.vp_model.specs.Durable.{DurableState, empty_durable}
 use Rattle.vp_outside.specs.Disk.{Halves, half_of, InHalf, Becomes, DiskState, log_of, IsDisk}
 use Rattle.vp_stable.specs.Log.{IsLog}
-use Rattle.vp_stable.specs.Halves.{generation_of, HasGeneration, IsCurrent, HaveBatches, Standing, StandsAt, AreKept, checkpoint_of, checkpointed, is_last, saved, folded, SavesAt, MaySaveAt, FoldsAlike}
+use Rattle.vp_stable.specs.Halves.{generation_of, HasGeneration, IsCurrent, HaveBatches, Standing, StandsAt, AreKept, checkpoint_of, checkpoint_batches, is_last, save_batches, apply_batches, SavesAt, MaySaveAt, FoldsAlike}
 use Rattle.vp_stable.specs.Moments.{LeavesOnly}
 use Rattle.vp_stable.specs.Writing.{MayClear, Clears, IsPiece, Puts, MayPut, IsSynced, Tears}
 use Rattle.vp_stable.proofs.Writes.{tears_as, tears_then}
@@ -62,10 +62,10 @@ module _ (d : DurableState) (from : Standing) where
     back (suc zero) a b le = refl
     back (suc (suc k)) a b le = absurd (omega (arith, le))
 
-    not_last : (batches : List (List LogRecord)) → from.generation ≡ generation_of batches → saved d batches ≡ (checkpoint_of (from.generation + 1) d ∷ []) ∷ []
+    not_last : (batches : List (List LogRecord)) → from.generation ≡ generation_of batches → save_batches d batches ≡ (checkpoint_of (from.generation + 1) d ∷ []) ∷ []
     not_last batches same =
         let no : is_last (generation_of batches) ≡ false = grind (arith, nat_tests) in
-        ap (λ (last : Bool). if last then batches else checkpointed d batches) no ∙ ap (λ (n : ℕ). (checkpoint_of (n + 1) d ∷ []) ∷ []) (sym same)
+        ap (λ (last : Bool). if last then batches else checkpoint_batches d batches) no ∙ ap (λ (n : ℕ). (checkpoint_of (n + 1) d ∷ []) ∷ []) (sym same)
 
     -- with its batch the other half is the current one
     becomes_current : (batches : List (List LogRecord)) (old new : Halves) → StandsAt from batches old → half_of from.half new ≡ half_of from.half old
@@ -115,7 +115,7 @@ module _ (d : DurableState) (from : Standing) where
   pub saves_nothing : from.generation ≡ 2 ^ 64 - 1 → (log : Halves) → SavesAt d from from log log
   saves_nothing last log batches stands =
       let yes : is_last (generation_of batches) ≡ true = grind (arith, nat_tests) in
-      subst (λ (bs : List (List LogRecord)). StandsAt from bs log) (sym (ap (λ (last : Bool). if last then batches else checkpointed d batches) yes)) stands
+      subst (λ (bs : List (List LogRecord)). StandsAt from bs log) (sym (ap (λ (last : Bool). if last then batches else checkpoint_batches d batches) yes)) stands
 
   -- ---- both fold to the same durable part
 
@@ -123,8 +123,8 @@ module _ (d : DurableState) (from : Standing) where
     folds_alike : (old new : Halves) → MaySaveAt d from old new → FoldsAlike d from old new
     folds_alike old new may batches after copies stands has folds =
         ⊎_elim
-        (λ was. subst (λ (bs : List (List LogRecord)). folded bs (empty_durable copies) ≡ d) (halves_are_one batches after new was has) folds)
-        (λ is. subst (λ (bs : List (List LogRecord)). folded bs (empty_durable copies) ≡ d) (halves_are_one (saved d batches) after new is has) (saved_folds d ascends batches copies folds))
+        (λ was. subst (λ (bs : List (List LogRecord)). apply_batches bs (empty_durable copies) ≡ d) (halves_are_one batches after new was has) folds)
+        (λ is. subst (λ (bs : List (List LogRecord)). apply_batches bs (empty_durable copies) ≡ d) (halves_are_one (save_batches d batches) after new is has) (saved_folds d ascends batches copies folds))
         (may batches stands)
 
     abbrev Saves : Halves → Halves → Type 0

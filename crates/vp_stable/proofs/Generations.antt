@@ -5,7 +5,7 @@ use Rattle.vp_base.specs.declared.entry.LogRecord.{LogRecord}
 use Rattle.vp_outside.specs.Disk.{Halves, half_of, InHalf}
 use Rattle.vp_records.specs.Batches.{batch_bytes}
 use Rattle.vp_records.proofs.Batches.{one_batch}
-use Rattle.vp_stable.specs.Log.{measured, opened, StandsFirst, IsLog, HasBatches}
+use Rattle.vp_stable.specs.Log.{measured, open_batches, StandsFirst, IsLog, HasBatches}
 use Rattle.vp_stable.specs.Halves.{generation_in, generation_of, HasGeneration, higher, IsCurrent, HalvesAreOneLog, BadHalvesHaveNoBatches}
 use Rattle.vp_stable.proofs.Measured.{measured_same}
 use Rattle.vp_stable.proofs.Determined.{head, begins, batches_are_one, bad_logs_have_no_batches}
@@ -51,8 +51,8 @@ log_generation place (b ∷ bs) bytes log =
       b,
       record {
         place = length (measured b);
-        rest = measured b ++ (opened bs ++ log.gate ∷ log.rest);
-        open_ = log.is ∙ ap (λ (l : List ℕ). 1 ∷ l) (append_assoc (measured b) (opened bs) (log.gate ∷ log.rest));
+        rest = measured b ++ (open_batches bs ++ log.gate ∷ log.rest);
+        open_ = log.is ∙ ap (λ (l : List ℕ). 1 ∷ l) (append_assoc (measured b) (open_batches bs) (log.gate ∷ log.rest));
         stands = record { gate = next.gate; rest = next.rest; is = ap (λ (l : List ℕ). measured b ++ l) next.is; at = refl; can = log.can.0 };
       },
       refl,

@@ -6,7 +6,7 @@ use Rattle.vp_base.specs.declared.entry.Stored.{Stored}
 use Rattle.vp_model.specs.Words.{for_each, keys, replace_at}
 use Rattle.vp_model.specs.Durable.{DurableState, empty_durable, apply, apply_all}
 use Rattle.vp_records.proofs.Held.{applied_keys}
-use Rattle.vp_stable.specs.Halves.{folded, saved, checkpointed, is_last, generation_of}
+use Rattle.vp_stable.specs.Halves.{apply_batches, save_batches, checkpoint_batches, is_last, generation_of}
 
 abbrev Pair : Type 0
 Pair = ℕ × Stored
@@ -75,20 +75,20 @@ all_keys : (records : List LogRecord) (d : DurableState) → keys (apply_all rec
 all_keys [] d = refl
 all_keys (r ∷ records) d = all_keys records (apply r d) ∙ applied_keys r d
 
-pub folded_keys : (batches : List (List LogRecord)) (d : DurableState) → keys (folded batches d).copies ≡ keys d.copies
+pub folded_keys : (batches : List (List LogRecord)) (d : DurableState) → keys (apply_batches batches d).copies ≡ keys d.copies
 folded_keys [] d = refl
 folded_keys (batch ∷ batches) d = folded_keys batches (apply_all batch d) ∙ all_keys batch d
 
-module _ (d : DurableState) (ascends : AllPairs (λ (a : Pair) (b : Pair). a.0 < b.0) d.copies) (batches : List (List LogRecord)) (copies : List (ℕ × Stored)) (folds : folded batches (empty_durable copies) ≡ d) where
-  checkpoint_folds : folded (checkpointed d batches) (empty_durable copies) ≡ d
+module _ (d : DurableState) (ascends : AllPairs (λ (a : Pair) (b : Pair). a.0 < b.0) d.copies) (batches : List (List LogRecord)) (copies : List (ℕ × Stored)) (folds : apply_batches batches (empty_durable copies) ≡ d) where
+  checkpoint_folds : apply_batches (checkpoint_batches d batches) (empty_durable copies) ≡ d
   unfolding apply
   checkpoint_folds =
       let same : keys copies ≡ keys d.copies = sym (folded_keys batches (empty_durable copies)) ∙ ap (λ (e : DurableState). keys e.copies) folds in
       ap (λ (c : List Pair). record { promise = d.promise; life = d.life; copies = c; doubts = d.doubts; decisions = d.decisions }) (filled d.copies copies same (ascends_of d.copies ascends))
 
-  either : (last : Bool) → folded (if last then batches else checkpointed d batches) (empty_durable copies) ≡ d
+  either : (last : Bool) → apply_batches (if last then batches else checkpoint_batches d batches) (empty_durable copies) ≡ d
   either true = folds
   either false = checkpoint_folds
 
-  pub saved_folds : folded (saved d batches) (empty_durable copies) ≡ d
+  pub saved_folds : apply_batches (save_batches d batches) (empty_durable copies) ≡ d
   saved_folds = either (is_last (generation_of batches))

@@ -3,19 +3,19 @@ use Rattle.std.proofs.Common.{◌≡◌, ℕ, ◌+◌, ◌-◌, ◌<◌, ◌≤�
 use Rattle.std.proofs.lemmas.List.{drop_at, drop_more, take_rest}
 use Rattle.std.specs.List.{AllByRecursion}
 use Rattle.vp_base.specs.declared.entry.LogRecord.{LogRecord}
-use Rattle.vp_stable.specs.Log.{CanStand, measured, opened, StandsFirst, IsBadLog}
+use Rattle.vp_stable.specs.Log.{CanStand, measured, open_batches, StandsFirst, IsBadLog}
 use Rattle.vp_stable.proofs.Opened.{opened-push, length-opened-push, all_push}
 
 -- The bytes before the place are these batches, each after an open gate.
 pub record IsRead (batches : List (List LogRecord)) (at : ℕ) (bytes : List ℕ) : Type 0 where
   pub within : at < length bytes
-  pub is : bytes ≡ opened batches ++ drop at bytes
-  pub place : at ≡ length (opened batches)
+  pub is : bytes ≡ open_batches batches ++ drop at bytes
+  pub place : at ≡ length (open_batches batches)
   pub can : AllByRecursion CanStand batches
 
 module _ (batches : List (List LogRecord)) (at : ℕ) (bytes : List ℕ) (read : IsRead batches at bytes) (is_open : get_or bytes at 0 ≡ 1) where
-  from_gate : bytes ≡ opened batches ++ 1 ∷ drop (at + 1) bytes
-  from_gate = read.is ∙ ap (λ (l : List ℕ). opened batches ++ l) (drop_more bytes at 0 read.within ∙ ap (λ (g : ℕ). g ∷ drop (at + 1) bytes) is_open)
+  from_gate : bytes ≡ open_batches batches ++ 1 ∷ drop (at + 1) bytes
+  from_gate = read.is ∙ ap (λ (l : List ℕ). open_batches batches ++ l) (drop_more bytes at 0 read.within ∙ ap (λ (g : ℕ). g ∷ drop (at + 1) bytes) is_open)
 
   -- no batch follows the gate
   pub bad_gate : 2 ≤ length bytes → ((batch : List LogRecord) (next : ℕ) → StandsFirst batch next (take (length bytes - (at + 1)) (drop (at + 1) bytes)) → ⊥) → IsBadLog at bytes
@@ -33,9 +33,9 @@ module _ (batches : List (List LogRecord)) (at : ℕ) (bytes : List ℕ) (read :
   pub one_more : (batch : List LogRecord) (next : ℕ) → StandsFirst batch next (take (length bytes - (at + 1)) (drop (at + 1) bytes)) → IsRead (batches ++ batch ∷ []) (at + (1 + next)) bytes
   one_more batch next stands =
       let following : drop (at + 1) bytes ≡ measured batch ++ stands.gate ∷ stands.rest = sym (take_rest bytes (at + 1)) ∙ stands.is in
-      let front = opened (batches ++ batch ∷ []) in
+      let front = open_batches (batches ++ batch ∷ []) in
       let back = stands.gate ∷ stands.rest in
-      let whole : bytes ≡ front ++ back = from_gate ∙ ap (λ (l : List ℕ). opened batches ++ 1 ∷ l) following ∙ sym (opened-push batches batch back) in
+      let whole : bytes ≡ front ++ back = from_gate ∙ ap (λ (l : List ℕ). open_batches batches ++ 1 ∷ l) following ∙ sym (opened-push batches batch back) in
       let place : at + (1 + next) ≡ length front = omega (arith, read.place, stands.at, length-opened-push batches batch) in
       record {
         within = omega (arith, place, ap length whole, length-append front back);

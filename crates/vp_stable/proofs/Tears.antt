@@ -5,7 +5,7 @@ use Rattle.std.proofs.lemmas.Bool.{cases_eq}
 use Rattle.std.specs.List.{AllByRecursion}
 use Rattle.vp_base.specs.declared.entry.LogRecord.{LogRecord}
 use Rattle.vp_outside.specs.Disk.{Written, Torn}
-use Rattle.vp_stable.specs.Log.{CanStand, measured, opened, IsLog}
+use Rattle.vp_stable.specs.Log.{CanStand, measured, open_batches, IsLog}
 use Rattle.vp_stable.proofs.Opened.{opened-push, length-opened-push, all_push, length-around, take_before, take_through, drop_through, around}
 
 -- ---- any write
@@ -48,8 +48,8 @@ written_empty old new written = record { gate = 0; rest = drop 1 old; is = writt
 pub record IsStaged (batch : List LogRecord) (place : ℕ) (batches : List (List LogRecord)) (bytes : List ℕ) : Type 0 where
   pub gate : ℕ
   pub rest : List ℕ
-  pub is : bytes ≡ opened batches ++ gate ∷ (measured batch ++ 0 ∷ rest)
-  pub at : place ≡ length (opened batches)
+  pub is : bytes ≡ open_batches batches ++ gate ∷ (measured batch ++ 0 ∷ rest)
+  pub at : place ≡ length (open_batches batches)
   pub can : AllByRecursion CanStand batches
 
 -- its gate decides whether it counts
@@ -60,7 +60,7 @@ staged_reads batch place batches bytes can staged = elim (cases_eq staged.gate 1
       inr (record {
         gate = 0;
         rest = staged.rest;
-        is = staged.is ∙ ap (λ (g : ℕ). opened batches ++ g ∷ (measured batch ++ 0 ∷ staged.rest)) is_open ∙ sym (opened-push batches batch (0 ∷ staged.rest));
+        is = staged.is ∙ ap (λ (g : ℕ). open_batches batches ++ g ∷ (measured batch ++ 0 ∷ staged.rest)) is_open ∙ sym (opened-push batches batch (0 ∷ staged.rest));
         closed = λ e. absurd (omega (arith, e));
         at = omega (arith, staged.at, length-append (measured batch) (0 ∷ []), length-opened-push batches batch);
         can = all_push batches batch staged.can can;
@@ -70,20 +70,20 @@ staged_reads batch place batches bytes can staged = elim (cases_eq staged.gate 1
 
 module _ (place : ℕ) (batches : List (List LogRecord)) (old : List ℕ) (log : IsLog place batches old) where
   log_size : length old ≡ place + 1 + length log.rest
-  log_size = ap length log.is ∙ length-around (opened batches) log.rest log.gate place log.at
+  log_size = ap length log.is ∙ length-around (open_batches batches) log.rest log.gate place log.at
 
-  log_front : take (place + 1) old ≡ opened batches ++ log.gate ∷ []
-  log_front = ap (λ (l : List ℕ). take (place + 1) l) log.is ∙ take_through (opened batches) log.rest log.gate place log.at
+  log_front : take (place + 1) old ≡ open_batches batches ++ log.gate ∷ []
+  log_front = ap (λ (l : List ℕ). take (place + 1) l) log.is ∙ take_through (open_batches batches) log.rest log.gate place log.at
 
   -- what follows the closed gate is not part of the log
   pub torn_after : (n : ℕ) (new : List ℕ) → Torn (place + 1) n old new → IsLog place batches new
   torn_after n new torn =
       let within : place + 1 ≡ min (place + 1) (length old) = omega (arith, log_size) in
-      let front : take (place + 1) new ≡ opened batches ++ log.gate ∷ [] = ap (λ (k : ℕ). take k new) within ∙ torn.before ∙ log_front in
+      let front : take (place + 1) new ≡ open_batches batches ++ log.gate ∷ [] = ap (λ (k : ℕ). take k new) within ∙ torn.before ∙ log_front in
       record {
         gate = log.gate;
         rest = drop (place + 1) new;
-        is = sym (take-append-drop (place + 1) new) ∙ ap (λ (l : List ℕ). l ++ drop (place + 1) new) front ∙ append_assoc (opened batches) (log.gate ∷ []) (drop (place + 1) new);
+        is = sym (take-append-drop (place + 1) new) ∙ ap (λ (l : List ℕ). l ++ drop (place + 1) new) front ∙ append_assoc (open_batches batches) (log.gate ∷ []) (drop (place + 1) new);
         closed = log.closed;
         at = log.at;
         can = log.can;
@@ -94,14 +94,14 @@ module _ (place : ℕ) (batches : List (List LogRecord)) (old : List ℕ) (log :
       let piece = measured batch ++ 0 ∷ [] in
       let zeros : List ℕ = replicate (place + 1 - length old) 0 in
       let more = drop (place + 1 + length piece) old in
-      let front : take (place + 1) (old ++ zeros) ≡ opened batches ++ log.gate ∷ [] = take-append-le (place + 1) old zeros (omega (arith, log_size)) ∙ log_front in
+      let front : take (place + 1) (old ++ zeros) ≡ open_batches batches ++ log.gate ∷ [] = take-append-le (place + 1) old zeros (omega (arith, log_size)) ∙ log_front in
       record {
         gate = log.gate;
         rest = more;
         is = written ∙ ap (λ (l : List ℕ). l ++ piece ++ more) front
-            ∙ append_assoc (opened batches ++ log.gate ∷ []) piece more
-            ∙ append_assoc (opened batches) (log.gate ∷ []) (piece ++ more)
-            ∙ ap (λ (l : List ℕ). opened batches ++ log.gate ∷ l) (append_assoc (measured batch) (0 ∷ []) more);
+            ∙ append_assoc (open_batches batches ++ log.gate ∷ []) piece more
+            ∙ append_assoc (open_batches batches) (log.gate ∷ []) (piece ++ more)
+            ∙ ap (λ (l : List ℕ). open_batches batches ++ log.gate ∷ l) (append_assoc (measured batch) (0 ∷ []) more);
         at = log.at;
         can = log.can;
       }
@@ -111,23 +111,23 @@ module _ (batch : List LogRecord) (can : CanStand batch) (place : ℕ) (batches 
   back = measured batch ++ 0 ∷ staged.rest
 
   staged_size : length old ≡ place + 1 + length back
-  staged_size = ap length staged.is ∙ length-around (opened batches) back staged.gate place staged.at
+  staged_size = ap length staged.is ∙ length-around (open_batches batches) back staged.gate place staged.at
 
-  staged_front : take place old ≡ opened batches
-  staged_front = ap (λ (l : List ℕ). take place l) staged.is ∙ take_before (opened batches) back staged.gate place staged.at
+  staged_front : take place old ≡ open_batches batches
+  staged_front = ap (λ (l : List ℕ). take place l) staged.is ∙ take_before (open_batches batches) back staged.gate place staged.at
 
   staged_back : drop (place + 1) old ≡ back
-  staged_back = ap (λ (l : List ℕ). drop (place + 1) l) staged.is ∙ drop_through (opened batches) back staged.gate place staged.at
+  staged_back = ap (λ (l : List ℕ). drop (place + 1) l) staged.is ∙ drop_through (open_batches batches) back staged.gate place staged.at
 
   -- the batch is whole whatever became of the write of its gate
   pub torn_gate : (new : List ℕ) → Torn place 1 old new → IsLog place batches new ⊎ IsLog (place + length (measured batch ++ 0 ∷ [])) (batches ++ batch ∷ []) new
   torn_gate new torn =
       let within : place ≡ min place (length old) = omega (arith, staged_size) in
-      let front : take place new ≡ opened batches = ap (λ (k : ℕ). take k new) within ∙ torn.before ∙ staged_front in
+      let front : take place new ≡ open_batches batches = ap (λ (k : ℕ). take k new) within ∙ torn.before ∙ staged_front in
       staged_reads batch place batches new can (record {
         gate = get_or new place 0;
         rest = staged.rest;
-        is = around new (opened batches) back place front (torn.after ∙ staged_back) (omega (arith, staged_size, torn.no_shorter));
+        is = around new (open_batches batches) back place front (torn.after ∙ staged_back) (omega (arith, staged_size, torn.no_shorter));
         at = staged.at;
         can = staged.can;
       })
@@ -135,13 +135,13 @@ module _ (batch : List LogRecord) (can : CanStand batch) (place : ℕ) (batches 
   pub written_gate : (new : List ℕ) → Written place (1 ∷ []) old new → IsLog (place + length (measured batch ++ 0 ∷ [])) (batches ++ batch ∷ []) new
   written_gate new written =
       let zeros : List ℕ = replicate (place - length old) 0 in
-      let front : take place (old ++ zeros) ≡ opened batches = take-append-le place old zeros (omega (arith, staged_size)) ∙ staged_front in
+      let front : take place (old ++ zeros) ≡ open_batches batches = take-append-le place old zeros (omega (arith, staged_size)) ∙ staged_front in
       record {
         gate = 0;
         rest = staged.rest;
         is = written ∙ ap (λ (l : List ℕ). l ++ (1 ∷ []) ++ drop (place + 1) old) front
-            ∙ ap (λ (l : List ℕ). opened batches ++ (1 ∷ []) ++ l) staged_back
-            ∙ append_assoc (opened batches) (1 ∷ []) back
+            ∙ ap (λ (l : List ℕ). open_batches batches ++ (1 ∷ []) ++ l) staged_back
+            ∙ append_assoc (open_batches batches) (1 ∷ []) back
             ∙ sym (opened-push batches batch (0 ∷ staged.rest));
         closed = λ e. absurd (omega (arith, e));
         at = omega (arith, staged.at, length-append (measured batch) (0 ∷ []), length-opened-push batches batch);

@@ -6,7 +6,7 @@ use Rattle.vp_model.specs.Durable.{DurableState, empty_durable, apply_all}
 use Rattle.vp_model.specs.Types.{Stored}
 use Rattle.vp_model.specs.Words.{for_each}
 use Rattle.vp_outside.specs.Disk.{Halves, half_of, DiskState, log_of, Only}
-use Rattle.vp_stable.specs.Log.{opened, StandsFirst, IsLog, HasBatches, IsBadLog}
+use Rattle.vp_stable.specs.Log.{open_batches, StandsFirst, IsLog, HasBatches, IsBadLog}
 use Rattle.vp_stable.specs.declared.fault.LogFault.{LogFault}
 use Rattle.vp_stable.specs.declared.fault.LogFault.TheVariants as faults
 
@@ -88,7 +88,7 @@ pub record Standing : Type 0 where
 
 abbrev pub second_gate : List (List LogRecord) → ℕ
 second_gate [] = 0
-second_gate (batch ∷ batches) = length (opened (batch ∷ []))
+second_gate (batch ∷ batches) = length (open_batches (batch ∷ []))
 
 -- The log has this position and these batches.
 pub record StandsAt (at : Standing) (batches : List (List LogRecord)) (log : Halves) : Type 0 where
@@ -128,32 +128,32 @@ abbrev pub checkpoint_of : ℕ → DurableState → LogRecord
 checkpoint_of generation d = log_record.Checkpoint generation d.life d.promise d.copies d.doubts d.decisions
 
 -- one batch of one checkpoint, of the generation after that of these batches
-abbrev pub checkpointed : DurableState → List (List LogRecord) → List (List LogRecord)
-checkpointed d batches = (checkpoint_of (generation_of batches + 1) d ∷ []) ∷ []
+abbrev pub checkpoint_batches : DurableState → List (List LogRecord) → List (List LogRecord)
+checkpoint_batches d batches = (checkpoint_of (generation_of batches + 1) d ∷ []) ∷ []
 
 abbrev pub is_last : ℕ → Bool
 is_last generation = generation == 2 ^ 64 - 1
 
 -- the batches after a checkpoint; at the last generation nothing is done
-abbrev pub saved : DurableState → List (List LogRecord) → List (List LogRecord)
-saved d batches = if is_last (generation_of batches) then batches else checkpointed d batches
+abbrev pub save_batches : DurableState → List (List LogRecord) → List (List LogRecord)
+save_batches d batches = if is_last (generation_of batches) then batches else checkpoint_batches d batches
 
 -- The log had the first position, has the batches that a checkpoint makes of its batches, and then has the second position.
 abbrev pub SavesAt : DurableState → Standing → Standing → Halves → Halves → Type 0
-SavesAt d from to old new = (batches : List (List LogRecord)) → StandsAt from batches old → StandsAt to (saved d batches) new
+SavesAt d from to old new = (batches : List (List LogRecord)) → StandsAt from batches old → StandsAt to (save_batches d batches) new
 
 -- It has those batches or the earlier ones.
 abbrev pub MaySaveAt : DurableState → Standing → Halves → Halves → Type 0
-MaySaveAt d from old new = (batches : List (List LogRecord)) → StandsAt from batches old → HaveBatches batches new ⊎ HaveBatches (saved d batches) new
+MaySaveAt d from old new = (batches : List (List LogRecord)) → StandsAt from batches old → HaveBatches batches new ⊎ HaveBatches (save_batches d batches) new
 
 -- what a durable part is after batches
-abbrev pub folded : List (List LogRecord) → DurableState → DurableState
-folded batches d = for_each batches apply_all d
+abbrev pub apply_batches : List (List LogRecord) → DurableState → DurableState
+apply_batches batches d = for_each batches apply_all d
 
 -- From whatever copies the batches fold to this durable part, the new batches do so too.
 abbrev pub FoldsAlike : DurableState → Standing → Halves → Halves → Type 0
 FoldsAlike d from old new = (batches after : List (List LogRecord)) (copies : List (ℕ × Stored)) → StandsAt from batches old → HaveBatches after new
-    → folded batches (empty_durable copies) ≡ d → folded after (empty_durable copies) ≡ d
+    → apply_batches batches (empty_durable copies) ≡ d → apply_batches after (empty_durable copies) ≡ d
 
 -- ---- when a checkpoint is due
 
@@ -163,11 +163,11 @@ is_due at = if at.second == 0 then false else nat_lt 65536 (at.gate + 1) && nat_
 
 -- the same for batches, by the lengths of their encodings
 abbrev pub size : List (List LogRecord) → ℕ
-size batches = length (opened batches) + 1
+size batches = length (open_batches batches) + 1
 
 abbrev pub due : List (List LogRecord) → Bool
 due [] = false
-due (batch ∷ batches) = nat_lt 65536 (size (batch ∷ batches)) && nat_lt (2 * length (opened (batch ∷ []))) (size (batch ∷ batches))
+due (batch ∷ batches) = nat_lt 65536 (size (batch ∷ batches)) && nat_lt (2 * length (open_batches (batch ∷ []))) (size (batch ∷ batches))
 
 -- The log at this position is as short as a checkpoint makes it: none is due, or none can be made, since its generation is the
 -- last.

@@ -15,8 +15,8 @@ unfoldable pub measured : List LogRecord → List ℕ
 measured batch = big_bytes 8 (length (batch_bytes batch)) ++ batch_bytes batch
 
 -- batches, each after an open gate
-abbrev pub opened : List (List LogRecord) → List ℕ
-opened batches = flat_map (λ batch. 1 ∷ measured batch) batches
+abbrev pub open_batches : List (List LogRecord) → List ℕ
+open_batches batches = flat_map (λ batch. 1 ∷ measured batch) batches
 
 -- The bytes begin with the length of a batch and the batch, and a gate follows at that place.
 pub record StandsFirst (batch : List LogRecord) (place : ℕ) (bytes : List ℕ) : Type 0 where
@@ -31,9 +31,9 @@ pub record StandsFirst (batch : List LogRecord) (place : ℕ) (bytes : List ℕ)
 pub record IsLog (place : ℕ) (batches : List (List LogRecord)) (bytes : List ℕ) : Type 0 where
   pub gate : ℕ
   pub rest : List ℕ
-  pub is : bytes ≡ opened batches ++ gate ∷ rest
+  pub is : bytes ≡ open_batches batches ++ gate ∷ rest
   pub closed : gate ≡ 1 → ⊥
-  pub at : place ≡ length (opened batches)
+  pub at : place ≡ length (open_batches batches)
   pub can : AllByRecursion CanStand batches
 
 -- The bytes are a log with these batches; or they are at most 1 byte, which is always a log without batches.
@@ -45,7 +45,7 @@ pub record IsBadLog (place : ℕ) (bytes : List ℕ) : Type 0 where
   pub batches : List (List LogRecord)
   pub rest : List ℕ
   pub some : 2 ≤ length bytes
-  pub is : bytes ≡ opened batches ++ 1 ∷ rest
-  pub at : place ≡ length (opened batches)
+  pub is : bytes ≡ open_batches batches ++ 1 ∷ rest
+  pub at : place ≡ length (open_batches batches)
   pub can : AllByRecursion CanStand batches
   pub none : (batch : List LogRecord) (next : ℕ) → StandsFirst batch next rest → ⊥

@@ -11,8 +11,8 @@ abbrev pub twice_text : ℕ → List ℕ
 twice_text line = codes "twice line " ++ (decimal line ++ 10 ∷ [])
 
 -- what the limit counts
-abbrev pub limited : ℕ → List ℕ
-limited limit = if limit == 256 then codes "records " else (if limit == 2000000 then codes "messages " else codes "events ")
+abbrev pub limit_words : ℕ → List ℕ
+limit_words limit = if limit == 256 then codes "records " else (if limit == 2000000 then codes "messages " else codes "events ")
 
 abbrev pub limit_text : ℕ → List ℕ
-limit_text limit = codes "limit " ++ (limited limit ++ (decimal limit ++ 10 ∷ []))
+limit_text limit = codes "limit " ++ (limit_words limit ++ (decimal limit ++ 10 ∷ []))

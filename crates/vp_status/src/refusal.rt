@@ -2,7 +2,7 @@
 
 ghost use Rattle.std.specs.Prelude.{◌≡◌};
 ghost use Rattle.vp_text.specs.Printing.{Appends};
-ghost use Rattle.vp_status.specs.Refused.{bad_line_text, twice_text, limited, limit_text};
+ghost use Rattle.vp_status.specs.Refused.{bad_line_text, twice_text, limit_words, limit_text};
 
 use vp_base::{MOST_MESSAGES, MOST_RECORDS, NoMemory};
 use vp_text::print_number;
@@ -33,8 +33,8 @@ pub fn print_twice(line: usize, out: &mut Vec<u8>) -> Result<(), NoMemory>
 }
 
 /// The word for what the limit counts.
-fn limited(limit: u32) -> &'static [u8]
-    ensures { result.now ≡ limited limit }
+fn limit_words(limit: u32) -> &'static [u8]
+    ensures { result.now ≡ limit_words limit }
 {
     if limit == MOST_RECORDS as u32 {
         b"records "
@@ -51,7 +51,7 @@ pub fn print_limit(limit: u32, out: &mut Vec<u8>) -> Result<(), NoMemory>
     ensures { Appends result out.old.items (limit_text limit) out.new.items }
 {
     out.extend_from_slice(b"limit ")?;
-    out.extend_from_slice(limited(limit))?;
+    out.extend_from_slice(limit_words(limit))?;
     print_number(out, u64::from(limit))?;
     out.push(b'\n')?;
     Ok(())

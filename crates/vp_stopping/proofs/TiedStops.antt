@@ -17,7 +17,7 @@ use Rattle.vp_stable.specs.Halves.{HaveBatches}
 use Rattle.vp_runs.specs.Keeping.{durable_in}
 use Rattle.vp_runs.specs.Turns.{Turn}
 use Rattle.vp_runs.proofs.Checkpoints.{batch_folds}
-use Rattle.vp_runs.specs.Kept.{input_of, forced, forced_at, kept_in as batches_in}
+use Rattle.vp_runs.specs.Kept.{input_of, forced_records, forced_at, kept_in as batches_in}
 use Rattle.vp_runs.proofs.Happened.{Acts, Effect, effect, named, put_down}
 use Rattle.vp_runs.specs.Stopped.{appends, appender, stopped_world}
 use Rattle.vp_world.specs.Steps.{taker}
@@ -59,7 +59,7 @@ module _ (catalogue : Catalogue) (m : Moment) (s : ℕ) (a : Acts catalogue m s)
   names = (named m.line.event m.before s a.given a.gives).1
 
   forced_is : forced_at catalogue s m ≡ records
-  forced_is = ap (λ o. forced catalogue o (input_of m.before m.line.event)) a.up ∙ ap (forced catalogue (Some a.x)) (named m.line.event m.before s a.given a.gives).2
+  forced_is = ap (λ o. forced_records catalogue o (input_of m.before m.line.event)) a.up ∙ ap (forced_records catalogue (Some a.x)) (named m.line.event m.before s a.given a.gives).2
 
   steps : is_step m.line.shown ≡ true
   steps = ap is_step a.shown_is

@@ -15,7 +15,7 @@ use Rattle.vp_runs.specs.Keeping.{durable_in}
 use Rattle.vp_runs.proofs.Happened.{Effect, IsPlain, effect, named, put_down}
 use Rattle.vp_runs.specs.Stopped.{stop_at, stopped_world}
 use Rattle.vp_runs.proofs.Delivered.{IsSingle, steps_to}
-use Rattle.vp_world.specs.Asked.{Asked, started, restart_asked}
+use Rattle.vp_world.specs.Asked.{Asked, life_start, restart_asked}
 use Rattle.vp_world.specs.Places.{Did}
 use Rattle.vp_world.specs.Steps.{step_at, step_by, IsReady, DoesEvent}
 use Rattle.vp_cluster.specs.Nodes.{MayRestart}
@@ -76,7 +76,7 @@ module _ (catalogue : Catalogue) (w : WorldState) (following : AfterStop) where
   crashing s None = tt
   crashing s (Some x) = tt
 
-  may_start : (s : ℕ) (place : Place) → place_of s w.places ≡ Some place → Waits catalogue w place.id following.nodes → MayRestart catalogue place.id (started catalogue place.id place.durable) following.nodes
+  may_start : (s : ℕ) (place : Place) → place_of s w.places ≡ Some place → Waits catalogue w place.id following.nodes → MayRestart catalogue place.id (life_start catalogue place.id place.durable) following.nodes
   may_start s place at waits =
       let same : waits.place ≡ place = (let z = sym waits.place_is ∙ ap (λ id. place_of id w.places) (place-id s w.places place at) ∙ at in cc) in
       record {
@@ -88,8 +88,8 @@ module _ (catalogue : Catalogue) (w : WorldState) (following : AfterStop) where
         batches = waits.batches;
         down = waits.down;
         site_is =
-            ap (started catalogue place.id) (sym (waits.folds ∙ ap (λ (p : Place). p.durable) same))
-            ∙ sym (ap (λ (c : Catalogue). started c place.id (durable_in c place.id waits.batches)) waits.same_catalogue);
+            ap (life_start catalogue place.id) (sym (waits.folds ∙ ap (λ (p : Place). p.durable) same))
+            ∙ sym (ap (λ (c : Catalogue). life_start c place.id (durable_in c place.id waits.batches)) waits.same_catalogue);
         same_catalogue = waits.same_catalogue;
       }
 
@@ -98,7 +98,7 @@ module _ (catalogue : Catalogue) (w : WorldState) (following : AfterStop) where
     starting s None at = tt
     starting s (Some place) at = go place.up
       where
-        go : (up : Option SiteState) → IfAsked (cond (is_some up) None (Some (Asked.restarts place.id (started catalogue place.id place.durable))))
+        go : (up : Option SiteState) → IfAsked (cond (is_some up) None (Some (Asked.restarts place.id (life_start catalogue place.id place.durable))))
         go (Some x) = tt
         go None = λ is. may_start s place at (subst (λ o. IfSome o (λ id. Waits catalogue w id following.nodes)) is h)
 
@@ -154,7 +154,7 @@ module _ (catalogue : Catalogue) (w : WorldState) (old new : AfterStop) where
   other_stays s other None at d = d
   other_stays s other (Some place) at d = go place.up d
     where
-      go : (up : Option SiteState) → Done (cond (is_some up) None (Some (Asked.restarts place.id (started catalogue place.id place.durable)))) → new ≡ old
+      go : (up : Option SiteState) → Done (cond (is_some up) None (Some (Asked.restarts place.id (life_start catalogue place.id place.durable)))) → new ≡ old
       go (Some x) d = d
       go None d = d.1 (λ is. other (is ∙ ap Some (place-id s w.places place at)))
 
@@ -162,7 +162,7 @@ module _ (catalogue : Catalogue) (w : WorldState) (old new : AfterStop) where
   that_starts : (s : ℕ) (place : Place) → old.stopped ≡ Some s → place_of s w.places ≡ Some place → place.up ≡ None → IfDone (event.Restart s) → new.stopped ≡ None
   that_starts s place is at down d =
       let asked = subst (λ found. Done (option_and_then (restart_asked catalogue) found)) at d in
-      let starts = subst (λ (up : Option SiteState). Done (cond (is_some up) None (Some (Asked.restarts place.id (started catalogue place.id place.durable))))) down asked in
+      let starts = subst (λ (up : Option SiteState). Done (cond (is_some up) None (Some (Asked.restarts place.id (life_start catalogue place.id place.durable))))) down asked in
       (starts.0 (is ∙ ap Some (sym (place-id s w.places place at)))).1
 
   module _ (e : Event) (d : IfDone e) where

@@ -3,7 +3,7 @@ use Rattle.std.proofs.Common.{◌≡◌, ℕ, zero, suc, ◌+◌, ◌*◌, ◌-�
 use Rattle.std.proofs.lemmas.List.{length-take, drop_more, take_more, drop_all, nil_from_length}
 use Rattle.std.proofs.lemmas.Bool.{eq-eqb, ne_eqb, lt-ltb, le-ltb, lt-leb, and_left, and_right, cases_lt}
 use Rattle.vp_text.proofs.Scan.{scan_on, scan_off}
-use Rattle.vp_text.specs.Reading.{scan, ended, literal_step, literal_done, literal_at, word_step, word_done, word_at, begins_number, is_digit, number_step, meets}
+use Rattle.vp_text.specs.Reading.{scan, whole_reading, literal_step, literal_done, literal_at, word_step, word_done, word_at, begins_number, is_digit, number_step, meets}
 
 -- ---- a given text
 
@@ -44,12 +44,12 @@ pub word_starts : (has : ℕ → Bool) (most : ℕ) (bytes : List ℕ) → word_
 unfolding word_at
 word_starts has most bytes = refl
 
-stopped : (has : ℕ → Bool) (most : ℕ) (bytes : List ℕ) (n : ℕ) → n < length bytes → (ltb (length (take n bytes)) most && has (get_or bytes n 0)) ≡ false → word_from has most bytes n ≡ ended (word_done (take n bytes)) (drop n bytes)
+stopped : (has : ℕ → Bool) (most : ℕ) (bytes : List ℕ) (n : ℕ) → n < length bytes → (ltb (length (take n bytes)) most && has (get_or bytes n 0)) ≡ false → word_from has most bytes n ≡ whole_reading (word_done (take n bytes)) (drop n bytes)
 stopped has most bytes n lt e =
     rw (drop_more bytes n 0 lt) (scan_off (word_step has most) word_done (take n bytes) (get_or bytes n 0) (drop (n + 1) bytes) (rw e refl))
 
 -- no more bytes belong to it
-word_stops : (has : ℕ → Bool) (most : ℕ) (bytes : List ℕ) (n : ℕ) → n ≤ length bytes → (n < length bytes → n < most → has (get_or bytes n 0) ≡ false) → word_from has most bytes n ≡ ended (word_done (take n bytes)) (drop n bytes)
+word_stops : (has : ℕ → Bool) (most : ℕ) (bytes : List ℕ) (n : ℕ) → n ≤ length bytes → (n < length bytes → n < most → has (get_or bytes n 0) ≡ false) → word_from has most bytes n ≡ whole_reading (word_done (take n bytes)) (drop n bytes)
 word_stops has most bytes n le stops =
     elim (cases_lt n (length bytes)) [
       | inl lt ↦
@@ -62,7 +62,7 @@ word_stops has most bytes n le stops =
       | inr over ↦ rw (drop_all n bytes over) refl
     ]
 
-word_is : (w rest : List ℕ) → 0 < length w → ended (word_done w) rest ≡ Ok (w, rest)
+word_is : (w rest : List ℕ) → 0 < length w → whole_reading (word_done w) rest ≡ Ok (w, rest)
 word_is [] rest lt = absurd (omega arith)
 word_is (c ∷ w) rest lt = refl
 

@@ -2,7 +2,7 @@
 use Rattle.std.proofs.Common.{◌≡◌, ℕ, List, [], ◌∷◌, ◌++◌, length, Option, Some, None, Result, Ok, Err, refl, sym, ap, subst, ◌∙◌, append_assoc}
 use Rattle.std.proofs.lemmas.List.{append-nil}
 use Rattle.vp_text.specs.Meaning.{Begins}
-use Rattle.vp_text.specs.Reading.{scan, ended}
+use Rattle.vp_text.specs.Reading.{scan, whole_reading}
 use Rattle.vp_text.proofs.Exact.{Apart, Parts, IsRead, IsFault, Exact, done, ok_value}
 
 -- What one step of a scan says of the language, where `At s front` means that s is the state after the front.
@@ -14,21 +14,21 @@ pub record Scans {S A : Type 0} (L : A → List ℕ → Type 0) (step : S → �
   pub none : (s : S) (p : List ℕ) (a : A) → At s p → finish s ≡ None → L a p → ⊥
   pub one : (a b : A) (t : List ℕ) → L a t → L b t → a ≡ b
 
-ended_ok : {A : Type 0} (o : Option A) (bytes : List ℕ) (a : A) (rest : List ℕ) → ended o bytes ≡ Ok (a, rest) → (o ≡ Some a) × (bytes ≡ rest)
+ended_ok : {A : Type 0} (o : Option A) (bytes : List ℕ) (a : A) (rest : List ℕ) → whole_reading o bytes ≡ Ok (a, rest) → (o ≡ Some a) × (bytes ≡ rest)
 ended_ok (Some b) bytes a rest e =
     let same : (b, bytes) ≡ (a, rest) = ok_value (b, bytes) (a, rest) e in
     (ap (λ (x : _ × List ℕ). Some x.0) same, ap (λ (x : _ × List ℕ). x.1) same)
 ended_ok None bytes a rest e = absurd (let no : Err (length bytes) ≡ done (a, rest) = e in cc)
 
-ended_err : {A : Type 0} (o : Option A) (bytes : List ℕ) (n : ℕ) → ended o bytes ≡ Err n → (o ≡ None) × (length bytes ≡ n)
+ended_err : {A : Type 0} (o : Option A) (bytes : List ℕ) (n : ℕ) → whole_reading o bytes ≡ Err n → (o ≡ None) × (length bytes ≡ n)
 ended_err (Some b) bytes n e = absurd (let no : done (b, bytes) ≡ Err n = e in cc)
 ended_err None bytes n e = (refl, cc)
 
 -- the next byte's step, and where it leads
 next : {S A : Type 0} (step : S → ℕ → Option S) (finish : S → Option A) (s : S) (c : ℕ) (cs : List ℕ) (C : Result (A × List ℕ) ℕ → Type 0)
-    → ((t : S) → step s c ≡ Some t → C (scan step finish t cs)) → (step s c ≡ None → C (ended (finish s) (c ∷ cs))) → C (scan step finish s (c ∷ cs))
+    → ((t : S) → step s c ≡ Some t → C (scan step finish t cs)) → (step s c ≡ None → C (whole_reading (finish s) (c ∷ cs))) → C (scan step finish s (c ∷ cs))
 next {S = S} step finish s c cs C on off =
-    let f : (o : Option S) → step s c ≡ o → C (elim o [ Some t ↦ scan step finish t cs | None ↦ ended (finish s) (c ∷ cs) ]) = λ o. elim o as (λ o. step s c ≡ o → C (elim o [ Some t ↦ scan step finish t cs | None ↦ ended (finish s) (c ∷ cs) ])) [
+    let f : (o : Option S) → step s c ≡ o → C (elim o [ Some t ↦ scan step finish t cs | None ↦ whole_reading (finish s) (c ∷ cs) ]) = λ o. elim o as (λ o. step s c ≡ o → C (elim o [ Some t ↦ scan step finish t cs | None ↦ whole_reading (finish s) (c ∷ cs) ])) [
       | Some t ↦ λ e. on t e
       | None ↦ λ e. off e
     ] in
@@ -114,7 +114,7 @@ scan_exact w s at = record {
 -- ---- a turn of the loop
 
 pub scan_on : {S A : Type 0} (step : S → ℕ → Option S) (finish : S → Option A) (s : S) (c : ℕ) (cs : List ℕ) (t : S) → step s c ≡ Some t → scan step finish s (c ∷ cs) ≡ scan step finish t cs
-scan_on {S = S} step finish s c cs t e = ap (λ (o : Option S). elim o [ Some t ↦ scan step finish t cs | None ↦ ended (finish s) (c ∷ cs) ]) e
+scan_on {S = S} step finish s c cs t e = ap (λ (o : Option S). elim o [ Some t ↦ scan step finish t cs | None ↦ whole_reading (finish s) (c ∷ cs) ]) e
 
-pub scan_off : {S A : Type 0} (step : S → ℕ → Option S) (finish : S → Option A) (s : S) (c : ℕ) (cs : List ℕ) → step s c ≡ None → scan step finish s (c ∷ cs) ≡ ended (finish s) (c ∷ cs)
-scan_off {S = S} step finish s c cs e = ap (λ (o : Option S). elim o [ Some t ↦ scan step finish t cs | None ↦ ended (finish s) (c ∷ cs) ]) e
+pub scan_off : {S A : Type 0} (step : S → ℕ → Option S) (finish : S → Option A) (s : S) (c : ℕ) (cs : List ℕ) → step s c ≡ None → scan step finish s (c ∷ cs) ≡ whole_reading (finish s) (c ∷ cs)
+scan_off {S = S} step finish s c cs e = ap (λ (o : Option S). elim o [ Some t ↦ scan step finish t cs | None ↦ whole_reading (finish s) (c ∷ cs) ]) e

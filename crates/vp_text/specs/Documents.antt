@@ -12,6 +12,10 @@ HasNoNewline bytes = AllByRecursion (λ c. c ≡ 10 → ⊥) bytes
 abbrev pub IsLine : List ℕ → Type 0
 IsLine line = (body : List ℕ) × HasNoNewline body × (line ≡ body ++ 10 ∷ [])
 
+-- the line of a word and a text, its newline included
+abbrev pub word_line : List ℕ → List ℕ → List ℕ
+word_line word text = word ++ (text ++ 10 ∷ [])
+
 -- a text's first line, its newline included
 abbrev pub first_line : List ℕ → List ℕ
 first_line [] = []

@@ -9,7 +9,7 @@ use Rattle.vp_stable.specs.Halves.{HaveBatches, AreBadLog}
 use Rattle.vp_stable.specs.declared.fault.LogFault.{LogFault}
 use Rattle.vp_stable.specs.declared.fault.LogFault.TheVariants as faults
 use Rattle.vp_runs.specs.Keeping.{durable_in}
-use Rattle.vp_audit.specs.Audited.{Parts, audited}
+use Rattle.vp_audit.specs.Audited.{Parts, audit_of}
 use Rattle.vp_audit.specs.Lines.{report_text}
 use Rattle.vp_audit.specs.True.{IsTrueReport}
 use Rattle.vp_status.specs.Lines.{bad_log_text, disk_fault_text}
@@ -68,8 +68,8 @@ module _ (catalogue : Catalogue) (logs : List (ℕ × List ℕ)) (old new : Disk
   pub record IsReported (text : List ℕ) : Type 0 where
     pub parts : Parts
     pub read : AreParts catalogue old logs parts
-    pub text_is : text ≡ report_text catalogue (audited catalogue parts)
-    pub is_true : IsTrueReport catalogue parts (audited catalogue parts)
+    pub text_is : text ≡ report_text catalogue (audit_of catalogue parts)
+    pub is_true : IsTrueReport catalogue parts (audit_of catalogue parts)
 
   -- the text at each status
   abbrev pub AuditGives : Status → List ℕ → Type 0

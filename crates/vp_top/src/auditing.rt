@@ -1,7 +1,7 @@
 //! The command that reports what stopped sites hold.
 
 ghost use Rattle.std.specs.Prelude.{◌≡◌, ◌≤◌, Some, IfOk, IfSome, IsErrOf};
-ghost use Rattle.vp_audit.specs.Audited.{audited};
+ghost use Rattle.vp_audit.specs.Audited.{audit_of};
 ghost use Rattle.vp_audit.specs.Lines.{report_text};
 ghost use Rattle.vp_outside.specs.Causes.{Rose};
 ghost use Rattle.vp_stable.specs.Halves.{Peeks};
@@ -92,7 +92,7 @@ fn bad_log(alloc: Global, half: u8, at: u64) -> Result<RunOutput, NoMemory>
 fn reported(catalog: &Catalog, parts: &Parts) -> Result<RunOutput, NoMemory>
     ensures status { IfOk result (λ it. it.status ≡ status.Done) }
     ensures text { IfOk result
-        (λ it. it.text.items ≡ report_text catalog.now (audited catalog.now parts.now)) }
+        (λ it. it.text.items ≡ report_text catalog.now (audit_of catalog.now parts.now)) }
 {
     let report = audit(catalog, parts)?;
     let mut text = Vec::new(catalog.sites().allocator());

@@ -27,8 +27,8 @@ pub record Viewed : Type 0 where
   pub at : Viewing
   pub effects : Effects
 
-abbrev pub viewed : Viewing → Effects → Viewed
-viewed at effects = record { at = at; effects = effects }
+abbrev pub view_step : Viewing → Effects → Viewed
+view_step at effects = record { at = at; effects = effects }
 
 abbrev pub change : (ViewState → ViewState) → Viewing → Viewing
 change f v = record v { views = f v.views }
@@ -89,8 +89,8 @@ pub record IsApart (v : ViewState) : Type 0 where
   pub inviting : v.inviting ≡ None
 
 -- a site that starts: in the opening view, or in no view
-abbrev pub started : Catalogue → ViewId → Bool → ViewState
-started catalogue promise is_opening =
+abbrev pub start_views : Catalogue → ViewId → Bool → ViewState
+start_views catalogue promise is_opening =
     record {
       promise = promise;
       seen = 0;
@@ -109,7 +109,7 @@ invitable v = if is_spent v.views then Err (record { number = highest v.views })
 
 abbrev pub inviting_to : Catalogue → ViewId → Viewed → Viewed
 inviting_to catalogue id o =
-    viewed
+    view_step
     (change (with_invitation id o.at.id) o.at)
     (with_messages o.at.id (message.Invite id) (other_sites catalogue o.at.id) (with_entry (log_record.Promise id) o.effects))
 
@@ -121,18 +121,18 @@ Invites catalogue (Err fault.NoMemory) old new = Unit {0}
 
 abbrev pub accepting : ℕ → ViewId → Viewed → Viewed
 accepting from id o =
-    viewed (change (with_wait id) o.at) (with_message o.at.id (message.Accept id) from (with_entry (log_record.Promise id) o.effects))
+    view_step (change (with_wait id) o.at) (with_message o.at.id (message.Accept id) from (with_entry (log_record.Promise id) o.effects))
 
 -- an invitation that comes: one above the promise is accepted, a lower one is answered with the promise, and the one that is waited
 -- for is accepted again
-abbrev pub invited : ℕ → ViewId → Viewed → Viewed
-invited from id o =
+abbrev pub receive_invite : ℕ → ViewId → Viewed → Viewed
+receive_invite from id o =
     if view_before o.at.promise id
     then accepting from id o
     else (if view_before id o.at.promise
-    then viewed o.at (with_message o.at.id (message.Stale id o.at.promise) from o.effects)
+    then view_step o.at (with_message o.at.id (message.Stale id o.at.promise) from o.effects)
     else (if is_view o.at.waiting id
-    then viewed o.at (with_message o.at.id (message.Accept id) from o.effects)
+    then view_step o.at (with_message o.at.id (message.Accept id) from o.effects)
     else o))
 
 -- a view that comes is held where it is waited for and this site is a member
@@ -141,13 +141,13 @@ joins view v = is_view v.waiting view.id && has view.members v.id
 
 abbrev pub fixing : ViewId × List ℕ → Viewed → Viewed
 fixing inviting o =
-    viewed
+    view_step
     (change (with_view (record { id = inviting.0; members = inviting.1 })) o.at)
     (with_messages o.at.id (message.ViewCommit inviting.0 inviting.1) (filter (λ q. not (q == o.at.id)) inviting.1) o.effects)
 
 -- the members are fixed as the sites that have accepted
-abbrev pub fixed : Viewed → Viewed
-fixed o = option_map_or (λ inviting. fixing inviting o) o.at.inviting o
+abbrev pub fix_members : Viewed → Viewed
+fix_members o = option_map_or (λ inviting. fixing inviting o) o.at.inviting o
 
 abbrev pub hearing : ℕ → Viewing → Viewing
 hearing from v = if is_some v.held then change (with_heard from) v else v
@@ -159,6 +159,6 @@ wants v = option_map_or (λ view. option_map_or (is_odd v.id view.members) v.mon
 abbrev pub probing : Catalogue → Viewed → Viewed
 probing catalogue o =
     option_map_or
-    (λ view. viewed (change with_monitor o.at) (with_messages o.at.id (message.Probe view.id) (other_sites catalogue o.at.id) o.effects))
+    (λ view. view_step (change with_monitor o.at) (with_messages o.at.id (message.Probe view.id) (other_sites catalogue o.at.id) o.effects))
     o.at.held
     o

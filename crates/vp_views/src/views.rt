@@ -7,7 +7,7 @@ ghost use Rattle.vp_model.specs.Site.{with_messages};
 ghost use Rattle.vp_model.specs.Views.{other_sites, without_view, with_view};
 ghost use Rattle.vp_model.specs.Messages.{with_accepted, with_seen};
 ghost use Rattle.vp_model.specs.Step.{without_wait};
-ghost use Rattle.vp_views.specs.Viewing.{Viewing, viewed, change, started, invitable, Invites, IsApart, invited, joins, fixed, fixing, hearing, wants, probing};
+ghost use Rattle.vp_views.specs.Viewing.{Viewing, view_step, change, start_views, invitable, Invites, IsApart, receive_invite, joins, fix_members, fixing, hearing, wants, probing};
 
 use crate::fault::{InviteFault, Spent};
 use crate::sites::is_odd;
@@ -66,7 +66,7 @@ impl Views {
         is_opening: bool,
     ) -> Result<Views, NoMemory>
         requires { IsTrue is_opening → promise ≡ opening }
-        ensures { IfOk result (λ v. v ≡ record { id = id; views = started catalog.now promise is_opening }) }
+        ensures { IfOk result (λ v. v ≡ record { id = id; views = start_views catalog.now promise is_opening }) }
     {
         let standing = if is_opening {
             Standing::Holding {
@@ -151,7 +151,7 @@ impl Views {
         effects: &mut Effects,
     ) -> Result<ViewId, InviteFault>
         requires { IsApart self.old.views }
-        ensures row { Invites catalog.now result (viewed self.old effects.old) (viewed self.new effects.new) }
+        ensures row { Invites catalog.now result (view_step self.old effects.old) (view_step self.new effects.new) }
         ensures id { self.new.id ≡ self.old.id }
         ensures promise { view_before self.new.promise self.old.promise ≡ false }
     {
@@ -175,7 +175,7 @@ impl Views {
         requires { view_before self.old.promise id ≡ true → IsApart self.old.views }
         ensures accepted { IfOk result (λ accepted. accepted ≡ view_before self.old.promise id) }
         ensures row { OnOk result
-            (viewed self.new effects.new ≡ invited from id (viewed self.old effects.old)) }
+            (view_step self.new effects.new ≡ receive_invite from id (view_step self.old effects.old)) }
         ensures id { self.new.id ≡ self.old.id }
         ensures promise { view_before self.new.promise self.old.promise ≡ false }
     {
@@ -212,7 +212,7 @@ impl Views {
     /// Returns whether there was one.
     pub fn fix(&mut self, effects: &mut Effects) -> Result<bool, NoMemory>
         ensures inviting { IfOk result (λ was. was ≡ is_some self.old.inviting) }
-        ensures row { OnOk result (viewed self.new effects.new ≡ fixed (viewed self.old effects.old)) }
+        ensures row { OnOk result (view_step self.new effects.new ≡ fix_members (view_step self.old effects.old)) }
         ensures id { self.new.id ≡ self.old.id }
     {
         match self.accepted()? {
@@ -240,7 +240,7 @@ impl Views {
     fn fix_as(&mut self, members: Sites, effects: &mut Effects) -> Result<(), NoMemory>
         requires { self.old.monitor ≡ None }
         ensures row { OnOk result
-            (viewed self.new effects.new ≡ fixing (self.old.promise, members) (viewed self.old effects.old)) }
+            (view_step self.new effects.new ≡ fixing (self.old.promise, members) (view_step self.old effects.old)) }
         ensures id { self.new.id ≡ self.old.id }
     {
         let others = others_of(&members, self.id)?;
@@ -291,7 +291,7 @@ impl Views {
     /// Answers an invitation that is not above the promise.
     fn answer_old(&self, from: SiteId, id: ViewId, effects: &mut Effects) -> Result<(), NoMemory>
         requires { view_before self.now.promise id ≡ false }
-        ensures { OnOk result (viewed self.now effects.new ≡ invited from id (viewed self.now effects.old)) }
+        ensures { OnOk result (view_step self.now effects.new ≡ receive_invite from id (view_step self.now effects.old)) }
     {
         if view_comes_before(&id, &self.promise) {
             effects.send(
@@ -350,7 +350,7 @@ impl Views {
     /// Probes every other site of the catalogue, where a view is held, and begins to note which sites are heard.
     pub fn probe(&mut self, catalog: &Catalog, effects: &mut Effects) -> Result<(), NoMemory>
         ensures row { OnOk result
-            (viewed self.new effects.new ≡ probing catalog.now (viewed self.old effects.old)) }
+            (view_step self.new effects.new ≡ probing catalog.now (view_step self.old effects.old)) }
         ensures id { self.new.id ≡ self.old.id }
     {
         match self.standing.listen() {

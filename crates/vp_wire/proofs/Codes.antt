@@ -2,7 +2,7 @@
 use Rattle.std.proofs.Common.{◌≡◌, ℕ, ◌==◌, Bool, true, false, cond, List, [], ◌∷◌, Option, Some, None, refl, ap, subst}
 use Rattle.std.proofs.lemmas.Bool.{eqb-true}
 use Rattle.vp_bytes.proofs.Codes.{Codes}
-use Rattle.vp_wire.specs.Kinds.{coded, message_code, message_kind, message_kinds, call_code, call_kind, call_kinds, answer_code, answer_kind, answer_kinds, frame_code, frame_kind, other_kinds, or_other}
+use Rattle.vp_wire.specs.Kinds.{kind_of_code, message_code, message_kind, message_kinds, call_code, call_kind, call_kinds, answer_code, answer_kind, answer_kinds, frame_code, frame_kind, other_kinds, or_other}
 use Rattle.vp_wire.specs.declared.kind.MessageKind.{MessageKind}
 use Rattle.vp_wire.specs.declared.kind.MessageKind.TheVariants as messages
 use Rattle.vp_wire.specs.declared.kind.CallKind.{CallKind}
@@ -18,9 +18,9 @@ module _ {K : Type 0} (code : K → ℕ) where
   coded_at true c first kind other same rest e = let is : first ≡ kind = cc in subst (λ (k : K). code k ≡ c) is (same refl)
   coded_at false c first kind other same rest e = rest e
 
-  coded_only : (kinds : List K) (c : ℕ) (kind : K) → coded code kinds c ≡ Some kind → code kind ≡ c
+  coded_only : (kinds : List K) (c : ℕ) (kind : K) → kind_of_code code kinds c ≡ Some kind → code kind ≡ c
   coded_only [] c kind e = absurd (let never : None ≡ Some kind = e in cc)
-  coded_only (first ∷ kinds) c kind e = coded_at (code first == c) c first kind (coded code kinds c) (λ s. eqb-true (code first) c s) (λ r. coded_only kinds c kind r) e
+  coded_only (first ∷ kinds) c kind e = coded_at (code first == c) c first kind (kind_of_code code kinds c) (λ s. eqb-true (code first) c s) (λ r. coded_only kinds c kind r) e
 
 message_found : (kind : MessageKind) → message_kind (message_code kind) ≡ Some kind
 message_found messages.Invite = refl
@@ -76,14 +76,14 @@ pub answer_codes : Codes answer_code answer_kind
 answer_codes = record { found = answer_found; only = coded_only answer_code answer_kinds; some = answers.Begun }
 
 frame_found : (kind : FrameKind) → frame_kind (frame_code kind) ≡ Some kind
-frame_found (frames.Message kind) = ap (λ (found : Option MessageKind). or_other found (coded frame_code other_kinds (message_code kind))) (message_found kind)
+frame_found (frames.Message kind) = ap (λ (found : Option MessageKind). or_other found (kind_of_code frame_code other_kinds (message_code kind))) (message_found kind)
 frame_found frames.Call = refl
 frame_found frames.Reply = refl
 frame_found frames.Tick = refl
 frame_found frames.ProbeNow = refl
 frame_found frames.Stop = refl
 
-frame_only : (c : ℕ) (kind : FrameKind) (found : Option MessageKind) → message_kind c ≡ found → or_other found (coded frame_code other_kinds c) ≡ Some kind → frame_code kind ≡ c
+frame_only : (c : ℕ) (kind : FrameKind) (found : Option MessageKind) → message_kind c ≡ found → or_other found (kind_of_code frame_code other_kinds c) ≡ Some kind → frame_code kind ≡ c
 frame_only c kind (Some message) same e = let is : frames.Message message ≡ kind = cc in subst (λ (k : FrameKind). frame_code k ≡ c) is (coded_only message_code message_kinds c message same)
 frame_only c kind None same e = coded_only frame_code other_kinds c kind e
 

@@ -19,8 +19,8 @@ use Rattle.vp_wire.specs.declared.kind.FrameKind.{FrameKind}
 use Rattle.vp_wire.specs.declared.kind.FrameKind.TheVariants as frames
 
 -- the first of these kinds that has this code
-abbrev pub coded : {K : Type 0} → (K → ℕ) → List K → ℕ → Option K
-coded code kinds c = find (λ kind. code kind == c) kinds
+abbrev pub kind_of_code : {K : Type 0} → (K → ℕ) → List K → ℕ → Option K
+kind_of_code code kinds c = find (λ kind. code kind == c) kinds
 
 -- ---- messages
 
@@ -47,7 +47,7 @@ abbrev pub message_kinds : List MessageKind
 message_kinds = messages.Invite ∷ messages.Accept ∷ messages.Stale ∷ messages.ViewCommit ∷ messages.ReadRequest ∷ messages.ReadAnswer ∷ messages.WriteRequest ∷ messages.WriteAnswer ∷ messages.Refuse ∷ messages.Prepare ∷ messages.Vote ∷ messages.Outcome ∷ messages.Ack ∷ messages.Inquire ∷ messages.RefreshRequest ∷ messages.RefreshAnswer ∷ messages.Probe ∷ []
 
 abbrev pub message_kind : ℕ → Option MessageKind
-message_kind c = coded message_code message_kinds c
+message_kind c = kind_of_code message_code message_kinds c
 
 abbrev pub kind_of_message : Message → MessageKind
 kind_of_message (message.Invite id) = messages.Invite
@@ -82,7 +82,7 @@ abbrev pub call_kinds : List CallKind
 call_kinds = calls.Begin ∷ calls.Regroup ∷ calls.Read ∷ calls.Write ∷ calls.Commit ∷ calls.Abort ∷ []
 
 abbrev pub call_kind : ℕ → Option CallKind
-call_kind c = coded call_code call_kinds c
+call_kind c = kind_of_code call_code call_kinds c
 
 abbrev pub kind_of_call : Call → CallKind
 kind_of_call call.Begin = calls.Begin
@@ -118,7 +118,7 @@ abbrev pub answer_kinds : List AnswerKind
 answer_kinds = answers.Begun ∷ answers.Value ∷ answers.Written ∷ answers.Committed ∷ answers.Aborted ∷ answers.Inviting ∷ answers.NoView ∷ answers.Unknown ∷ answers.Skipped ∷ answers.Busy ∷ answers.NoRecord ∷ answers.TooManyOps ∷ answers.Inaccessible ∷ answers.LockHeld ∷ answers.ViewChanged ∷ answers.TimedOut ∷ answers.Spent ∷ answers.TooManyLive ∷ []
 
 abbrev pub answer_kind : ℕ → Option AnswerKind
-answer_kind c = coded answer_code answer_kinds c
+answer_kind c = kind_of_code answer_code answer_kinds c
 
 abbrev pub kind_of_answer : Answer → AnswerKind
 kind_of_answer (answer.Begun txn view) = answers.Begun
@@ -159,7 +159,7 @@ or_other (Some kind) other = Some (frames.Message kind)
 or_other None other = other
 
 abbrev pub frame_kind : ℕ → Option FrameKind
-frame_kind c = or_other (message_kind c) (coded frame_code other_kinds c)
+frame_kind c = or_other (message_kind c) (kind_of_code frame_code other_kinds c)
 
 abbrev pub kind_of_body : Body → FrameKind
 kind_of_body (body.Message message) = frames.Message (kind_of_message message)

@@ -1,7 +1,7 @@
 //! The kinds of messages, calls, answers and frames, and the byte of each in a frame.
 
 ghost use Rattle.std.specs.Prelude.{◌≡◌};
-ghost use Rattle.vp_wire.specs.Kinds.{answer_code, answer_kind, call_code, call_kind, coded, frame_code, frame_kind, kind_of_answer, kind_of_body, kind_of_call, kind_of_message, message_code, message_kind, other_kinds};
+ghost use Rattle.vp_wire.specs.Kinds.{answer_code, answer_kind, call_code, call_kind, kind_of_code, frame_code, frame_kind, kind_of_answer, kind_of_body, kind_of_call, kind_of_message, message_code, message_kind, other_kinds};
 
 use crate::frame::Body;
 use vp_base::{Answer, Call, Message};
@@ -295,7 +295,7 @@ impl FrameKind {
 
     /// The kind with this code, where it isn't the code of a message.
     fn other_of(code: u8) -> Option<FrameKind>
-        ensures { result ≡ coded frame_code other_kinds code }
+        ensures { result ≡ kind_of_code frame_code other_kinds code }
     {
         FrameKind::OTHERS
             .iter()

@@ -12,7 +12,7 @@ use Rattle.vp_schedule.specs.Reading.{call_at}
 use Rattle.vp_schedule.proofs.Exact.{call_exact}
 use Rattle.vp_text.proofs.Exact.{Apart}
 use Rattle.vp_words.specs.Commands.{call}
-use Rattle.vp_words.specs.Parsed.{called, client_operands}
+use Rattle.vp_words.specs.Parsed.{client_command, client_operands}
 use Rattle.vp_words.specs.declared.words.Command.TheVariants as commands
 
 abbrev chosen : List ℕ → Result (Call × List ℕ) ℕ → Option Call
@@ -46,11 +46,11 @@ call_none word none = sym (go (call_at word) refl)
 -- ---- the command of a client's call
 
 module _ (rows : List Row) (o : ℕ × ℕ × ℕ × Text) (is : Some o ≡ client_operands rows) where
-  with_call : called rows ≡ option_map (λ call. commands.Client o.0 o.1 o.2 call) (call o.3)
+  with_call : client_command rows ≡ option_map (λ call. commands.Client o.0 o.1 o.2 call) (call o.3)
   with_call = ap (option_and_then (λ o. option_map (λ call. commands.Client o.0 o.1 o.2 call) (call o.3))) (sym is)
 
-  pub called_some : (c : Call) → IsCallText c o.3 → Some (commands.Client o.0 o.1 o.2 c) ≡ called rows
+  pub called_some : (c : Call) → IsCallText c o.3 → Some (commands.Client o.0 o.1 o.2 c) ≡ client_command rows
   called_some c h = sym (with_call ∙ ap (option_map (λ call. commands.Client o.0 o.1 o.2 call)) (sym (call_some o.3 c h)))
 
-  pub called_none : ((c : Call) → IsCallText c o.3 → ⊥) → None ≡ called rows
+  pub called_none : ((c : Call) → IsCallText c o.3 → ⊥) → None ≡ client_command rows
   called_none none = sym (with_call ∙ ap (option_map (λ call. commands.Client o.0 o.1 o.2 call)) (sym (call_none o.3 none)))

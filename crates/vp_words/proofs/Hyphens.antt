@@ -9,7 +9,7 @@ use Rattle.std.proofs.lemmas.List.{at_drop_all, at_drop_more}
 use Rattle.std.proofs.lemmas.List.Sums.{take_while-cons}
 use Rattle.std.proofs.lemmas.Slice.Eq.{bytes_eq-Decides}
 use Rattle.clap.specs.Walk.{Text}
-use Rattle.vp_words.specs.Commands.{named, operands, spelled}
+use Rattle.vp_words.specs.Commands.{command_named, operands, command_of_words}
 use Rattle.vp_words.specs.Parsed.{has_hyphen}
 use Rattle.vp_words.proofs.Operands.{look, none_after, seen, seen_plain}
 use Rattle.vp_words.proofs.Operands.Look.{dashes, long, plain, short}
@@ -78,18 +78,18 @@ hyphen_operands (word ∷ words) h = dashed (bytes_eq word (45 ∷ 45 ∷ [])) r
     dashed false e again = alone e again (bytes_eq word (45 ∷ [])) refl
 
 -- and no command
-pub hyphen_spelled : (words : List Text) → has_hyphen words ≡ true → spelled words ≡ None
+pub hyphen_spelled : (words : List Text) → has_hyphen words ≡ true → command_of_words words ≡ None
 unfolding has_hyphen
 hyphen_spelled [] h = refl
 hyphen_spelled (name ∷ words) h = dashed (bytes_eq name (45 ∷ 45 ∷ [])) refl
   where
-    alone : bytes_eq name (45 ∷ 45 ∷ []) ≡ false → (b : Bool) → bytes_eq name (45 ∷ []) ≡ b → spelled (name ∷ words) ≡ None
+    alone : bytes_eq name (45 ∷ 45 ∷ []) ≡ false → (b : Bool) → bytes_eq name (45 ∷ []) ≡ b → command_of_words (name ∷ words) ≡ None
     alone other true e = rw ((bytes_eq-Decides name (45 ∷ [])).0 e) (none_after (operands words))
     alone other false e =
         let rest : has_hyphen words ≡ true = sym (hyphen_on name words other ∙ ap (λ (b : Bool). b || has_hyphen words) e) ∙ h in
-        ap (option_and_then (named name)) (hyphen_operands words rest)
+        ap (option_and_then (command_named name)) (hyphen_operands words rest)
 
-    dashed : (b : Bool) → bytes_eq name (45 ∷ 45 ∷ []) ≡ b → spelled (name ∷ words) ≡ None
+    dashed : (b : Bool) → bytes_eq name (45 ∷ 45 ∷ []) ≡ b → command_of_words (name ∷ words) ≡ None
     dashed true e = absurd (let bad : false ≡ true = sym (hyphen_ends name words e) ∙ h in cc)
     dashed false e = alone e (bytes_eq name (45 ∷ [])) refl
 

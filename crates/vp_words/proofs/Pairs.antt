@@ -22,7 +22,7 @@ use Rattle.clap.specs.declared.builder.value_parser.Reading.TheVariants as readi
 use Rattle.clap.specs.declared.builder.value_parser.ValueParser.TheVariants as parser
 use Rattle.clap.specs.declared.parser.matches.ValueSource.TheVariants.{CommandLine}
 use Rattle.vp_words.specs.Commands.{auditing, pairs, site}
-use Rattle.vp_words.specs.Parsed.{audit_app, audited, meant}
+use Rattle.vp_words.specs.Parsed.{audit_app, audit_command, meant}
 use Rattle.vp_words.specs.declared.words.Command.TheVariants as commands
 use Rattle.vp_words.proofs.Operands.{HasNoFlag, Kept, found, found_next, at, level, level_goes, level_kinds, outcome, plain_turn, plain_walk, seen, within}
 use Rattle.vp_words.proofs.Parsing.{command_shape, nothing}
@@ -225,7 +225,7 @@ loop_cut words site last logs i stands le = sym (stands ∙ at_drop_all (λ (l :
 -- ---- what the matches mean
 
 pub audited_by : (f : Found) (given : Option (List Text)) → given ≡ option_map raw_values (matched_of f (codes "PAIRS"))
-    → option_and_then (λ words. option_map commands.Audit (pairs 0 words)) given ≡ audited (rows_of f)
+    → option_and_then (λ words. option_map commands.Audit (pairs 0 words)) given ≡ audit_command (rows_of f)
 audited_by f given e = ap (option_and_then (λ words. option_map commands.Audit (pairs 0 words))) (e ∙ raw_values-rows f (codes "PAIRS"))
 
 -- ---- the operand

@@ -13,7 +13,7 @@ use Rattle.clap.specs.Simple.{App, Shape, built, names_of, subcommand_of}
 use Rattle.clap.specs.Walk.{Names, Row, Rule, Text, Walk, idle, nothing_held, subcommand_met, walk_from, walked}
 use Rattle.clap.specs.declared.error.kind.ErrorKind.{ErrorKind}
 use Rattle.clap.specs.declared.error.kind.ErrorKind.TheVariants as kind
-use Rattle.vp_words.specs.Commands.{call, client, command_of, named, operands, spelled}
+use Rattle.vp_words.specs.Commands.{call, client, command_of, command_named, operands, command_of_words}
 use Rattle.vp_words.specs.Parsed.{has_hyphen, meant, program_app}
 use Rattle.vp_words.specs.declared.words.Command.{Command}
 use Rattle.vp_words.specs.declared.words.Command.TheVariants as commands
@@ -124,16 +124,16 @@ in_turn f g (Some x) = refl
 
 -- what the rows of the operands mean is what the operands mean
 abbrev SaysRows : Text → (List Text → Option (List Row)) → Type 0
-SaysRows name rows = (words : List Text) → option_and_then (meant name) (rows words) ≡ named name words
+SaysRows name rows = (words : List Text) → option_and_then (meant name) (rows words) ≡ command_named name words
 
 abbrev Says : Text → List Text → Type 0
 Says name ids = SaysRows name (operand_rows ids [])
 
 through : (name : Text) (s : Shape) (rows : List Text → Option (List Row)) (words : List Text) → level s (at nothing 1 false) words ≡ option_and_then rows (seen words) → SaysRows name rows → seen words ≡ operands words
-    → option_and_then (meant name) (level s (at nothing 1 false) words) ≡ option_and_then (named name) (operands words)
+    → option_and_then (meant name) (level s (at nothing 1 false) words) ≡ option_and_then (command_named name) (operands words)
 through name s rows words found says same =
     ap (option_and_then (meant name)) found ∙ in_turn (meant name) rows (seen words)
-    ∙ each (λ rest. option_and_then (meant name) (rows rest)) (named name) (seen words) says ∙ ap (option_and_then (named name)) same
+    ∙ each (λ rest. option_and_then (meant name) (rows rest)) (command_named name) (seen words) says ∙ ap (option_and_then (command_named name)) same
 
 replay_says : Says (codes "replay") alone_ids
 unfolding operand_rows
@@ -210,7 +210,7 @@ gateway_says (port ∷ turns ∷ site ∷ more ∷ words) = refl
 -- ---- a first word that isn't a command's name
 
 record IsOther (name : Text) : Type 0 where
-  named : (words : List Text) → named name words ≡ None
+  named : (words : List Text) → command_named name words ≡ None
   met : subcommand_met names idle name ≡ None
 
 turned : (name : Text) (words : List Text) (k : ErrorKind) (ks : Kinds) → turn_fault top names (walk_from nothing_held) name ≡ k ∷ ks → parse (name ∷ words) ≡ None
@@ -232,9 +232,9 @@ unfolding clap_on_literals
 dashes_parsed [] = refl
 dashes_parsed (word ∷ words) = refl
 
-other_parsed : (name : Text) (words : List Text) → is_utf8 name ≡ true → IsOther name → parse (name ∷ words) ≡ option_and_then (named name) (operands words)
+other_parsed : (name : Text) (words : List Text) → is_utf8 name ≡ true → IsOther name → parse (name ∷ words) ≡ option_and_then (command_named name) (operands words)
 other_parsed name words u o =
-    let none : option_and_then (named name) (operands words) ≡ None = each (named name) (λ rest. None) (operands words) o.named ∙ none_after (operands words) in
+    let none : option_and_then (command_named name) (operands words) ≡ None = each (command_named name) (λ rest. None) (operands words) o.named ∙ none_after (operands words) in
     elim (look name u) [
       | dashes e ↦ subst (λ (n : Text). parse (n ∷ words) ≡ None) (sym e) (dashes_parsed words) ∙ sym none
       | long w ↦ turned name words kind.UnknownArgument [] (long_turned name o w) ∙ sym none
@@ -252,9 +252,9 @@ test a b = go (bytes_eq a b) refl (bytes_eq b a) refl
     go false e true f = inl (sym ((bytes_eq-Decides b a).0 f))
     go false e false f = inr (e, f)
 
-named_parsed : (name : Text) (words : List Text) → is_utf8 name ≡ true → list_all is_utf8 words ≡ true → seen words ≡ operands words → parse (name ∷ words) ≡ option_and_then (named name) (operands words)
+named_parsed : (name : Text) (words : List Text) → is_utf8 name ≡ true → list_all is_utf8 words ≡ true → seen words ≡ operands words → parse (name ∷ words) ≡ option_and_then (command_named name) (operands words)
 named_parsed name words v u same =
-    let Goal : Text → Type 0 = λ n. parse (n ∷ words) ≡ option_and_then (named n) (operands words) in
+    let Goal : Text → Type 0 = λ n. parse (n ∷ words) ≡ option_and_then (command_named n) (operands words) in
     let by : (n : Text) (s : Shape) (rows : List Text → Option (List Row)) → name ≡ n → MeetsShape n s → (level s (at nothing 1 false) words ≡ option_and_then rows (seen words)) → SaysRows n rows → Goal name =
     λ n s rows e met found says. subst Goal (sym e) (met words ∙ through n s rows words found says same) in
     let known : (n : Text) (ids : List Text) → name ≡ n → Meets n ids → (level (operand_shape n ids) (at nothing 1 false) words ≡ option_and_then (operand_rows ids []) (seen words)) → Says n ids → Goal name =
@@ -310,19 +310,19 @@ named_parsed name words v u same =
     ]
 
 -- `clap` doesn't parse a list that begins with `--`, and no command has that name
-headed : (name : Text) (words : List Text) → list_all is_utf8 (name ∷ words) ≡ true → has_hyphen (name ∷ words) ≡ false → parse (name ∷ words) ≡ option_and_then (named name) (operands words)
+headed : (name : Text) (words : List Text) → list_all is_utf8 (name ∷ words) ≡ true → has_hyphen (name ∷ words) ≡ false → parse (name ∷ words) ≡ option_and_then (command_named name) (operands words)
 headed name words u h = go (bytes_eq name (45 ∷ 45 ∷ [])) refl
   where
     parts : (is_utf8 name ≡ true) × (list_all is_utf8 words ≡ true)
     parts = and_parts (is_utf8 name) (list_all is_utf8 words) u
 
-    go : (b : Bool) → bytes_eq name (45 ∷ 45 ∷ []) ≡ b → parse (name ∷ words) ≡ option_and_then (named name) (operands words)
-    go true e = subst (λ (n : Text). parse (n ∷ words) ≡ option_and_then (named n) (operands words)) (sym ((bytes_eq-Decides name (45 ∷ 45 ∷ [])).0 e)) (dashes_parsed words ∙ sym (none_after (operands words)))
+    go : (b : Bool) → bytes_eq name (45 ∷ 45 ∷ []) ≡ b → parse (name ∷ words) ≡ option_and_then (command_named name) (operands words)
+    go true e = subst (λ (n : Text). parse (n ∷ words) ≡ option_and_then (command_named n) (operands words)) (sym ((bytes_eq-Decides name (45 ∷ 45 ∷ [])).0 e)) (dashes_parsed words ∙ sym (none_after (operands words)))
     go false e =
         let rest = neither (bytes_eq name (45 ∷ [])) (has_hyphen words) (sym (hyphen_on name words e) ∙ h) in
         named_parsed name words parts.0 parts.1 (seen_operands words parts.1 rest)
 
-pub parsed : (words : List Text) → list_all is_utf8 words ≡ true → has_hyphen words ≡ false → answer (fault_of program_app words) (subcommand_of program_app words) ≡ spelled words
+pub parsed : (words : List Text) → list_all is_utf8 words ≡ true → has_hyphen words ≡ false → answer (fault_of program_app words) (subcommand_of program_app words) ≡ command_of_words words
 unfolding clap_on_literals
 parsed [] u h = refl
 parsed (name ∷ words) u h = headed name words u h
@@ -336,15 +336,15 @@ pub of_no_text : (words : List Text) → None ≡ as_text words → None ≡ com
 unfolding command_of
 of_no_text words e = go (list_all is_utf8 words) e
   where
-    go : (b : Bool) → None ≡ (if b then Some words else None) → None ≡ (if b then spelled words else None)
+    go : (b : Bool) → None ≡ (if b then Some words else None) → None ≡ (if b then command_of_words words else None)
     go true e = absurd cc
     go false e = refl
 
-of_text : (words texts : List Text) → Some texts ≡ as_text words → (list_all is_utf8 words ≡ true) × (texts ≡ words) × (command_of words ≡ spelled words)
+of_text : (words texts : List Text) → Some texts ≡ as_text words → (list_all is_utf8 words ≡ true) × (texts ≡ words) × (command_of words ≡ command_of_words words)
 unfolding command_of
 of_text words texts e = go (list_all is_utf8 words) refl e
   where
-    go : (b : Bool) → list_all is_utf8 words ≡ b → Some texts ≡ (if b then Some words else None) → (b ≡ true) × (texts ≡ words) × ((if b then spelled words else None) ≡ spelled words)
+    go : (b : Bool) → list_all is_utf8 words ≡ b → Some texts ≡ (if b then Some words else None) → (b ≡ true) × (texts ≡ words) × ((if b then command_of_words words else None) ≡ command_of_words words)
     go true u e = (refl, cc, refl)
     go false u e = absurd cc
 

@@ -97,8 +97,8 @@ answering _ = None
 
 -- ---- a command by its name
 
-abbrev pub named : List ℕ → List (List ℕ) → Option Command
-named name words =
+abbrev pub command_named : List ℕ → List (List ℕ) → Option Command
+command_named name words =
     if bytes_eq name (codes "replay") then alone commands.Replay words
     else (if bytes_eq name (codes "check") then alone commands.Check words
     else (if bytes_eq name (codes "node") then serving words
@@ -114,13 +114,13 @@ named name words =
     else None)))))))))))
 
 -- a command's name, and then its operands
-abbrev pub spelled : List (List ℕ) → Option Command
-spelled [] = None
-spelled (name ∷ words) = option_and_then (named name) (operands words)
+abbrev pub command_of_words : List (List ℕ) → Option Command
+command_of_words [] = None
+command_of_words (name ∷ words) = option_and_then (command_named name) (operands words)
 
 -- The command of the words. Where a word isn't UTF-8 there is none.
 unfoldable pub command_of : List (List ℕ) → Option Command
-command_of words = if list_all is_utf8 words then spelled words else None
+command_of words = if list_all is_utf8 words then command_of_words words else None
 
 -- the seed and the count are in their ranges, and a client's call has a text
 abbrev pub IsAllowed : Command → Type 0

@@ -71,8 +71,8 @@ drawn rows = with_first (codes "SEED") rows (λ seed. with_first (codes "COUNT")
 abbrev pub node_operands : List Row → Option (ℕ × Text × ℕ)
 node_operands rows = with_first (codes "SITE") rows (λ site. with_first (codes "LOG") rows (λ log. with_first (codes "TURNS") rows (λ turns. node site log turns)))
 
-abbrev pub served : List Row → Option Command
-served rows = option_map (λ n. commands.Node n.0 n.1 n.2) (node_operands rows)
+abbrev pub node_command : List Row → Option Command
+node_command rows = option_map (λ n. commands.Node n.0 n.1 n.2) (node_operands rows)
 
 -- with the word of the call
 abbrev pub client_operands : List Row → Option (ℕ × ℕ × ℕ × Text)
@@ -80,14 +80,14 @@ client_operands rows =
     with_first (codes "PORT") rows (λ port. with_first (codes "TURNS") rows (λ turns. with_first (codes "SITE") rows (λ site.
     with_first (codes "CALL") rows (λ call. option_map (λ o. (o.0, o.1, o.2, call)) (client port turns site)))))
 
-abbrev pub called : List Row → Option Command
-called rows = option_and_then (λ o. option_map (λ call. commands.Client o.0 o.1 o.2 call) (call o.3)) (client_operands rows)
+abbrev pub client_command : List Row → Option Command
+client_command rows = option_and_then (λ o. option_map (λ call. commands.Client o.0 o.1 o.2 call) (call o.3)) (client_operands rows)
 
-abbrev pub signalled : Signal → List Row → Option Command
-signalled given rows = with_first (codes "SITE") rows (λ s. option_map (λ site. commands.Signal site given) (site s))
+abbrev pub signal_command : Signal → List Row → Option Command
+signal_command given rows = with_first (codes "SITE") rows (λ s. option_map (λ site. commands.Signal site given) (site s))
 
-abbrev pub audited : List Row → Option Command
-audited rows = option_and_then (λ words. option_map commands.Audit (pairs 0 words)) (all_of (codes "PAIRS") rows)
+abbrev pub audit_command : List Row → Option Command
+audit_command rows = option_and_then (λ words. option_map commands.Audit (pairs 0 words)) (all_of (codes "PAIRS") rows)
 
 abbrev pub gateway_operands : List Row → Option (ℕ × ℕ × ℕ)
 gateway_operands rows =
@@ -101,14 +101,14 @@ abbrev pub meant : Text → List Row → Option Command
 meant name rows =
     if bytes_eq name (codes "replay") then Some commands.Replay
     else (if bytes_eq name (codes "check") then Some commands.Check
-    else (if bytes_eq name (codes "node") then served rows
-    else (if bytes_eq name (codes "client") then called rows
-    else (if bytes_eq name (codes "tick") then signalled signals.Tick rows
-    else (if bytes_eq name (codes "probe") then signalled signals.Probe rows
-    else (if bytes_eq name (codes "stop") then signalled signals.Stop rows
+    else (if bytes_eq name (codes "node") then node_command rows
+    else (if bytes_eq name (codes "client") then client_command rows
+    else (if bytes_eq name (codes "tick") then signal_command signals.Tick rows
+    else (if bytes_eq name (codes "probe") then signal_command signals.Probe rows
+    else (if bytes_eq name (codes "stop") then signal_command signals.Stop rows
     else (if bytes_eq name (codes "generate") then option_map (λ d. commands.Generate d.0 d.1) (drawn rows)
     else (if bytes_eq name (codes "soak") then option_map (λ d. commands.Soak d.0 d.1) (drawn rows)
     else (if bytes_eq name (codes "logs") then Some commands.Logs
-    else (if bytes_eq name (codes "audit") then audited rows
+    else (if bytes_eq name (codes "audit") then audit_command rows
     else (if bytes_eq name (codes "gateway") then answered rows
     else None)))))))))))

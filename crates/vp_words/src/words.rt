@@ -7,7 +7,7 @@ ghost use Rattle.clap.specs.Words.{app_of, found_of, rows_of, subcommand_rows_of
 ghost use Rattle.clap.specs.declared.builder.command.Command.TheViews.{out-Command};
 ghost use Rattle.vp_text.specs.Reading.{Reads, number_at, whole};
 ghost use Rattle.vp_words.specs.Commands.{IsAllowed, command_of, number, pairs, site};
-ghost use Rattle.vp_words.specs.Parsed.{answered, audit_app, audited, bare_app, called, client_operands, drawn, gateway_operands, has_hyphen, meant, node_operands, operand_app, program_app, served, signalled, with_command};
+ghost use Rattle.vp_words.specs.Parsed.{answered, audit_app, audit_command, bare_app, client_command, client_operands, drawn, gateway_operands, has_hyphen, meant, node_operands, operand_app, program_app, node_command, signal_command, with_command};
 
 use clap::error::ErrorKind;
 use clap::{Arg, ArgMatches};
@@ -219,15 +219,15 @@ fn meant(alloc: Global, matches: &ArgMatches) -> Result<Option<Command>, NoMemor
     match name {
         "replay" => Ok(Some(Command::Replay)),
         "check" => Ok(Some(Command::Check)),
-        "node" => served(alloc, matches),
-        "client" => called(alloc, matches),
-        "tick" => Ok(signalled(matches, Signal::Tick)),
-        "probe" => Ok(signalled(matches, Signal::Probe)),
-        "stop" => Ok(signalled(matches, Signal::Stop)),
+        "node" => node_command(alloc, matches),
+        "client" => client_command(alloc, matches),
+        "tick" => Ok(signal_command(matches, Signal::Tick)),
+        "probe" => Ok(signal_command(matches, Signal::Probe)),
+        "stop" => Ok(signal_command(matches, Signal::Stop)),
         "generate" => Ok(drawn(matches).map(|(seed, count)| Command::Generate { seed, count })),
         "soak" => Ok(drawn(matches).map(|(seed, count)| Command::Soak { seed, count })),
         "logs" => Ok(Some(Command::Logs)),
-        "audit" => audited(alloc, matches),
+        "audit" => audit_command(alloc, matches),
         "gateway" => Ok(answered(matches)),
         _ => Ok(None),
     }
@@ -245,8 +245,8 @@ fn drawn(matches: &ArgMatches) -> Option<(u32, u32)>
 }
 
 /// The command of a node.
-fn served(alloc: Global, matches: &ArgMatches) -> Result<Option<Command>, NoMemory>
-    ensures command { IfOk result (λ command. command ≡ served (rows_of (found_of matches.now))) }
+fn node_command(alloc: Global, matches: &ArgMatches) -> Result<Option<Command>, NoMemory>
+    ensures command { IfOk result (λ command. command ≡ node_command (rows_of (found_of matches.now))) }
     ensures allowed { IfOk result (λ command. IfSome command IsAllowed) }
 {
     let Some((site, log, turns)) = node_operands(matches) else {
@@ -273,8 +273,8 @@ fn node_operands<'a>(matches: &ArgMatches<'a>) -> Option<(SiteId, &'a str, u64)>
 }
 
 /// The command of a client's call.
-fn called(alloc: Global, matches: &ArgMatches) -> Result<Option<Command>, NoMemory>
-    ensures command { IfOk result (λ command. command ≡ called (rows_of (found_of matches.now))) }
+fn client_command(alloc: Global, matches: &ArgMatches) -> Result<Option<Command>, NoMemory>
+    ensures command { IfOk result (λ command. command ≡ client_command (rows_of (found_of matches.now))) }
     ensures allowed { IfOk result (λ command. IfSome command IsAllowed) }
 {
     let Some(operands) = client_operands(matches) else {
@@ -306,8 +306,8 @@ fn client_operands<'a>(matches: &ArgMatches<'a>) -> Option<(u16, u64, SiteId, &'
 
 /// The command of a signal.
 #[tactic(auto, using(crate::proofs::Texts::first_rows))]
-fn signalled(matches: &ArgMatches, signal: Signal) -> Option<Command>
-    ensures command { result ≡ signalled signal (rows_of (found_of matches.now)) }
+fn signal_command(matches: &ArgMatches, signal: Signal) -> Option<Command>
+    ensures command { result ≡ signal_command signal (rows_of (found_of matches.now)) }
     ensures allowed { IfSome result IsAllowed }
 {
     let site = site(matches.get_str("SITE")?)?;
@@ -315,8 +315,8 @@ fn signalled(matches: &ArgMatches, signal: Signal) -> Option<Command>
 }
 
 /// The command of an audit.
-fn audited(alloc: Global, matches: &ArgMatches) -> Result<Option<Command>, NoMemory>
-    ensures command { IfOk result (λ command. command ≡ audited (rows_of (found_of matches.now))) }
+fn audit_command(alloc: Global, matches: &ArgMatches) -> Result<Option<Command>, NoMemory>
+    ensures command { IfOk result (λ command. command ≡ audit_command (rows_of (found_of matches.now))) }
     ensures allowed { IfOk result (λ command. IfSome command IsAllowed) }
 {
     let Some(words) = matches.get_strs("PAIRS") else {

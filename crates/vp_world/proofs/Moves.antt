@@ -16,7 +16,7 @@ use Rattle.vp_world.specs.declared.place.PlaceEffects.{PlaceEffects}
 use Rattle.vp_world.specs.declared.end.WorldEnd.{WorldEnd}
 use Rattle.vp_mail.specs.Posted.{Posted}
 use Rattle.vp_world.specs.Limits.{Does, too_many, with_line}
-use Rattle.vp_world.specs.Places.{newly_agreed, taken, site_in, stepped_place, crashed_place, restarted_place, restart_line}
+use Rattle.vp_world.specs.Places.{newly_agreed, place_effects, site_in, stepped_place, crashed_place, restarted_place, restart_line}
 use Rattle.vp_world.specs.Steps.{takes_in}
 
 -- changes of the first item that passes a test
@@ -62,32 +62,32 @@ module _ (catalogue : Catalogue) (id : ℕ) (given : Input) where
     stepped : List Place
     stepped = change_place id (stepped_place catalogue given) w.places
 
-    step_takes : (site : SiteState) → site_of w id ≡ Some site → site_step catalogue id site given w ≡ takes_in (taken site (step catalogue site given)) (record w { places = stepped })
+    step_takes : (site : SiteState) → site_of w id ≡ Some site → site_step catalogue id site given w ≡ takes_in (place_effects site (step catalogue site given)) (record w { places = stepped })
     unfolding site_step stepped
     step_takes site up =
         rw (stepped_where site w.places (place_of id w.places) refl up, agreed_is site.inviting (step catalogue site given).site.held) refl
 
-    takes_where : (t : PlaceEffects) (found : Option SiteState) → site_of w id ≡ found → Some t ≡ option_map (λ site. taken site (step catalogue site given)) found → option_map_or (λ site. site_step catalogue id site given w) found (shows w (shown.Down id)) ≡ takes_in t (record w { places = stepped })
+    takes_where : (t : PlaceEffects) (found : Option SiteState) → site_of w id ≡ found → Some t ≡ option_map (λ site. place_effects site (step catalogue site given)) found → option_map_or (λ site. site_step catalogue id site given w) found (shows w (shown.Down id)) ≡ takes_in t (record w { places = stepped })
     takes_where t None up e = cc
     takes_where t (Some site) up e =
-        let same : taken site (step catalogue site given) ≡ t = cc in
+        let same : place_effects site (step catalogue site given) ≡ t = cc in
         step_takes site up ∙ ap (λ u. takes_in u (record w { places = stepped })) same
 
-    down_where : (found : Option SiteState) → site_of w id ≡ found → None ≡ option_map (λ site. taken site (step catalogue site given)) found → option_map_or (λ site. site_step catalogue id site given w) found (shows w (shown.Down id)) ≡ shows (record w { places = stepped }) (shown.Down id)
+    down_where : (found : Option SiteState) → site_of w id ≡ found → None ≡ option_map (λ site. place_effects site (step catalogue site given)) found → option_map_or (λ site. site_step catalogue id site given w) found (shows w (shown.Down id)) ≡ shows (record w { places = stepped }) (shown.Down id)
     unfolding stepped
     down_where None up e = rw (idle_where w.places (place_of id w.places) refl up) refl
     down_where (Some site) up e = cc
 
-  module _ (w : WorldState) (r : Option PlaceEffects) (old new : List Place) (now : old ≡ w.places) (e : r ≡ option_map (λ site. taken site (step catalogue site given)) (site_in id old)) (p : new ≡ change_place id (stepped_place catalogue given) old) where
+  module _ (w : WorldState) (r : Option PlaceEffects) (old new : List Place) (now : old ≡ w.places) (e : r ≡ option_map (λ site. place_effects site (step catalogue site given)) (site_in id old)) (p : new ≡ change_place id (stepped_place catalogue given) old) where
     -- an input comes to a site that is up
     pub at_site_takes : (t : PlaceEffects) → r ≡ Some t → at_site catalogue id given w ≡ takes_in t (record w { places = new })
     unfolding at_site stepped
-    at_site_takes t is = rw (p, now) (takes_where w t (site_of w id) refl (sym is ∙ e ∙ ap (λ places. option_map (λ site. taken site (step catalogue site given)) (site_in id places)) now))
+    at_site_takes t is = rw (p, now) (takes_where w t (site_of w id) refl (sym is ∙ e ∙ ap (λ places. option_map (λ site. place_effects site (step catalogue site given)) (site_in id places)) now))
 
     -- it comes to a site that is down
     pub at_site_down : r ≡ None → at_site catalogue id given w ≡ shows (record w { places = new }) (shown.Down id)
     unfolding at_site stepped
-    at_site_down is = rw (p, now) (down_where w (site_of w id) refl (sym is ∙ e ∙ ap (λ places. option_map (λ site. taken site (step catalogue site given)) (site_in id places)) now))
+    at_site_down is = rw (p, now) (down_where w (site_of w id) refl (sym is ∙ e ∙ ap (λ places. option_map (λ site. place_effects site (step catalogue site given)) (site_in id places)) now))
 
 -- a delivery
 

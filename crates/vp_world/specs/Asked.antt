@@ -17,12 +17,12 @@ pub data Asked : Type 0 where
   restarts : ℕ → Option SiteState → Asked
 
 -- the site as it starts with this durable part, if a life is left
-abbrev pub started : Catalogue → ℕ → DurableState → Option SiteState
-started catalogue id d = if d.life == 2 ^ 32 - 1 then None else Some (start catalogue id d)
+abbrev pub life_start : Catalogue → ℕ → DurableState → Option SiteState
+life_start catalogue id d = if d.life == 2 ^ 32 - 1 then None else Some (start catalogue id d)
 
 -- what a restart of the place asks for: its site, if it is down
 abbrev pub restart_asked : Catalogue → Place → Option Asked
-restart_asked catalogue place = if is_some place.up then None else Some (Asked.restarts place.id (started catalogue place.id place.durable))
+restart_asked catalogue place = if is_some place.up then None else Some (Asked.restarts place.id (life_start catalogue place.id place.durable))
 
 -- what holds of the site that a restart gives, or of none where the lives are spent
 abbrev pub IfStarted : Result SiteState StartFault → (Option SiteState → Type 0) → Type 0

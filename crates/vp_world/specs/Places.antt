@@ -19,8 +19,8 @@ newly_agreed (Some inviting) None = None
 newly_agreed None held = None
 
 -- what the step gives besides the site and its log
-abbrev pub taken : SiteState → Stepped → PlaceEffects
-taken before o = record { effects = o.effects; agreed = newly_agreed (option_map (λ inviting. inviting.0) before.inviting) o.site.held }
+abbrev pub place_effects : SiteState → Stepped → PlaceEffects
+place_effects before o = record { effects = o.effects; agreed = newly_agreed (option_map (λ inviting. inviting.0) before.inviting) o.site.held }
 
 -- the site of these places with this number, if it is up
 abbrev pub site_in : ℕ → List Place → Option SiteState

@@ -8,7 +8,7 @@ ghost use Rattle.vp_model.specs.Generated.{newest};
 ghost use Rattle.vp_model.specs.Step.{step};
 ghost use Rattle.vp_model.specs.World.{start_place, after_step};
 ghost use Rattle.vp_world.specs.Asked.{Asked, restart_asked};
-ghost use Rattle.vp_world.specs.Places.{newly_agreed, taken, stepped_place, crashed_place, restarted_place, restart_line, Did, KeepsSome, GivesUp};
+ghost use Rattle.vp_world.specs.Places.{newly_agreed, place_effects, stepped_place, crashed_place, restarted_place, restart_line, Did, KeepsSome, GivesUp};
 
 use crate::stepper::Stepper;
 use std::marker::Model;
@@ -165,7 +165,7 @@ impl Place {
         requires { IfSome self.old.up
             (λ site. S.may catalog.now (Asked.steps event.now site input.now) stepper.old) }
         ensures taken { IfOk result
-            (λ t. t ≡ option_map (λ site. taken site (step catalog.now site input.now)) self.old.up) }
+            (λ t. t ≡ option_map (λ site. place_effects site (step catalog.now site input.now)) self.old.up) }
         ensures place { OnOk result (self.new ≡ stepped_place catalog.now input.now self.old) }
         ensures did { OnOk result
             (Did (λ site. S.did (Asked.steps event.now site input.now)) self.old.up stepper.old stepper.new) }
@@ -187,7 +187,7 @@ impl Place {
         stepper: &mut S,
     ) -> Result<PlaceEffects, NoMemory>
         requires { S.may catalog.now (Asked.steps event.now site input.now) stepper.old }
-        ensures taken { IfOk result (λ t. t ≡ taken site (step catalog.now site input.now)) }
+        ensures taken { IfOk result (λ t. t ≡ place_effects site (step catalog.now site input.now)) }
         ensures place { OnOk result (self.new ≡ after_step (step catalog.now site input.now) self.old) }
         ensures did { OnOk result (S.did (Asked.steps event.now site input.now) stepper.old stepper.new) }
         ensures left { OnErr result

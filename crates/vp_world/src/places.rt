@@ -9,7 +9,7 @@ ghost use Rattle.vp_model.specs.Generated.{newest};
 ghost use Rattle.vp_model.specs.Step.{step};
 ghost use Rattle.vp_model.specs.World.{start_place, place_of, change_place};
 ghost use Rattle.vp_world.specs.Asked.{Asked, restart_asked};
-ghost use Rattle.vp_world.specs.Places.{site_in, taken, stepped_place, crashed_place, restarted_place, restart_line, Did, GivesUpAt};
+ghost use Rattle.vp_world.specs.Places.{site_in, place_effects, stepped_place, crashed_place, restarted_place, restart_line, Did, GivesUpAt};
 
 use crate::place::{Place, PlaceEffects};
 use crate::stepper::Stepper;
@@ -76,7 +76,7 @@ fn step_at<S: Stepper>(
     requires { IfSome (site_in id places.old)
         (λ site. S.may catalog.now (Asked.steps event.now site input.now) stepper.old) }
     ensures taken { IfOk result
-        (λ t. t ≡ option_map (λ site. taken site (step catalog.now site input.now)) (site_in id places.old)) }
+        (λ t. t ≡ option_map (λ site. place_effects site (step catalog.now site input.now)) (site_in id places.old)) }
     ensures places { OnOk result
         (places.new ≡ change_place id (stepped_place catalog.now input.now) places.old) }
     ensures did { OnOk result
@@ -168,7 +168,7 @@ impl Places {
         requires { IfSome (site_in id self.old)
             (λ site. S.may catalog.now (Asked.steps event.now site input.now) stepper.old) }
         ensures taken { IfOk result
-            (λ t. t ≡ option_map (λ site. taken site (step catalog.now site input.now))
+            (λ t. t ≡ option_map (λ site. place_effects site (step catalog.now site input.now))
             (site_in id self.old)) }
         ensures places { OnOk result
             (self.new ≡ change_place id (stepped_place catalog.now input.now) self.old) }

@@ -3,7 +3,7 @@
 ghost use Rattle.std.specs.Prelude.{◌≡◌, OnOk, IfOk, Option, ⊤};
 ghost use Rattle.vp_model.specs.Site.{SiteState};
 ghost use Rattle.vp_model.specs.Step.{step};
-ghost use Rattle.vp_world.specs.Asked.{started, IfStarted};
+ghost use Rattle.vp_world.specs.Asked.{life_start, IfStarted};
 
 use vp_base::{CopyOf, Effects, Event, Input, NoMemory, SiteId};
 use vp_catalog::Catalog;
@@ -48,8 +48,8 @@ pub trait Stepper {
     ) -> Result<Site, StartFault>
         requires { (site : Option SiteState) × may catalog.now (Asked.restarts id site) self.old }
         ensures did { IfStarted result (λ site. did (Asked.restarts id site) self.old self.new) }
-        ensures started { may catalog.now (Asked.restarts id (started catalog.now id durable.now)) self.old →
-            IfStarted result (λ site. site ≡ started catalog.now id durable.now) };
+        ensures started { may catalog.now (Asked.restarts id (life_start catalog.now id durable.now)) self.old →
+            IfStarted result (λ site. site ≡ life_start catalog.now id durable.now) };
 }
 
 /// A stepper that only does the steps: sites start from what the world keeps of them.

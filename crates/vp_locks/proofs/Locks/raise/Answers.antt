@@ -6,7 +6,7 @@ use Rattle.vp_model.specs.Locks.{raised}
 use Rattle.vp_model.specs.Words.{same_owner}
 use Rattle.vp_locks.specs.declared.places.RecPlaces.{RecPlaces}
 use Rattle.vp_locks.specs.Index.{places_of, key_eq, on_rec, owned_by, IsRecIndex, IsOwnerIndex, AreListed}
-use Rattle.vp_locks.specs.Places.{present, lock_at, passes, revised}
+use Rattle.vp_locks.specs.Places.{present, lock_at, passes, revise_slot}
 use Rattle.vp_locks.proofs.InSlots.{revised_where}
 use Rattle.vp_locks.proofs.Indexes.{index_changed, index_raised, rec_revised, all_raised, raised_owner, raised_rec}
 use Rattle.vp_locks.proofs.Listed.{listed_raised}
@@ -17,8 +17,8 @@ raised_slots c =
     let p = c.self.inside.by_rec in
     let f = λ (lock : Lock). Some (raised c.args.rec true c.args.owner.now lock) in
     with_items_is c.self.inside.slots c.raise.new.slots (search (rules, places)) ∙ c.raise.ensures
-    ∙ ap (λ xs. fold (revised f) xs c.of.result.now) c.deref_mut.ensures.value
-    ∙ ap (fold (revised f) c.self.inside.slots.items) (c.of.ensures ∙ ap (places_of nat_eq p.all.lists) c.get-3.ensures.value)
+    ∙ ap (λ xs. fold (revise_slot f) xs c.of.result.now) c.deref_mut.ensures.value
+    ∙ ap (fold (revise_slot f) c.self.inside.slots.items) (c.of.ensures ∙ ap (places_of nat_eq p.all.lists) c.get-3.ensures.value)
     ∙ rec_revised c.args.rec c.args.owner.now p c.self.inside.slots.items c.self.invariant.0 f
 
 pub invariant_of-self-2 : goal.invariant_of-self-2

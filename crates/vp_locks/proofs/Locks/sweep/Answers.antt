@@ -4,7 +4,7 @@ use Rattle.std.proofs.lemmas.List.{with_items_is, places}
 use Rattle.vp_model.specs.Types.{Lock}
 use Rattle.vp_model.specs.Words.{same_owner}
 use Rattle.vp_locks.specs.Index.{places_of, OwnerKey, owner_key, key_eq, owned_by, IsRecIndex, IsOwnerIndex, AreListed}
-use Rattle.vp_locks.specs.Places.{present, lock_at, revised, if_kept}
+use Rattle.vp_locks.specs.Places.{present, lock_at, revise_slot, if_kept}
 use Rattle.vp_locks.specs.Staying.{stays}
 use Rattle.vp_locks.proofs.InSlots.{revised_where}
 use Rattle.vp_locks.proofs.Indexes.{index_kept, key_apart, owner_revised, owner_swept}
@@ -18,8 +18,8 @@ swept_slots : (c : goal.After-keep_taken) → c.sweep.new.slots ≡ map (revised
 swept_slots c =
     let lists = c.self.inside.by_owner.lists in
     let f = if_kept (stays c.args.staying) in
-    c.sweep.ensures.slots ∙ ap (λ xs. fold (revised f) xs c.of.result.now) c.deref_mut.ensures.value
-    ∙ ap (fold (revised f) c.self.inside.slots.items) (c.of.ensures ∙ ap (places_of key_eq lists) c.owner_key.ensures)
+    c.sweep.ensures.slots ∙ ap (λ xs. fold (revise_slot f) xs c.of.result.now) c.deref_mut.ensures.value
+    ∙ ap (fold (revise_slot f) c.self.inside.slots.items) (c.of.ensures ∙ ap (places_of key_eq lists) c.owner_key.ensures)
     ∙ owner_revised lists c.self.inside.slots.items c.self.invariant.1 c.args.owner.now f
 
 pub invariant_of-self : goal.invariant_of-self

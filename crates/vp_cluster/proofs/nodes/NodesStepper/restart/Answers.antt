@@ -1,5 +1,5 @@
 use Rattle.std.proofs.Common.{◌≡◌, sym, subst}
-use Rattle.vp_world.specs.Asked.{started, IfStarted}
+use Rattle.vp_world.specs.Asked.{life_start, IfStarted}
 use Rattle.vp_world.proofs.Started.{if_started_weaker}
 use Rattle.vp_cluster.specs.Hosts.{Restarts}
 use Rattle.vp_cluster.specs.Ports.{HasHost, ChangesOf}
@@ -14,6 +14,6 @@ restart-requires c =
 pub returns-clause-started : goal.returns-clause-started
 returns-clause-started c = λ may.
     let nodes = c.args.self.now in
-    if_started_weaker c.restart.result (λ site. ChangesOf nodes.catalogue c.args.id (Restarts nodes.catalogue site) nodes.hosts c.restart.new.self.hosts) (λ site. site ≡ started c.args.arg2.now c.args.id c.args.arg4.now)
+    if_started_weaker c.restart.result (λ site. ChangesOf nodes.catalogue c.args.id (Restarts nodes.catalogue site) nodes.hosts c.restart.new.self.hosts) (λ site. site ≡ life_start c.args.arg2.now c.args.id c.args.arg4.now)
     (starts_so c.args.arg2.now c.args.id c.args.arg4.now nodes c.restart.new.self.hosts may)
     (subst (λ (nodes : NodesValue). IfStarted c.restart.result (λ site. ChangesOf nodes.catalogue c.args.id (Restarts nodes.catalogue site) nodes.hosts c.restart.new.self.hosts)) c.self.view_is c.restart.ensures.restarts)

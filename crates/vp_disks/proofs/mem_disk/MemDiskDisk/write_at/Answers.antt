@@ -1,6 +1,6 @@
 use Rattle.std.proofs.Common.{ap, refl, arith, rules, length}
 use Rattle.std.proofs.lemmas.Grind.{common_steps}
-use Rattle.vp_outside.specs.Disk.{Torn, Written, written}
+use Rattle.vp_outside.specs.Disk.{Torn, Written, write_bytes_at}
 use Rattle.vp_outside.specs.Plans.{stop_of}
 use Rattle.vp_outside.specs.declared.fault_plan.FaultPlan.{FaultPlan}
 use Rattle.vp_outside.specs.declared.sink.OutFault.TheVariants.{NoMemory, Failed}
@@ -32,5 +32,5 @@ returns-clause-written c =
     let piece = c.args.piece.now in
     Changes-recorded c.args.half (Written c.args.at piece) (Torn c.args.at (length piece)) (Wrote c.args.half c.args.at piece)
     disk.disk c.write_piece.new.self (stop_of disk.plan) (stop_of c.pass.new.self) disk.attached disk.plan.faults _ refl
-    (λ past. InHalf-in_half c.args.half (Written c.args.at piece) (written c.args.at piece) _ (λ old. refl)) (λ past image left. left) (λ past. refl)
+    (λ past. InHalf-in_half c.args.half (Written c.args.at piece) (write_bytes_at c.args.at piece) _ (λ old. refl)) (λ past image left. left) (λ past. refl)
     c.in_ok-write_piece.ensures.ok (ap (λ (plan : FaultPlan). plan.faults) c.pass.ensures) (search rules)

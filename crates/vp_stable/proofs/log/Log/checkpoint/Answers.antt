@@ -1,6 +1,6 @@
 use Rattle.std.proofs.Common.{◌≡◌, ℕ, ◌<◌, ◌^◌, ◌-◌, ◌∙◌, ◌+◌, [], ◌∷◌, List, sym, length, ap, subst, arith}
 use Rattle.vp_base.specs.declared.entry.LogRecord.{LogRecord}
-use Rattle.vp_stable.specs.Halves.{Standing, checkpoint_of, SavesAt, MaySaveAt, saved}
+use Rattle.vp_stable.specs.Halves.{Standing, checkpoint_of, SavesAt, MaySaveAt, save_batches}
 use Rattle.vp_stable.specs.Writing.{IsPiece}
 use Rattle.vp_stable.proofs.Times.{others_join}
 use Rattle.vp_stable.proofs.Writes.{on_err, becomes-as, becomes-same, becomes-then}
@@ -109,7 +109,7 @@ pub returns-clause-kept : goal.returns-clause-kept
 returns-clause-kept g c =
     let to : Standing = record { half = 1 - c.self.inside.half; generation = c.in-Some.generation; gate = c.len.result; second = c.len.result } in
     let name = c.put.ensures.others.stays.same_name ∙ c.clear.ensures.others.stays.same_name in
-    kept_at c.args.self.now to (saved c.args.durable.now) (g.D.Disk.state c.args.disk.now) (g.D.Disk.state c.put.new.disk) name
+    kept_at c.args.self.now to (save_batches c.args.durable.now) (g.D.Disk.state c.args.disk.now) (g.D.Disk.state c.put.new.disk) name
     (λ honest. rw c.clear.ensures.others.stays.same_name at (c.in_ok-put.ensures.durable (c.clear.ensures.others.honest.0 honest)))
     c.requires.kept (λ honest. c.clear.ensures.others.honest.1 (c.put.ensures.others.honest.1 honest)) (returns-clause-saved g c)
 

@@ -2,7 +2,7 @@ use Rattle.std.proofs.Common.{◌∙◌, sym, ap, subst, option_map, List, ℕ}
 use Rattle.clap.specs.Words.{found_of, rows_of}
 use Rattle.vp_schedule.specs.Grammar.{IsCallText}
 use Rattle.vp_words.proofs.Calls.{called_none, called_some}
-use Rattle.vp_words.proofs.words.called.Goals as goal
+use Rattle.vp_words.proofs.words.client_command.Goals as goal
 
 pub returns-in-Ok-clause-command : goal.returns-in-Ok-clause-command
 returns-in-Ok-clause-command c =

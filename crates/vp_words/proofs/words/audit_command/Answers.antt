@@ -2,7 +2,7 @@ use Rattle.std.proofs.Common.{◌∙◌, sym, ap, map, option_map}
 use Rattle.clap.specs.Words.{found_of}
 use Rattle.vp_words.specs.declared.words.Command.TheVariants as commands
 use Rattle.vp_words.proofs.Pairs.{audited_by}
-use Rattle.vp_words.proofs.words.audited.Goals as goal
+use Rattle.vp_words.proofs.words.audit_command.Goals as goal
 
 pub returns-in_default-clause-command : goal.returns-in_default-clause-command
 returns-in_default-clause-command c =
