@@ -19,3 +19,5 @@ IsCall (call.Read txn number name) = IsNumbered txn number × IsName name name
 IsCall (call.Write txn number name value) = IsNumbered txn number × IsName name name × IsValue value value
 IsCall (call.Commit txn number) = IsNumbered txn number
 IsCall (call.Abort txn number) = IsNumbered txn number
+IsCall (call.Delete txn number name) = IsNumbered txn number × IsName name name
+IsCall (call.Weigh txn number name table) = IsNumbered txn number × IsName name name

@@ -6,7 +6,7 @@ ghost use Rattle.vp_base.specs.Effects.{with_entry, with_commit, with_reply, wit
 use crate::answer::{Answer, Reply};
 use crate::entry::{Commit, LogRecord};
 use crate::ids::{CallNo, SiteId, TxnId};
-use crate::lists::{Batch, Commits, Messages, Replies};
+use crate::lists::{Batch, Commits, Messages, Replies, Table};
 use crate::memory::NoMemory;
 use crate::message::{Message, Sent};
 use crate::seq::CopyOf;
@@ -43,6 +43,19 @@ pub enum Call {
     Abort {
         txn: TxnId,
         number: CallNo,
+    },
+    /// The record gets no value.
+    Delete {
+        txn: TxnId,
+        number: CallNo,
+        name: Name,
+    },
+    /// The copies of the record get these weights.
+    Weigh {
+        txn: TxnId,
+        number: CallNo,
+        name: Name,
+        table: Table,
     },
 }
 

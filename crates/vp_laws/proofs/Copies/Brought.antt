@@ -1,6 +1,6 @@
 -- An entry that wrote a record in a view above the date of a copy, and of which the site is a member, is in doubt there after a step; and
 -- what a refresh brings is the newest copy of the members.
-use Rattle.std.proofs.Common.{◌≡◌, ◌≢◌, ◌∙◌, ap, sym, subst, ℕ, Bool, true, List, ⊎_elim}
+use Rattle.std.proofs.Common.{inr, ◌≡◌, ◌≢◌, ◌∙◌, ap, sym, subst, ℕ, Bool, true, List, ⊎_elim}
 use Rattle.std.specs.Prelude.{Some}
 use Rattle.vp_model.specs.Types.{Change, TxnId, View, Commit, Input, Stored, Doubt}
 use Rattle.vp_model.specs.Types.message
@@ -131,7 +131,7 @@ module _ (catalogue : Catalogue) (w new : Scene) (s : ℕ) (x : SiteState) (give
 
             below : Precedes e.view u.id → InDoubt new j e.txn
             below p =
-                let q = shared_holder catalogue rec v.members u.members (refresh.entry e v rec there v_was (written_used e.ops rec (written_op e.ops rec wrote))).usable usable in
+                let q = shared_holder catalogue rec v.members u.members (refresh.entry e v rec there v_was (inr wrote)).usable usable in
                 ⊎_elim
                 (λ (here : q.0 ≡ s). own_above j rec b.own e v holder b.from h wrote own_later agreed in_view)
                 (λ (other : q.0 ≢ s). absurd (missed q.0 q.1 q.2 q.3 other))

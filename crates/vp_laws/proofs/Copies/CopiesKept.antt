@@ -24,7 +24,7 @@ use Rattle.vp_laws.proofs.Invariant.Entered.{AgreedAs}
 use Rattle.vp_laws.proofs.Invariant.Held.{has_copy, holds_copy}
 use Rattle.vp_laws.proofs.Keeping.Closing.{closed_lasts}
 use Rattle.vp_laws.proofs.Keeping.Stopping.{shared_holder}
-use Rattle.vp_laws.proofs.Journal.ValuesAfter.{Wrote, value_after, without_entry}
+use Rattle.vp_laws.proofs.Journal.ValuesAfter.{content_of, Wrote, value_after, without_entry}
 use Rattle.vp_laws.proofs.Copies.Facts.{still_below, copy_holder}
 use Rattle.vp_laws.proofs.Worlds.Sites.{NowIs, now_is}
 use Rattle.vp_laws.proofs.Keeping.NewEntries.{entering, stops, wrote_in_force, agreed_was}
@@ -76,19 +76,19 @@ module _ (catalogue : Catalogue) (w new : Scene) (s : ℕ) (x : SiteState) (give
     at : Origin catalogue w new s x given o k n d j rec c
     at = origin catalogue w new s x given o k n d j rec c h
 
-    value_kept : ((u : Doubt) → DoubtOn new j rec c.date u → ⊥) → value_after catalogue new.journal c.date rec ≡ Some c.value
+    value_kept : ((u : Doubt) → DoubtOn new j rec c.date u → ⊥) → value_after catalogue new.journal c.date rec ≡ Some (content_of c)
     value_kept none = go at
       where
-        go : Origin catalogue w new s x given o k n d j rec c → value_after catalogue new.journal c.date rec ≡ Some c.value
+        go : Origin catalogue w new s x given o k n d j rec c → value_after catalogue new.journal c.date rec ≡ Some (content_of c)
         go (Origin.plain (Own.old t)) = old_value catalogue w new s x given o k n d copies refresh j rec c t none
         go (Origin.plain (Own.outcome a)) = applied_value catalogue w new s x given o k n d copies refresh j rec c holder a
         go (Origin.plain (Own.entered b)) = written_value catalogue w new s x given o k n d copies refresh j rec c holder b
         go (Origin.brought b) = brought_value catalogue w new s x given o k n d copies refresh j rec c holder b
 
-    in_doubt_kept : (u : Doubt) → DoubtOn new j rec c.date u → value_after catalogue (without_entry u.txn new.journal) c.date rec ≡ Some c.value
+    in_doubt_kept : (u : Doubt) → DoubtOn new j rec c.date u → value_after catalogue (without_entry u.txn new.journal) c.date rec ≡ Some (content_of c)
     in_doubt_kept u on = go at
       where
-        go : Origin catalogue w new s x given o k n d j rec c → value_after catalogue (without_entry u.txn new.journal) c.date rec ≡ Some c.value
+        go : Origin catalogue w new s x given o k n d j rec c → value_after catalogue (without_entry u.txn new.journal) c.date rec ≡ Some (content_of c)
         go (Origin.plain (Own.old t)) = old_in_doubt catalogue w new s x given o k n d copies refresh j rec c u t on
         go (Origin.plain (Own.outcome a)) = absurd (applied_sure catalogue w new s x given o k n d copies refresh j rec c holder a u on.0 on.1)
         go (Origin.plain (Own.entered b)) = absurd (written_sure catalogue w new s x given o k n d copies refresh j rec c holder b u on.0 on.1)

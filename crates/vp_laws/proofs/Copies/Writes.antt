@@ -7,7 +7,7 @@ use Rattle.vp_model.specs.OneCopy.{order}
 use Rattle.vp_laws.proofs.Invariant.Base.{Stands, InvBase}
 use Rattle.vp_laws.proofs.Journal.Acts.{IsQuiet, after, after_upto, after_own, after_between, under_same}
 use Rattle.vp_laws.proofs.Journal.UpTo.{upto, under, up_to_from}
-use Rattle.std.specs.Prelude.{Some, not}
+use Rattle.std.specs.Prelude.{Option, Some, not}
 use Rattle.vp_model.specs.Types.{Change, ViewId, TxnId, View, Commit, Input, Stored, Doubt}
 use Rattle.vp_model.specs.Types.message
 use Rattle.vp_model.specs.Words.{has, keys, value_at, view_before, same_txn}
@@ -37,10 +37,10 @@ use Rattle.vp_laws.proofs.Invariant.Refresh.{InvRefresh}
 use Rattle.vp_laws.proofs.Keeping.Listed.{wrote_here, not_below_itself}
 use Rattle.vp_laws.proofs.Invariant.Known.{Known}
 
-pair_at : (ws : List (ℕ × Change)) (p : ℕ × List ℕ) (rec : ℕ) (value : List ℕ) → p.0 ≡ rec → p.1 ≡ value → value_at p.0 ws ≡ Some p.1 → value_at rec ws ≡ Some value
+pair_at : (ws : List (ℕ × Change)) (p : ℕ × Change) (rec : ℕ) (value : Option (List ℕ)) → p.0 ≡ rec → p.1 ≡ value → value_at p.0 ws ≡ Some p.1 → value_at rec ws ≡ Some value
 pair_at ws p rec value e f h = rw (sym e, sym f) h
 
-value_along : (rec : ℕ) (start value : List ℕ) (es fs : List Commit) (a b : ViewId) → es ≡ fs → a ≡ b → value_up_to rec start fs b ≡ value → value_up_to rec start es a ≡ value
+value_along : (rec : ℕ) (start value : Option (List ℕ)) (es fs : List Commit) (a b : ViewId) → es ≡ fs → a ≡ b → value_up_to rec start fs b ≡ value → value_up_to rec start es a ≡ value
 value_along rec start value es fs a b e f h = rw (e, f) h
 
 -- the entries of views up to one are among those below a higher one
@@ -87,7 +87,7 @@ module _ (catalogue : Catalogue) (w new : Scene) (s : ℕ) (x : SiteState) (give
     applied_date = ap (λ (p : ℕ × Stored). p.1.date) a.is
 
     pub applied_on : Has (keys a.doubt.writes) rec
-    applied_on = subst (Has (keys a.doubt.writes)) (ap (λ (p : ℕ × Stored). p.0) a.is) (mapped_has (λ (p : ℕ × List ℕ). p.0) a.doubt.writes a.write a.wrote)
+    applied_on = subst (Has (keys a.doubt.writes)) (ap (λ (p : ℕ × Stored). p.0) a.is) (mapped_has (λ (p : ℕ × Change). p.0) a.doubt.writes a.write a.wrote)
 
     no_entry : (e : Commit) → Has o.effects.commits e → ⊥
     no_entry = none_entered catalogue w new s x given o k n d a.from (message.Outcome a.doubt.txn true) a.comes (λ q. let z = q.1 in cc)
@@ -144,7 +144,7 @@ module _ (catalogue : Catalogue) (w new : Scene) (s : ℕ) (x : SiteState) (give
     wrote_value : value_at rec (last_changes entry.0) ≡ Some c.value
     wrote_value =
         let there : Has (writes_held catalogue j (last_changes entry.0)) a.write = rw says.1 a.wrote in
-        let last = last_value entry.0.ops a.write (filter_has (λ (w : ℕ × List ℕ). has (holders catalogue w.0) j) (last_changes entry.0) a.write there).0 in
+        let last = last_value entry.0.ops a.write (filter_has (λ (w : ℕ × Change). has (holders catalogue w.0) j) (last_changes entry.0) a.write there).0 in
         pair_at (last_changes entry.0) a.write rec c.value (ap (λ (p : ℕ × Stored). p.0) a.is) (ap (λ (p : ℕ × Stored). p.1.value) a.is) last
 
     pub applied_value : value_after catalogue new.journal c.date rec ≡ Some c.value
@@ -236,10 +236,10 @@ module _ (catalogue : Catalogue) (w new : Scene) (s : ℕ) (x : SiteState) (give
     written_date = ap (λ (p : ℕ × Stored). p.1.date) b.is
 
     there_last : Has (last_changes b.entry) b.write
-    there_last = (filter_has (λ (w : ℕ × List ℕ). has (holders catalogue w.0) x.id) (last_changes b.entry) b.write b.wrote).0
+    there_last = (filter_has (λ (w : ℕ × Change). has (holders catalogue w.0) x.id) (last_changes b.entry) b.write b.wrote).0
 
     wrote : Wrote b.entry rec
-    wrote = subst (Wrote b.entry) (ap (λ (p : ℕ × Stored). p.0) b.is) (mapped_has (λ (p : ℕ × List ℕ). p.0) (last_changes b.entry) b.write there_last)
+    wrote = subst (Wrote b.entry) (ap (λ (p : ℕ × Stored). p.0) b.is) (mapped_has (λ (p : ℕ × Change). p.0) (last_changes b.entry) b.write there_last)
 
     f : Entering catalogue w new s x given o k n d b.entry
     f = entering catalogue w new s x given o k n d b.entry b.entered

@@ -1,5 +1,5 @@
 -- The place of an entry in the journal, and the values that it wrote.
-use Rattle.std.proofs.Common.{◌≡◌, ◌⊎◌, ◌∙◌, ap, sym, ℕ, ◌<◌, ◌++◌, arith, inl, inr, ⊎_elim, ◌≢◌, List, [], ◌∷◌}
+use Rattle.std.proofs.Common.{Option, ◌≡◌, ◌⊎◌, ◌∙◌, ap, sym, ℕ, ◌<◌, ◌++◌, arith, inl, inr, ⊎_elim, ◌≢◌, List, [], ◌∷◌}
 use Rattle.std.specs.Prelude.{Some}
 use Rattle.std.specs.List.{AllByRecursion}
 use Rattle.vp_model.specs.Types.{Op, Commit}
@@ -63,5 +63,5 @@ ascending_differ : (ws : List Write) → Ascending ws → Differ (keys ws)
 ascending_differ [] h = tt
 ascending_differ (w ∷ ws) h = (above_differ w.0 ws h.0, ascending_differ ws h.1)
 
-pub last_value : (ops : List Op) (w : ℕ × List ℕ) → Has (last_writes ops) w → value_at w.0 (last_writes ops) ≡ Some w.1
+pub last_value : (ops : List Op) (w : ℕ × Option (List ℕ)) → Has (last_writes ops) w → value_at w.0 (last_writes ops) ≡ Some w.1
 last_value ops w h = pair_value (last_writes ops) w.0 w.1 (ascending_differ (last_writes ops) (last_ascending ops)) h

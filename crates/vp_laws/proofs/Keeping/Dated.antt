@@ -1,7 +1,7 @@
 -- Each date is still that of an entry, and each kept answer to a refresh was sent.
 use Rattle.std.proofs.Common.{◌≡◌, ◌∙◌, ap, sym, subst, ℕ, true, List, refl, inl, inr, ⊎_elim}
 use Rattle.std.specs.Prelude.{Option, Some, not, ◌==◌, ◌&&◌}
-use Rattle.vp_model.specs.Types.{ViewId, View, Sent, Commit, Input, Stored, Refreshing}
+use Rattle.vp_model.specs.Types.{Change, ViewId, View, Sent, Commit, Input, Stored, Refreshing}
 use Rattle.vp_model.specs.Types.message
 use Rattle.vp_model.specs.Words.{has, keys}
 use Rattle.vp_model.specs.Catalogue.{Catalogue, holders, start_copies}
@@ -42,8 +42,8 @@ module _ (catalogue : Catalogue) (w new : Scene) (s : ℕ) (x : SiteState) (give
   answer_dated rec k (AnswerNow.came from view r stored comes is held h e u) = subst (λ (k : ℕ × Stored). IsDated w rec k.1.date) is (inv.sent from s rec view stored (came_in w s given arrives from _ comes))
 
   -- the records that an entry wrote, among those that a site holds
-  wrote_held : (e : Commit) (k : ℕ) (a : ℕ × List ℕ) → Has (writes_held catalogue k (last_changes e)) a → Wrote e a.0
-  wrote_held e k a h = mapped_has (λ (p : ℕ × List ℕ). p.0) (last_changes e) a (filter_has (λ (w : ℕ × List ℕ). has (holders catalogue w.0) k) (last_changes e) a h).0
+  wrote_held : (e : Commit) (k : ℕ) (a : ℕ × Change) → Has (writes_held catalogue k (last_changes e)) a → Wrote e a.0
+  wrote_held e k a h = mapped_has (λ (p : ℕ × Change). p.0) (last_changes e) a (filter_has (λ (w : ℕ × Change). has (holders catalogue w.0) k) (last_changes e) a h).0
 
   copy_now : (a : ℕ × Stored) → CopyNow catalogue x given o.effects.commits a → IsDated new a.0 a.1.date
   copy_now a (CopyNow.still h) = dated_on a.0 a.1.date (copy_was a h)

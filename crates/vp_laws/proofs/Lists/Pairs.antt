@@ -1,7 +1,7 @@
 -- What is found in a list of pairs by a number, and the last writes of operations.
 use Rattle.std.proofs.Common.{◌≡◌, ◌⊎◌, ap, sym, subst, ℕ, Bool, true, false, cond, List, [], ◌∷◌, refl, inl, inr, ⊎_elim}
-use Rattle.std.specs.Prelude.{Some, fold, ◌==◌, nat_lt, find, option_map, None}
-use Rattle.vp_model.specs.Types.{Change, Op}
+use Rattle.std.specs.Prelude.{Option, Some, fold, ◌==◌, nat_lt, find, option_map, None}
+use Rattle.vp_model.specs.Types.{Op}
 use Rattle.std.proofs.lemmas.Bool.{eqb-true}
 use Rattle.vp_model.specs.Types.op
 use Rattle.vp_model.specs.Words.{keys, put_at, value_at}
@@ -11,15 +11,15 @@ use Rattle.vp_laws.proofs.Lists.Changes.{put_has, mapped_has}
 use Rattle.vp_laws.proofs.Lists.Numbers.{eq_self, unequal}
 
 -- what is among the last values was written
-last_from : (ops : List Op) (writes : List (ℕ × Change)) (p : ℕ × List ℕ) → Has (fold with_op writes ops) p → Has writes p ⊎ ((value : List ℕ) × Has ops (op.Write p.0 value))
+last_from : (ops : List Op) (writes : List (ℕ × Option (List ℕ))) (p : ℕ × Option (List ℕ)) → Has (fold with_op writes ops) p → Has writes p ⊎ ((value : Option (List ℕ)) × Has ops (op.Write p.0 value))
 last_from [] writes p h = inl h
-last_from (op.Read rec value ∷ ops) writes p h = ⊎_elim (λ old. inl old) (λ (q : (value : List ℕ) × Has ops (op.Write p.0 value)). inr (q.0, has_more _ ops _ q.1)) (last_from ops writes p h)
+last_from (op.Read rec value ∷ ops) writes p h = ⊎_elim (λ old. inl old) (λ (q : (value : Option (List ℕ)) × Has ops (op.Write p.0 value)). inr (q.0, has_more _ ops _ q.1)) (last_from ops writes p h)
 last_from (op.Write rec value ∷ ops) writes p h = ⊎_elim
-    (λ old. ⊎_elim (λ (new : p ≡ (rec, value)). inr (value, subst (λ (n : ℕ). Has (op.Write rec value ∷ ops) (op.Write n value)) (ap (λ (p : ℕ × List ℕ). p.0) (sym new)) (has_first _ ops))) (λ before. inl before)
-    (put_has (λ (a : ℕ × List ℕ) (b : ℕ × List ℕ). a.0 == b.0) (λ (a : ℕ × List ℕ) (b : ℕ × List ℕ). nat_lt a.0 b.0) (rec, value) writes p old))
-    (λ (q : (value : List ℕ) × Has ops (op.Write p.0 value)). inr (q.0, has_more _ ops _ q.1)) (last_from ops (put_at rec value writes) p h)
+    (λ old. ⊎_elim (λ (new : p ≡ (rec, value)). inr (value, subst (λ (n : ℕ). Has (op.Write rec value ∷ ops) (op.Write n value)) (ap (λ (p : ℕ × Option (List ℕ)). p.0) (sym new)) (has_first _ ops))) (λ before. inl before)
+    (put_has (λ (a : ℕ × Option (List ℕ)) (b : ℕ × Option (List ℕ)). a.0 == b.0) (λ (a : ℕ × Option (List ℕ)) (b : ℕ × Option (List ℕ)). nat_lt a.0 b.0) (rec, value) writes p old))
+    (λ (q : (value : Option (List ℕ)) × Has ops (op.Write p.0 value)). inr (q.0, has_more _ ops _ q.1)) (last_from ops (put_at rec value writes) p h)
 
-pub last_written : (ops : List Op) (p : ℕ × List ℕ) → Has (last_writes ops) p → (value : List ℕ) × Has ops (op.Write p.0 value)
+pub last_written : (ops : List Op) (p : ℕ × Option (List ℕ)) → Has (last_writes ops) p → (value : Option (List ℕ)) × Has ops (op.Write p.0 value)
 last_written ops p h = ⊎_elim (λ none. absurd (has_none p none)) (λ q. q) (last_from ops [] p h)
 
 pub value_key : {K : Type 0} (n : ℕ) (pairs : List (ℕ × K)) (v : K) → value_at n pairs ≡ Some v → (p : ℕ × K) × Has pairs p × (p.0 ≡ n)
@@ -30,9 +30,9 @@ value_key {K} n (p ∷ pairs) v e = go (p.0 == n) refl e (λ q. value_key n pair
     go true t q rest = (p, has_first p pairs, eqb-true p.0 n t)
     go false t q rest = let r = rest q in (r.0, has_more p pairs r.0 r.1, r.2)
 
-pub written_op : (ops : List Op) (rec : ℕ) → Has (keys (last_writes ops)) rec → (value : List ℕ) × Has ops (op.Write rec value)
+pub written_op : (ops : List Op) (rec : ℕ) → Has (keys (last_writes ops)) rec → (value : Option (List ℕ)) × Has ops (op.Write rec value)
 written_op ops rec h =
-    let r = map_has (λ (p : ℕ × List ℕ). p.0) (last_writes ops) rec h in
+    let r = map_has (λ (p : ℕ × Option (List ℕ)). p.0) (last_writes ops) rec h in
     let q = last_written ops r.0 r.1 in
     (q.0, subst (λ (n : ℕ). Has ops (op.Write n q.0)) r.2 q.1)
 
@@ -68,8 +68,8 @@ not_copied {K} n (p ∷ pairs) e h = go (p.0 == n) refl e (λ q more. not_copied
     go false t q rest = ⊎_elim (λ (one : p.0 ≡ n). unequal p.0 n t one) (λ more. rest q more) (has_cons p.0 (keys pairs) n h)
 
 -- an operation does one thing to one record
-pub read_no_write : {C : Type 0} (operation : Op) (rec other : ℕ) (value v : List ℕ) → operation ≡ op.Read rec value → operation ≡ op.Write other v → C
+pub read_no_write : {C : Type 0} (operation : Op) (rec other : ℕ) (value v : Option (List ℕ)) → operation ≡ op.Read rec value → operation ≡ op.Write other v → C
 read_no_write operation rec other value v e f = cc
 
-pub write_of_one : (operation : Op) (rec other : ℕ) (value v : List ℕ) → operation ≡ op.Write rec value → operation ≡ op.Write other v → rec ≡ other
+pub write_of_one : (operation : Op) (rec other : ℕ) (value v : Option (List ℕ)) → operation ≡ op.Write rec value → operation ≡ op.Write other v → rec ≡ other
 write_of_one operation rec other value v e f = cc

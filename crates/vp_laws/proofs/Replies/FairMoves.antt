@@ -3,6 +3,8 @@ use Rattle.std.proofs.Common.{◌≡◌, ◌≢◌, ◌∙◌, ◌⊎◌, inl, i
 use Rattle.std.specs.Prelude.{slice_get, Option, Some, None, is_some, option_map, option_to_list, nat_le, nat_lt, ◌&&◌, ◌||◌}
 use Rattle.std.proofs.lemmas.Bool.Decides.{nat_tests}
 use Rattle.std.proofs.Math.ListN.{length-append}
+use Rattle.vp_model.specs.Calls.{change_asked}
+use Rattle.vp_model.specs.Types.op
 use Rattle.vp_model.specs.Types.{TxnId, ViewId, View, Owner, Obstacle, Answer, Reply, Message, Input, Pending, Live, Ending, Finished}
 use Rattle.vp_base.specs.declared.site.Ending.TheVariants.{Committed, Aborted, LockHeld, ViewChanged, TimedOut}
 use Rattle.vp_model.specs.Types.answer
@@ -14,7 +16,7 @@ use Rattle.vp_model.specs.Site.{SiteState, Stepped}
 use Rattle.vp_model.specs.Answers.{is_live}
 use Rattle.vp_model.specs.Messages.{held_id}
 use Rattle.vp_model.specs.Locks.{conflict}
-use Rattle.vp_model.specs.Transactions.{answer_of, answers_after}
+use Rattle.vp_model.specs.Transactions.{Deed, answer_of, answers_after}
 use Rattle.vp_model.specs.Refresh.{members_in, is_usable_in}
 use Rattle.vp_model.specs.Step.{step}
 use Rattle.vp_model.specs.Told.{answers_in}
@@ -22,7 +24,7 @@ use Rattle.vp_model.specs.World.{WorldState, Moment}
 use Rattle.vp_model.specs.Justified.{justified, was_blocked, held_other, is_held_by, is_other_view, left_then, closed_then, takes_refusal, is_step_of, tested_before, answers_call, keeps_end, tells_end, Request, handles, is_named, is_begun, weighs, refused_number, refused_in}
 use Rattle.vp_laws.proofs.Replies.RefusedCalls.{refused_last, none_refused, first_told, refused_of}
 use Rattle.vp_laws.proofs.Lists.Members.{Has, has_none, has_one, has_left, has_right, has_cases, has_one_is, map_has, any_true, any_of}
-use Rattle.vp_laws.proofs.Moves.Table.{Comes, Handled, Reads, Writes, Requests, Asks}
+use Rattle.vp_laws.proofs.Moves.Table.{record_of, Comes, Handled, Reads, Changes, Requests, Asks}
 use Rattle.vp_laws.proofs.Moves.LocalViews.{letter}
 use Rattle.vp_laws.proofs.Worlds.Scenes.{Scene, scene_of, plain_at, acted}
 use Rattle.vp_laws.proofs.Worlds.Events.{Arrives}
@@ -152,7 +154,7 @@ module _ (catalogue : Catalogue) (world : WorldState) (past : List Moment) (m0 :
 
   number_told : (t : Live) → Handled x t → (a : Answer) → ReplyFrom catalogue x given o.site a → (n : ℕ) → refused_number t.txn a ≡ Some n → n ≡ length t.answers + 1
   number_told t at a (ReplyFrom.free b f) n e = absurd (free_unrefused t.txn b n f e)
-  number_told t at a (ReplyFrom.inaccessible u p name rec exclusive takes op found f) n e = cc
+  number_told t at a (ReplyFrom.inaccessible u p name rec exclusive deed weights takes op found tries f) n e = cc
   number_told t at a (ReplyFrom.repeated f place b k q c) n e = ⊎_elim
       (λ r. absurd (report_unrefused t.txn b n r e))
       (λ (r : (number : ℕ) × (b ≡ answer_of f.txn number f.ending)). absurd (finished_other t f r.0 n at k (ap (refused_number t.txn) (sym r.1) ∙ e)))
@@ -210,10 +212,21 @@ module _ (catalogue : Catalogue) (world : WorldState) (past : List Moment) (m0 :
   uses_reads : (p : Pending) (name : List ℕ) (exclusive : Bool) (rec : ℕ) → Operates p.call name exclusive → Reads catalogue p rec → find_record catalogue name ≡ Some rec
   uses_reads p name exclusive rec (Operates.reads txn n e) r = let z = r.words in let same : r.name ≡ name = cc in rw (← same) r.found
   uses_reads p name exclusive rec (Operates.writes txn n value e) r = let z = r.words in cc
+  uses_reads p name exclusive rec (Operates.deletes txn n e) r = let z = r.words in cc
+  uses_reads p name exclusive rec (Operates.weighs txn n table e) r = let z = r.words in cc
 
-  uses_writes : (p : Pending) (name : List ℕ) (exclusive : Bool) (rec : ℕ) (value : List ℕ) → Operates p.call name exclusive → Writes catalogue p rec value → find_record catalogue name ≡ Some rec
-  uses_writes p name exclusive rec value (Operates.reads txn n e) r = let z = r.words in cc
-  uses_writes p name exclusive rec value (Operates.writes txn n v e) r = let z = r.words in let same : r.name ≡ name = cc in rw (← same) r.found
+  of_record : (name : List ℕ) (f : ℕ → Deed) (rec : ℕ) (deed : Deed) → ((k : ℕ) → record_of (f k) ≡ k) → option_map f (find_record catalogue name) ≡ Some deed → record_of deed ≡ rec → find_record catalogue name ≡ Some rec
+  of_record name f rec deed at asked on = go (find_record catalogue name) asked
+    where
+      go : (o : Option ℕ) → option_map f o ≡ Some deed → o ≡ Some rec
+      go None e = cc
+      go (Some k) e = let is : f k ≡ deed = cc in ap (λ (n : ℕ). Some n) (sym (at k) ∙ ap record_of is ∙ on)
+
+  uses_writes : (p : Pending) (name : List ℕ) (exclusive : Bool) (rec : ℕ) (deed : Deed) → Operates p.call name exclusive → Changes catalogue p rec deed → find_record catalogue name ≡ Some rec
+  uses_writes p name exclusive rec deed (Operates.reads txn n e) r = let z = ap (change_asked catalogue) (sym e) ∙ r.asked in cc
+  uses_writes p name exclusive rec deed (Operates.writes txn n v e) r = of_record name (λ k. Deed.operates (op.Write k (Some v))) rec deed (λ k. refl) (ap (change_asked catalogue) (sym e) ∙ r.asked) r.on
+  uses_writes p name exclusive rec deed (Operates.deletes txn n e) r = of_record name (λ k. Deed.operates (op.Write k None)) rec deed (λ k. refl) (ap (change_asked catalogue) (sym e) ∙ r.asked) r.on
+  uses_writes p name exclusive rec deed (Operates.weighs txn n table e) r = of_record name (λ k. Deed.weighs k table) rec deed (λ k. refl) (ap (change_asked catalogue) (sym e) ∙ r.asked) r.on
 
   up_there : (t : Live) → Has x.live t → plain_at w t.txn.site ≡ Some x
   up_there t h = rw (own_site t h) up
@@ -224,7 +237,7 @@ module _ (catalogue : Catalogue) (world : WorldState) (past : List Moment) (m0 :
     (known.led.asked _ m).5,
   )
   named_there t p from q view rec flag exclusive name a (HasRequest.to_write m) op =
-      let r = current t p (λ p. (value : List ℕ) × Writes catalogue p rec value) a.live a.pending (known.answers.asks _ m x t (up_there t a.live) a.live refl) in (
+      let r = current t p (λ p. (deed : Deed) × Changes catalogue p rec deed) a.live a.pending (known.answers.asks _ m x t (up_there t a.live) a.live refl) in (
         uses_writes p name exclusive rec r.0 op r.1,
         (known.led.asked _ m).5,
       )

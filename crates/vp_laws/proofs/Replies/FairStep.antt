@@ -135,6 +135,8 @@ module _ (catalogue : Catalogue) (m : Moment) (w : WorldState) (s : ℕ) (x : Si
       go : (exclusive : Bool) → Operates p.call name exclusive → call_request catalogue p.call ≡ Some (record { txn = t.txn; number = p.number; lock = Some (rec, exclusive); view = None })
       go exclusive (Operates.reads txn n e) = let q = both txn n (rw e at c.own) in rw (e, found, q.0, q.1) refl
       go exclusive (Operates.writes txn n value e) = let q = both txn n (rw e at c.own) in rw (e, found, q.0, q.1) refl
+      go exclusive (Operates.deletes txn n e) = let q = both txn n (rw e at c.own) in rw (e, found, q.0, q.1) refl
+      go exclusive (Operates.weighs txn n table e) = let q = both txn n (rw e at c.own) in rw (e, found, q.0, q.1) refl
 
   says : (txn : TxnId) (number : ℕ) (name : List ℕ) (holder : Owner) → says_held txn number name s holder (answer.LockHeld txn number name s holder) ≡ true
   says txn number name holder = rw (same_txn-self txn, eq_self number, (bytes_eq-Decides name name).1 refl, eq_self s) (same_owner-self holder)

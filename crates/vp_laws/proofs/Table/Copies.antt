@@ -35,8 +35,8 @@ pub data AnswerNow (catalogue : Catalogue) (x : SiteState) (given : Input) (rec 
 -- a copy was there, is of a doubt that commits, of an entry of this step, or of an answer to a refresh
 pub data CopyNow (catalogue : Catalogue) (x : SiteState) (given : Input) (commits : List Commit) (a : ℕ × Stored) : Type 0 where
   still : Has x.copies a → CopyNow catalogue x given commits a
-  outcome : (from : ℕ) (d : Doubt) (w : ℕ × List ℕ) → Comes given from (message.Outcome d.txn true) → Has x.doubts d → Has d.writes w → dated_at d.view w ≡ a → CopyNow catalogue x given commits a
-  entered : (e : Commit) (w : ℕ × List ℕ) → Has commits e → Has (writes_held catalogue x.id (last_changes e)) w → dated_at e.view w ≡ a → CopyNow catalogue x given commits a
+  outcome : (from : ℕ) (d : Doubt) (w : ℕ × Change) → Comes given from (message.Outcome d.txn true) → Has x.doubts d → Has d.writes w → (old : Stored) → Has x.copies (w.0, old) → dated_at d.view w old ≡ a → CopyNow catalogue x given commits a
+  entered : (e : Commit) (w : ℕ × Change) → Has commits e → Has (writes_held catalogue x.id (last_changes e)) w → (old : Stored) → Has x.copies (w.0, old) → dated_at e.view w old ≡ a → CopyNow catalogue x given commits a
   refreshed : (k : ℕ × Stored) → AnswerNow catalogue x given a.0 k → k.1 ≡ a.1 → CopyNow catalogue x given commits a
 
 pub record Copies (catalogue : Catalogue) (x : SiteState) (given : Input) (o : Stepped) : Type 0 where
@@ -51,10 +51,10 @@ replaced_from n v pairs a h = let r = map_has (λ (p : ℕ × Stored). cond (p.0
     go true p k e = inl (sym e)
     go false p k e = inr (rw (← e) k)
 
-written_from : (date : ViewId) (writes : List (ℕ × Change)) (copies : List (ℕ × Stored)) (a : ℕ × Stored) → Has (with_writes date writes copies) a → ((w : ℕ × List ℕ) × Has writes w × (dated_at date w ≡ a)) ⊎ Has copies a
+written_from : (date : ViewId) (writes : List (ℕ × Change)) (copies : List (ℕ × Stored)) (a : ℕ × Stored) → Has (with_writes date writes copies) a → ((w : ℕ × Change) × Has writes w × (dated_at date w ≡ a)) ⊎ Has copies a
 written_from date [] copies a h = inr h
 written_from date (w ∷ writes) copies a h = ⊎_elim
-    (λ (q : (v : ℕ × List ℕ) × Has writes v × (dated_at date v ≡ a)). inl (q.0, has_more w writes q.0 q.1, q.2))
+    (λ (q : (v : ℕ × Change) × Has writes v × (dated_at date v ≡ a)). inl (q.0, has_more w writes q.0 q.1, q.2))
     (λ old. ⊎_elim (λ (new : a ≡ dated_at date w). inl (w, has_first w writes, sym new)) (λ before. inr before) (replaced_from w.0 (record { value = w.1; date = date }) copies a old))
     (written_from date writes (replace_at w.0 (record { value = w.1; date = date }) copies) a h)
 
@@ -167,7 +167,7 @@ module _ (catalogue : Catalogue) (x : SiteState) (given : Input) (tidy : Tidy x)
   ends_here from txn false (Some d) f c = same (begin_step x) _ refl refl refl refl starts
   ends_here from txn true (Some d) f c = record {
     copies = λ a h. ⊎_elim
-        (λ (q : (w : ℕ × List ℕ) × Has d.writes w × (dated_at d.view w ≡ a)). CopyNow.outcome from d q.0 (c ∙ ap (λ (t : TxnId). input.Message from (message.Outcome t true)) (sym (same_txn-is d.txn txn (find_true (λ (d : Doubt). same_txn d.txn txn) x.doubts d f)))) (find_has (λ (d : Doubt). same_txn d.txn txn) x.doubts d f) q.1 q.2)
+        (λ (q : (w : ℕ × Change) × Has d.writes w × (dated_at d.view w ≡ a)). CopyNow.outcome from d q.0 (c ∙ ap (λ (t : TxnId). input.Message from (message.Outcome t true)) (sym (same_txn-is d.txn txn (find_true (λ (d : Doubt). same_txn d.txn txn) x.doubts d f)))) (find_has (λ (d : Doubt). same_txn d.txn txn) x.doubts d f) q.1 q.2)
         (λ old. CopyNow.still old)
         (written_from d.view d.writes x.copies a h);
     answers = starts.answers;
@@ -188,7 +188,7 @@ module _ (catalogue : Catalogue) (x : SiteState) (given : Input) (tidy : Tidy x)
       (λ e. record { copies = λ a h. CopyNow.still (rw (ap (λ (h : Here). h.copies) (decided-ends x.id t (lent_at x)).here) at h); answers = starts.answers })
       (λ e. let l = keep_writes catalogue x.id t (lent_at x) in record {
         copies = λ a h. ⊎_elim
-            (λ (q : (w : ℕ × List ℕ) × Has (writes_held catalogue x.id (last_changes (entry_of t))) w × (dated_at t.view w ≡ a)). CopyNow.entered (entry_of t) q.0 (rw (decided-commits x.id t l) (has_one _)) q.1 q.2)
+            (λ (q : (w : ℕ × Change) × Has (writes_held catalogue x.id (last_changes (entry_of t))) w × (dated_at t.view w ≡ a)). CopyNow.entered (entry_of t) q.0 (rw (decided-commits x.id t l) (has_one _)) q.1 q.2)
             (λ old. CopyNow.still old)
             (written_from t.view (writes_held catalogue x.id (last_changes (entry_of t))) x.copies a (rw (ap (λ (h : Here). h.copies) (decided-ends x.id t l).here) at h));
         answers = starts.answers;
@@ -222,7 +222,7 @@ module _ (catalogue : Catalogue) (x : SiteState) (given : Input) (tidy : Tidy x)
       begin = λ port view e g u. quiet (lent_at x) _ refl refl starts;
       answers = λ words port why y. quiet (lent_at x) _ refl refl starts;
       take_lock = λ t rec exclusive stored h i a v c. quiet (lent_at x) _ refl refl starts;
-      complete = λ t p operation words l h g y e q. quiet l _ refl refl q;
+      complete = λ t p deed l h g y e q. quiet l _ refl refl q;
       read_at = λ t p rec q h n r a w c o y. quiet (lent_at x) _ refl refl starts;
       write_at = λ t p rec value l h n w a e o d y v q. quiet l _ refl refl q;
       prepare_parts = λ t p h i g e. quiet (lent_at x) _ refl refl starts;

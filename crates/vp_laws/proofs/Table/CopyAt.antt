@@ -40,8 +40,8 @@ pub record Untaken (catalogue : Catalogue) (x : SiteState) (given : Input) (doub
 -- a copy was there and is untaken, or is of a doubt that commits, which is gone, or of an entry of this step
 pub data OwnCopy (catalogue : Catalogue) (x : SiteState) (given : Input) (doubts : List Doubt) (commits : List Commit) (a : ℕ × Stored) : Type 0 where
   still : Has x.copies a → Untaken catalogue x given doubts commits a.0 → OwnCopy catalogue x given doubts commits a
-  outcome : (from : ℕ) (d : Doubt) (w : ℕ × List ℕ) → Comes given from (message.Outcome d.txn true) → Has x.doubts d → Has d.writes w → dated_at d.view w ≡ a → ((u : Doubt) → Has doubts u → u.txn ≢ d.txn) → OwnCopy catalogue x given doubts commits a
-  entered : (e : Commit) (w : ℕ × List ℕ) → Has commits e → Has (writes_held catalogue x.id (last_changes e)) w → dated_at e.view w ≡ a → OwnCopy catalogue x given doubts commits a
+  outcome : (from : ℕ) (d : Doubt) (w : ℕ × Change) → Comes given from (message.Outcome d.txn true) → Has x.doubts d → Has d.writes w → (old : Stored) → Has x.copies (w.0, old) → dated_at d.view w old ≡ a → ((u : Doubt) → Has doubts u → u.txn ≢ d.txn) → OwnCopy catalogue x given doubts commits a
+  entered : (e : Commit) (w : ℕ × Change) → Has commits e → Has (writes_held catalogue x.id (last_changes e)) w → (old : Stored) → Has x.copies (w.0, old) → dated_at e.view w old ≡ a → OwnCopy catalogue x given doubts commits a
 
 -- no doubt among these writes the record
 abbrev pub Certain : List Doubt → ℕ → Type 0
@@ -99,10 +99,10 @@ replaced_not n v pairs a h = let r = map_has (λ (p : ℕ × Stored). cond (p.0 
     go true p t k e = inl (sym e)
     go false p t k e = inr (rw (← e) k, (λ z. differs p.0 n t (z ∙ ap (λ (q : ℕ × Stored). q.0) (sym e))))
 
-written_or_not : (date : ViewId) (writes : List (ℕ × Change)) (copies : List (ℕ × Stored)) (a : ℕ × Stored) → Has (with_writes date writes copies) a → ((w : ℕ × List ℕ) × Has writes w × (dated_at date w ≡ a)) ⊎ (Has copies a × (Has (keys writes) a.0 → ⊥))
+written_or_not : (date : ViewId) (writes : List (ℕ × Change)) (copies : List (ℕ × Stored)) (a : ℕ × Stored) → Has (with_writes date writes copies) a → ((w : ℕ × Change) × Has writes w × (dated_at date w ≡ a)) ⊎ (Has copies a × (Has (keys writes) a.0 → ⊥))
 written_or_not date [] copies a h = inr (h, (λ k. has_none a.0 k))
 written_or_not date (w ∷ writes) copies a h = ⊎_elim
-    (λ (q : (v : ℕ × List ℕ) × Has writes v × (dated_at date v ≡ a)). inl (q.0, has_more w writes q.0 q.1, q.2))
+    (λ (q : (v : ℕ × Change) × Has writes v × (dated_at date v ≡ a)). inl (q.0, has_more w writes q.0 q.1, q.2))
     (λ (old : Has (replace_at w.0 (record { value = w.1; date = date }) copies) a × (Has (keys writes) a.0 → ⊥)). ⊎_elim
     (λ (new : a ≡ dated_at date w). inl (w, has_first w writes, sym new))
     (λ (before : Has copies a × (w.0 ≢ a.0)). inr (before.0, (λ k. ⊎_elim (λ (one : w.0 ≡ a.0). before.1 one) (λ more. old.1 more) (has_cons w.0 (keys writes) a.0 k))))
@@ -233,7 +233,7 @@ module _ (catalogue : Catalogue) (x : SiteState) (given : Input) (tidy : Tidy x)
   ends_here from txn true (Some d) f c = record {
     id = refl;
     copies = λ a h. ⊎_elim
-        (λ (q : (w : ℕ × List ℕ) × Has d.writes w × (dated_at d.view w ≡ a)). CopyAt.here (OwnCopy.outcome from d q.0 (c ∙ ap (λ (t : TxnId). input.Message from (message.Outcome t true)) (sym is_named)) (find_has (λ (d : Doubt). same_txn d.txn txn) x.doubts d f) q.1 q.2 gone))
+        (λ (q : (w : ℕ × Change) × Has d.writes w × (dated_at d.view w ≡ a)). CopyAt.here (OwnCopy.outcome from d q.0 (c ∙ ap (λ (t : TxnId). input.Message from (message.Outcome t true)) (sym is_named)) (find_has (λ (d : Doubt). same_txn d.txn txn) x.doubts d f) q.1 q.2 gone))
         (λ (old : Has x.copies a × (Has (keys d.writes) a.0 → ⊥)). CopyAt.here (OwnCopy.still old.0 (record { outcome = λ other u k g z. absurd (old.1 (subst (λ (d : Doubt). Has (keys d.writes) a.0) (only u other k g) z)); entered = λ e h z. has_none e h })))
         (written_or_not d.view d.writes x.copies a h);
     answers = starts.answers;
@@ -274,7 +274,7 @@ module _ (catalogue : Catalogue) (x : SiteState) (given : Input) (tidy : Tidy x)
       (λ e. let l = keep_writes catalogue x.id t (lent_at x) in record {
         id = refl;
         copies = λ a h. ⊎_elim
-            (λ (q : (w : ℕ × List ℕ) × Has (writes_held catalogue x.id (last_changes (entry_of t))) w × (dated_at t.view w ≡ a)). CopyAt.here (OwnCopy.entered (entry_of t) q.0 (rw (decided-commits x.id t l) (has_one _)) q.1 q.2))
+            (λ (q : (w : ℕ × Change) × Has (writes_held catalogue x.id (last_changes (entry_of t))) w × (dated_at t.view w ≡ a)). CopyAt.here (OwnCopy.entered (entry_of t) q.0 (rw (decided-commits x.id t l) (has_one _)) q.1 q.2))
             (λ (old : Has x.copies a × (Has (keys (writes_held catalogue x.id (last_changes (entry_of t)))) a.0 → ⊥)). CopyAt.here (OwnCopy.still old.0 (record {
               outcome = λ from d c f k. find_has (λ (u : Doubt). same_txn u.txn d.txn) x.doubts d f;
               entered = λ u g k. old.1 (subst (λ (ops : List Op). Has (keys (writes_held catalogue x.id (last_writes ops))) a.0) (sym (ap (λ (u : Commit). u.ops) (has_one_is (entry_of t) u (rw (decided-commits x.id t l) at g)))) k);
@@ -320,7 +320,7 @@ module _ (catalogue : Catalogue) (x : SiteState) (given : Input) (tidy : Tidy x)
       begin = λ port view e g u. quiet (lent_at x) _ refl refl starts;
       answers = λ words port why y. quiet (lent_at x) _ refl refl starts;
       take_lock = λ t rec exclusive stored h i a v c. quiet (lent_at x) _ refl refl starts;
-      complete = λ t p operation words l h g y e q. quiet l _ refl refl q;
+      complete = λ t p deed l h g y e q. quiet l _ refl refl q;
       read_at = λ t p rec q h n r a w c o y. quiet (lent_at x) _ refl refl starts;
       write_at = λ t p rec value l h n w a e o d y v q. quiet l _ refl refl q;
       prepare_parts = λ t p h i g e. quiet (lent_at x) _ refl refl starts;

@@ -12,9 +12,9 @@ use Rattle.vp_model.specs.Told.{answers_in, reported, put_first, reports, takes,
 use Rattle.vp_model.specs.World.{Moment}
 use Rattle.vp_laws.proofs.Journal.Play.{value_put}
 
--- a number, with the value that was read or none for a write
+-- a number, with the content that was read or none for a change
 abbrev pub Report : Type 0
-Report = ℕ × Option (List ℕ)
+Report = ℕ × Option (Option (List ℕ))
 
 -- the reports with those of these answers
 abbrev pub collected : TxnId → List Answer → List Report → List Report

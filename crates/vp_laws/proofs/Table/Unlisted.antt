@@ -211,7 +211,7 @@ module _ (catalogue : Catalogue) (x : SiteState) (given : Input) (tidy : Tidy x)
       begin = λ port view e g u. stays _ refl refl (b.coordinator.begin port view e g u);
       answers = λ words port why y. stays _ refl refl (b.coordinator.answers words port why y);
       take_lock = λ t rec exclusive stored h i a v c. stays _ refl refl (b.coordinator.take_lock t rec exclusive stored h i a v c);
-      complete = λ t p operation words l h g y e q. stays _ refl refl (b.coordinator.complete t p operation words l h g y e q.base);
+      complete = λ t p deed l h g y e q. stays _ refl refl (b.coordinator.complete t p deed l h g y e q.base);
       read_at = λ t p rec q h n r a w c o y. stays _ refl refl (b.coordinator.read_at t p rec q h n r a w c o y);
       write_at = λ t p rec value l h n w a e o d y v q. stays _ refl refl (b.coordinator.write_at t p rec value l h n w a e o d y v q.base);
       prepare_parts = λ t p h i g e. stays _ refl refl (b.coordinator.prepare_parts t p h i g e);
