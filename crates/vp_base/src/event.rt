@@ -44,13 +44,13 @@ pub enum Call {
         txn: TxnId,
         number: CallNo,
     },
-    /// The record gets no value.
+    /// Deletes a record: it has no value after that, until it is written again.
     Delete {
         txn: TxnId,
         number: CallNo,
         name: Name,
     },
-    /// The copies of the record get these weights.
+    /// Gives the copies of a record other weights.
     Weigh {
         txn: TxnId,
         number: CallNo,
