@@ -26,7 +26,7 @@ use Rattle.vp_laws.proofs.Invariant.Names.{UsedTxn}
 use Rattle.vp_laws.proofs.Invariant.Ops.{written_used, HasWritten}
 use Rattle.vp_laws.proofs.Invariant.Entered.{AgreedAs}
 use Rattle.vp_laws.proofs.Copies.Facts.{copy_holder, entry_closes}
-use Rattle.vp_laws.proofs.Copies.CopiesKept.{unlisted_none}
+use Rattle.vp_laws.proofs.Copies.Refreshes.{unlisted_none}
 use Rattle.vp_laws.proofs.Copies.OwnUse.{view_is, written_closed}
 use Rattle.vp_laws.proofs.Worlds.Sites.{now_is}
 use Rattle.vp_laws.proofs.Keeping.NewEntries.{entering, stops, Fresh, doubt_from, doubt_says, fresh_same, fresh_not_entered}

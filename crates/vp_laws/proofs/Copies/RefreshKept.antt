@@ -38,9 +38,9 @@ use Rattle.vp_laws.proofs.Worlds.Sites.{now_is, NowIs}
 use Rattle.vp_laws.proofs.Keeping.NewEntries.{none_entered, journal_same, Entering, entering, doubted, stops, agreed_was, Fresh, doubt_from}
 use Rattle.vp_laws.proofs.Copies.Values.{value_now}
 use Rattle.vp_laws.proofs.Copies.Brought.{doubt_on}
-use Rattle.vp_laws.proofs.Copies.CopiesKept.{open_now, from_lasts, unlisted_none}
+use Rattle.vp_laws.proofs.Copies.CopiesKept.{open_now, from_lasts}
 use Rattle.vp_laws.proofs.Copies.OwnUse.{written_closed, idle_reads, used_closed}
-use Rattle.vp_laws.proofs.Copies.Refreshes.{certain_from, left_below}
+use Rattle.vp_laws.proofs.Copies.Refreshes.{unlisted_none, certain_from, left_below}
 use Rattle.vp_laws.proofs.Invariant.LiveUses.{LiveUses, live_uses}
 use Rattle.vp_laws.proofs.Keeping.Does.{Does}
 use Rattle.vp_laws.proofs.Invariant.Copies.{FromView, InvCopies}

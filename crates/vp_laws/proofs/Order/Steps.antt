@@ -33,7 +33,7 @@ use Rattle.vp_laws.proofs.Keeping.Stopping.{in_force_holder}
 use Rattle.vp_laws.proofs.Journal.ValuesAfter.{Content, read_after, content_of, value_after}
 use Rattle.vp_laws.proofs.Journal.ValuesGrow.{after_some}
 use Rattle.vp_laws.proofs.Journal.Playing.{content_value}
-use Rattle.vp_laws.proofs.Copies.CopiesKept.{unlisted_none}
+use Rattle.vp_laws.proofs.Copies.Refreshes.{unlisted_none}
 use Rattle.vp_laws.proofs.Copies.RefreshKept.{free_unlisted}
 use Rattle.vp_laws.proofs.Keeping.NewEntries.{journal_same}
 use Rattle.vp_laws.proofs.Copies.Usable.{usable_value}

@@ -26,7 +26,7 @@ use Rattle.vp_laws.proofs.Worlds.Events.{Lasts, in_last, in_each}
 use Rattle.vp_laws.proofs.Table.Unlisted.{IsUnlisted}
 use Rattle.vp_laws.proofs.Invariant.Held.{copy_value, copy_held}
 use Rattle.vp_laws.proofs.Journal.Playing.{content_value}
-use Rattle.vp_laws.proofs.Copies.CopiesKept.{unlisted_none}
+use Rattle.vp_laws.proofs.Copies.Refreshes.{unlisted_none}
 use Rattle.vp_laws.proofs.Copies.Usable.{usable_value}
 use Rattle.vp_laws.proofs.Journal.Contents.{content_there}
 use Rattle.vp_laws.proofs.Invariant.Known.{Known}
