@@ -98,27 +98,27 @@ module _ (catalogue : Catalogue) (w new : Scene) (s : ℕ) (x : SiteState) (give
     where
       was : value_at rec (kept_at w j).copies ≡ Some c
       was = subst (λ (k : DurableState). value_at rec k.copies ≡ Some c) (at_was j z) (copy_value catalogue w s x d.up d.here.kept k.held rec c h)
-  own_of j rec c z (OwnCopy.outcome from u b comes h there old before is gone) = Own.outcome (record {
+  own_of j rec c z (OwnCopy.outcome from u b comes h there first before is gone) = Own.outcome (record {
     here = z;
     from = from;
     doubt = u;
     write = b;
-    old = old;
+    old = first;
     comes = comes;
     was = subst (λ (k : DurableState). Has k.doubts u) (at_was j z) h;
     wrote = there;
-    before = subst (λ (k : DurableState). Has k.copies (b.0, old)) (at_was j z) before;
+    before = subst (λ (k : DurableState). Has k.copies (b.0, first)) (at_was j z) before;
     is = is;
     gone = λ v q. gone v (subst (λ (k : DurableState). Has k.doubts v) (at_now j z) q);
   })
-  own_of j rec c z (OwnCopy.entered e b h there old before is) = Own.entered (record {
+  own_of j rec c z (OwnCopy.entered e b h there first before is) = Own.entered (record {
     here = z;
     entry = e;
     write = b;
-    old = old;
+    old = first;
     entered = h;
     wrote = there;
-    before = subst (λ (k : DurableState). Has k.copies (b.0, old)) (at_was j z) before;
+    before = subst (λ (k : DurableState). Has k.copies (b.0, first)) (at_was j z) before;
     is = is;
   })
 

@@ -114,14 +114,12 @@ module _ (catalogue : Catalogue) (w new : Scene) (s : ℕ) (x : SiteState) (give
 
     -- the copy before
     pub before : (b : Stored) × (value_at rec (kept_at w j).copies ≡ Some b)
-    before = (
-      a.old,
-      subst (λ (n : ℕ). value_at n (kept_at w j).copies ≡ Some a.old) rec_is (
-        subst (λ (k : DurableState). value_at a.write.0 k.copies ≡ Some a.old) kept_here (
-          copy_value catalogue w s x d.up d.here.kept k.held a.write.0 a.old (subst (λ (k : DurableState). Has k.copies (a.write.0, a.old)) (sym kept_here) a.before),
-        ),
-      ),
-    )
+    before = (a.old, subst (λ (n : ℕ). value_at n (kept_at w j).copies ≡ Some a.old) rec_is there)
+      where
+        there : value_at a.write.0 (kept_at w j).copies ≡ Some a.old
+        there =
+            subst (λ (k : DurableState). value_at a.write.0 k.copies ≡ Some a.old) kept_here
+            (copy_value catalogue w s x d.up d.here.kept k.held a.write.0 a.old (subst (λ (k : DurableState). Has k.copies (a.write.0, a.old)) (sym kept_here) a.before))
 
     -- an entry that wrote the record and is in doubt here is the doubt's
     same_txn_in_doubt : (f : Commit) → Has w.journal f → Wrote f rec → InDoubt w j f.txn → f.txn ≡ a.doubt.txn

@@ -195,7 +195,7 @@ last_ascending-from (operation ∷ ops) ws h = last_ascending-from ops (with_op 
 pub last_ascending : (ops : List Op) → Ascending (last_writes ops)
 last_ascending ops = last_ascending-from ops [] tt
 
-same_content-self : (c : Option (List ℕ)) → same_content c c ≡ true
+pub same_content-self : (c : Option (List ℕ)) → same_content c c ≡ true
 same_content-self None = refl
 same_content-self (Some v) = (bytes_eq-Decides v v).1 refl
 

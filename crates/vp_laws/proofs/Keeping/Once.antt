@@ -1,5 +1,5 @@
 -- A doubt whose commit comes has the changes of the transaction's entry, so it changes no record twice.
-use Rattle.std.proofs.Common.{◌≡◌, sym, subst, ℕ, true, List}
+use Rattle.std.proofs.Common.{◌≡◌, subst, ℕ, true, List}
 use Rattle.vp_model.specs.Types.{Change, Input, Message}
 use Rattle.vp_model.specs.Types.message
 use Rattle.vp_model.specs.Words.{keys}
@@ -21,4 +21,4 @@ once_each catalogue w s x given kept ends shares came from d comes h =
     let e = (ends.told (letter from s (message.Outcome d.txn true)) (came from _ comes)).1 in
     let q = shares.doubts s d (subst (λ (k : DurableState). Has k.doubts d) kept h) in
     let says = shares.entry e.0 e.1 q.0.0 s d.view q.0.1 q.0.2 d.writes (rw e.2 q.0.3) in
-    subst (λ (ws : List (ℕ × Change)). Differ (keys ws)) (sym says.1) (held_differ catalogue s e.0)
+    subst (λ (ws : List (ℕ × Change)). Differ (keys ws)) says.1 (held_differ catalogue s e.0)

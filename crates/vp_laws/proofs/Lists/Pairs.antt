@@ -84,3 +84,23 @@ read_no_write operation rec other value v e f = cc
 
 pub write_of_one : (operation : Op) (rec other : ℕ) (value v : Option (List ℕ)) → operation ≡ op.Write rec value → operation ≡ op.Write other v → rec ≡ other
 write_of_one operation rec other value v e f = cc
+
+-- a value that is found is there with its number
+pub pair_there : {V : Type 0} (n : ℕ) (pairs : List (ℕ × V)) (v : V) → value_at n pairs ≡ Some v → Has pairs (n, v)
+pair_there {V} n [] v e = cc
+pair_there {V} n (p ∷ pairs) v e = go (p.0 == n) refl e (λ q. pair_there n pairs v q)
+  where
+    is_pair : (p : ℕ × V) → p.0 ≡ n → p.1 ≡ v → p ≡ (n, v)
+    is_pair p a b = rw (← a, ← b) refl
+
+    go : (b : Bool) → (p.0 == n) ≡ b → option_map (λ (q : ℕ × V). q.1) (cond b (Some p) (find (λ (q : ℕ × V). q.0 == n) pairs)) ≡ Some v → (value_at n pairs ≡ Some v → Has pairs (n, v)) → Has (p ∷ pairs) (n, v)
+    go true t q rest = let same : p.1 ≡ v = cc in subst (Has (p ∷ pairs)) (is_pair p (eqb-true p.0 n t) same) (has_first p pairs)
+    go false t q rest = has_more p pairs (n, v) (rest q)
+
+-- a number that is among them has a value
+pub value_there : {V : Type 0} (n : ℕ) (pairs : List (ℕ × V)) → Has (keys pairs) n → (v : V) × (value_at n pairs ≡ Some v)
+value_there {V} n pairs h = go (value_at n pairs) refl
+  where
+    go : (o : Option V) → value_at n pairs ≡ o → (v : V) × (value_at n pairs ≡ Some v)
+    go None e = absurd (not_copied n pairs e h)
+    go (Some v) e = (v, e)

@@ -161,7 +161,7 @@ module _ (catalogue : Catalogue) (x : SiteState) (given : Input) (after : SiteSt
 
     new_change-front : (name : List ℕ) (asked : ℕ → Deed) → Operates p.call name true → ((rec : ℕ) → Tries p.call rec (asked rec)) → ((rec : ℕ) → find_record catalogue name ≡ Some rec → Changes catalogue p rec (asked rec)) → Q (new_change catalogue x.id x.held t p name asked (lent_at x))
     unfolding new_change
-    new_change-front name asked o tries changes = with_record-front name asked _ tries (λ rec f a. change-front name asked rec o f (changes rec f) a)
+    new_change-front name asked o tries changes = with_record-front name true o asked _ tries (λ rec f a. change-front name asked rec o f (changes rec f) a)
 
     commit-front : is_commit p.call ≡ true → Q (commit catalogue x.id t p (lent_at x))
     unfolding commit prepare_parts
