@@ -1,5 +1,6 @@
--- Well-formed sites: every step keeps them so, and so does every schedule. It uses Lists, Moves and Worlds.
+-- Well-formed sites: every step keeps them so, and so does every schedule. It uses Lists, Journal, Moves and Worlds.
 pub mod Numbers
+pub mod Versions
 pub mod Doubts
 pub mod Catalogue
 pub mod Live

@@ -1,16 +1,29 @@
 -- Ascending numbers in a range and ascending writes, after a change.
-use Rattle.std.proofs.Common.{◌≡◌, ◌≤◌, ℕ, suc, ◌+◌, Bool, false, cond, List, [], ◌∷◌, refl, arith, length}
-use Rattle.std.specs.Prelude.{Some, filter, fold, nat_lt, nat_eq, ◌==◌}
+use Rattle.std.proofs.Common.{◌≡◌, ◌≤◌, ◌<◌, ap, subst, ℕ, suc, ◌+◌, Bool, true, false, cond, List, [], ◌∷◌, map, refl, arith, length}
+use Rattle.std.specs.Prelude.{Option, Some, None, is_some, filter, fold, nat_lt, nat_eq, ◌==◌, ◌||◌}
 use Rattle.std.specs.List.{AllByRecursion}
+use Rattle.std.proofs.lemmas.Bool.{or_right}
 use Rattle.std.proofs.lemmas.Bool.Decides.{nat_tests}
-use Rattle.vp_base.specs.Words.{IsValue}
-use Rattle.vp_bytes.specs.Fields.{IsSite, IsRecord, IsAscending, IsSites, IsAscendingWrites, IsWrites}
-use Rattle.vp_model.specs.Types.{Change, Op}
+use Rattle.vp_base.specs.Tables.{AreShares, IsTable as IsCallTable}
+use Rattle.vp_bytes.specs.Fields.{IsSite, IsRecord, IsAscending, IsSites}
+use Rattle.vp_contents.specs.Contents.{IsContent}
+use Rattle.vp_contents.specs.Tables.{IsAscendingTable, IsTable, IsMaybeTable}
+use Rattle.vp_contents.specs.Changes.{IsPut, Alters, IsChange, IsAscendingWrites, IsWrites}
+use Rattle.vp_contents.specs.declared.version.Version.TheVariants as versions
+use Rattle.vp_model.specs.Types.{Change, Op, Commit}
 use Rattle.vp_model.specs.Types.op
-use Rattle.vp_model.specs.Words.{put, put_number, put_at, value_at, for_each, is_empty}
-use Rattle.vp_model.specs.Transactions.{with_op, last_writes}
-use Rattle.vp_laws.specs.Shapes.{IsOp}
+use Rattle.vp_model.specs.Words.{put, put_number, put_at, value_at, for_each, is_empty, keys}
+use Rattle.vp_model.specs.Catalogue.{Table}
+use Rattle.vp_model.specs.Transactions.{with_op, last_writes, last_put, change_of, last_changes}
+use Rattle.vp_laws.specs.Shapes.{IsOp, IsGiven}
 use Rattle.vp_laws.proofs.Lists.Keeps.{by_test}
+use Rattle.vp_laws.proofs.Lists.Members.{Has, has_first, has_more, map_has, all_of}
+use Rattle.vp_laws.proofs.Lists.Changes.{mapped_has}
+use Rattle.vp_laws.proofs.Lists.Items.{all_at, all_put}
+use Rattle.vp_laws.proofs.Lists.Pairs.{pair_there, value_there}
+use Rattle.vp_laws.proofs.Journal.Play.{Ascending}
+use Rattle.vp_laws.proofs.Journal.Places.{last_value}
+use Rattle.vp_laws.proofs.Journal.LastChanges.{changes_ascending}
 
 pub length_filter : {X : Type 0} (test : X → Bool) (xs : List X) → length (filter test xs) ≤ length xs
 length_filter test [] = omega arith
@@ -19,6 +32,10 @@ length_filter test (x ∷ xs) = let rest = length_filter test xs in by_test (λ 
 pub length_put : {X : Type 0} (same before : X → X → Bool) (x : X) (ys : List X) → length (put same before x ys) ≤ suc (length ys)
 length_put same before x [] = omega arith
 length_put same before x (y ∷ ys) = let rest = length_put same before x ys in by_test (λ zs. length zs ≤ suc (suc (length ys))) (same x y) (x ∷ ys) (cond (before x y) (x ∷ y ∷ ys) (y ∷ put same before x ys)) (λ e. omega arith) (λ e. by_test (λ zs. length zs ≤ suc (suc (length ys))) (before x y) (x ∷ y ∷ ys) (y ∷ put same before x ys) (λ f. omega arith) (λ f. omega arith))
+
+mapped_length : {X Y : Type 0} (f : X → Y) (xs : List X) → length (map f xs) ≡ length xs
+mapped_length f [] = refl
+mapped_length f (x ∷ xs) = ap suc (mapped_length f xs)
 
 -- ---- numbers
 
@@ -126,10 +143,10 @@ contents_are ops i = ops_contents ops [] i tt
 
 -- a content that was written
 pub written_is : (ops : List Op) (rec : ℕ) (value : Option (List ℕ)) → AllByRecursion IsOp ops → value_at rec (last_writes ops) ≡ Some value → IsRecord rec × IsContent versions.Second value
-written_is ops rec value i e = let q = value_has rec (last_writes ops) value e in subst IsPutContent q.2 (all_at IsPutContent (last_writes ops) (contents_are ops i) q.0 q.1)
+written_is ops rec value i e = all_at IsPutContent (last_writes ops) (contents_are ops i) (rec, value) (pair_there rec (last_writes ops) value e)
 
 pub given_is : (tables : List (ℕ × Table)) (rec : ℕ) (table : Table) → AllByRecursion IsGiven tables → value_at rec tables ≡ Some table → IsRecord rec × IsTable table
-given_is tables rec table i e = let q = value_has rec tables table e in subst IsGiven q.2 (all_at IsGiven tables i q.0 q.1)
+given_is tables rec table i e = all_at IsGiven tables i (rec, table) (pair_there rec tables table e)
 
 -- ---- the last changes of an entry of at most 64 operations and tables
 
@@ -161,7 +178,9 @@ module _ (e : Commit) (ops_are : AllByRecursion IsOp e.ops) (tables_are : AllByR
       ((written_is e.ops w.0 w.1 ops_are is).0, change_is w.0 (rw is refl))
 
   given_some : (t : ℕ × Table) → Has e.tables t → IsWritten (t.0, made_of t.0)
-  given_some t h = ((all_at IsGiven e.tables tables_are t h).0, change_is t.0 (or_right (is_some (value_at t.0 e.tables) ) ))
+  given_some t h =
+      let q = value_there t.0 e.tables (mapped_has (λ (t : ℕ × Table). t.0) e.tables t h) in
+      ((all_at IsGiven e.tables tables_are t h).0, change_is t.0 (or_right (is_some (value_at t.0 (last_writes e.ops))) (is_some (value_at t.0 e.tables)) (rw q.1 refl)))
 
   puts_are : (ts : List (ℕ × Table)) (ws : List (ℕ × Change)) → ((t : ℕ × Table) → Has ts t → IsWritten (t.0, made_of t.0)) → AllByRecursion IsWritten ws → AllByRecursion IsWritten (for_each ts (λ (t : ℕ × Table). put_at t.0 (made_of t.0)) ws)
   puts_are [] ws g h = h
@@ -189,7 +208,7 @@ module _ (e : Commit) (ops_are : AllByRecursion IsOp e.ops) (tables_are : AllByR
   pub changes_are : (test : ℕ × Change → Bool) → length e.ops + length e.tables ≤ 64 → IsWrites versions.Second (filter test (last_changes e))
   changes_are test few =
       let made = puts_length e.tables base in
-      let same : length base ≡ length (last_writes e.ops) = length-map (λ (w : ℕ × Option (List ℕ)). (w.0, made_of w.0)) (last_writes e.ops) in
+      let same : length base ≡ length (last_writes e.ops) = mapped_length (λ (w : ℕ × Option (List ℕ)). (w.0, made_of w.0)) (last_writes e.ops) in
       let q = ops_length e.ops [] in
       let f = length_filter test (last_changes e) in
       (omega (arith, few, made, same, q, f), writes_filter 0 test (last_changes e) changes_rise)

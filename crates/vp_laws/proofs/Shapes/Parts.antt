@@ -4,9 +4,7 @@ use Rattle.std.specs.Prelude.{Option, Some, None, IfSome, filter, not, option_ma
 use Rattle.std.specs.List.{AllByRecursion}
 use Rattle.vp_base.specs.Identifiers.{IsView, IsTxn}
 use Rattle.vp_bytes.specs.Fields.{IsSite, IsRecord, IsMaybeView, IsRequest}
-use Rattle.vp_bytes.specs.Doubts.{IsDoubt}
 use Rattle.vp_base.specs.Calls.{IsNumbered}
-use Rattle.vp_wire.specs.Grammar.{IsMessage}
 use Rattle.vp_catalog.specs.Document.{IsCatalogue}
 use Rattle.vp_model.specs.Types.{Change, ViewId, TxnId, View, Stored, Message, Input, Part, Refreshing, Doubt, Sent}
 use Rattle.vp_model.specs.Types.log_record
@@ -23,7 +21,7 @@ use Rattle.vp_model.specs.Messages.{put_part, with_part, grant, with_vote, with_
 use Rattle.vp_model.specs.Step.{known}
 use Rattle.vp_laws.proofs.Lists.Members.{Has, find_has, all_of}
 use Rattle.vp_laws.proofs.Moves.Table.{Comes, Requests, Asks, Joined, SendsBack, sent_back_for, AsksAgain}
-use Rattle.vp_laws.specs.Shapes.{IsInput, IsStored, AreCopies, IsLock, IsPart, IsRefreshing, IsShaped, IsSent}
+use Rattle.vp_laws.specs.Shapes.{IsMessage, IsDoubt, IsInput, IsStored, AreCopies, IsLock, IsPart, IsRefreshing, IsShaped, IsSent}
 use Rattle.vp_laws.proofs.Lists.Items.{all_at, all_filter, all_put, all_map}
 use Rattle.vp_laws.proofs.Shapes.Numbers.{each_site, ascending_filter}
 use Rattle.vp_laws.proofs.Shapes.Doubts.{put_doubts, fewer_doubts}
@@ -72,7 +70,7 @@ module _ (catalogue : Catalogue) (k : IsCatalogue catalogue) (x : SiteState) (sx
   pub keeps_answer : (from : ℕ) (view : ViewId) (rec : ℕ) (stored : Stored) → Comes given from (message.RefreshAnswer view rec stored) → F (change_refresh (map (with_answer rec from stored)) (begin_step x))
   keeps_answer from view rec stored c =
       let m = (came_is given from (message.RefreshAnswer view rec stored) came c).1 in
-      with_refresh catalogue x _ begins (map (with_answer rec from stored)) (all_map IsRefreshing IsRefreshing (with_answer rec from stored) (λ r i. answer_is rec from stored r (m.1.1, m.1.2) i) x.refresh sx.refresh_are)
+      with_refresh catalogue x _ begins (map (with_answer rec from stored)) (all_map IsRefreshing IsRefreshing (with_answer rec from stored) (λ r i. answer_is rec from stored r m.1.1 i) x.refresh sx.refresh_are)
 
   -- ---- parts
 
@@ -124,7 +122,7 @@ module _ (catalogue : Catalogue) (k : IsCatalogue catalogue) (x : SiteState) (sx
   back_is from _ (SendsBack.answer_refresh view rec stored c e d v) =
       let m = (came_is given from (message.RefreshRequest view rec) came c).1 in
       let i = copy_is x.here.copies rec stored sx.copies_are.stored v in
-      (m.0, (m.1, i.0, i.1))
+      (m.0, (m.1, i))
   back_is from _ (SendsBack.refuse_view txn view number a e) = (numbered txn view number (asks_is from txn view number a), now_is x.held sx.views_are.held_is)
   back_is from _ (SendsBack.refuse_lock txn view number rec exclusive holder r e n c) = (numbered txn view number (requests_is from txn view number rec exclusive r), conflict_is rec exclusive txn x.here.locks holder sx.locks_are c)
   back_is from _ (SendsBack.doubt_again txn view number reads writes c e n d) = (came_is given from (message.Prepare txn view number reads writes) came c).1.0.0

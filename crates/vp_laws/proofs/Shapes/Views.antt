@@ -6,7 +6,6 @@ use Rattle.std.proofs.lemmas.Bool.Decides.{nat_tests}
 use Rattle.vp_base.specs.Identifiers.{IsView}
 use Rattle.vp_base.specs.Calls.{IsCall}
 use Rattle.vp_bytes.specs.Fields.{IsSite}
-use Rattle.vp_wire.specs.Grammar.{IsMessage}
 use Rattle.vp_catalog.specs.Document.{IsCatalogue}
 use Rattle.vp_model.specs.Types.{ViewId, View, Call, Message, Input}
 use Rattle.vp_model.specs.Types.answer
@@ -21,7 +20,7 @@ use Rattle.vp_model.specs.Views.{outlasts, without_view, with_invitation, with_v
 use Rattle.vp_model.specs.Messages.{with_wait, accept, with_acceptance, with_accepted, on_accept, with_seen, on_stale, with_heard}
 use Rattle.vp_model.specs.Step.{fix, without_wait, with_monitor, probe_all}
 use Rattle.vp_laws.proofs.Moves.Table.{Comes, next_view}
-use Rattle.vp_laws.specs.Shapes.{IsInput, IsInviting, AreViews, IsLock, IsShaped}
+use Rattle.vp_laws.specs.Shapes.{IsMessage, IsInput, IsInviting, AreViews, IsLock, IsShaped}
 use Rattle.vp_laws.proofs.Lists.Items.{all_filter}
 use Rattle.vp_laws.proofs.Shapes.Numbers.{each_site, put_sites, put_some, some_sites}
 use Rattle.vp_laws.proofs.Shapes.Catalogue.{listed_is, other_sites_are}
