@@ -19,7 +19,7 @@ use Rattle.vp_laws.proofs.Worlds.Scenes.{Scene, kept_at, promise_at}
 use Rattle.vp_laws.proofs.Invariant.Shares.{InDoubt, InvShares}
 use Rattle.vp_laws.proofs.Invariant.Entered.{AgreedAs}
 use Rattle.vp_laws.proofs.Keeping.Stopping.{shared_holder}
-use Rattle.vp_laws.proofs.Journal.ValuesAfter.{Wrote, value_after}
+use Rattle.vp_laws.proofs.Journal.ValuesAfter.{content_of, Wrote, value_after}
 use Rattle.vp_laws.proofs.Copies.Facts.{still_below, copy_holder}
 use Rattle.vp_laws.proofs.Keeping.NewEntries.{doubted, agreed_was}
 use Rattle.vp_laws.proofs.Copies.Origins.{Untouched, Own, Brought, gone_aborted}
@@ -94,10 +94,10 @@ module _ (catalogue : Catalogue) (w new : Scene) (s : ℕ) (x : SiteState) (give
     pub brought_sure : Certain (kept_at new j).doubts rec
     brought_sure v h on = b.refreshed.certain v (subst (λ (k : DurableState). Has k.doubts v) (ap (kept_at new) b.here ∙ d.st.kept_now) h) on
 
-    pub brought_value : value_after catalogue new.journal c.date rec ≡ Some c.value
+    pub brought_value : value_after catalogue new.journal c.date rec ≡ Some (content_of c)
     brought_value =
         value_now catalogue w new s x given o k n d copies refresh c.date rec (λ e h wrote le. answer_unwritten catalogue w new s x given o k n d rec b.refreshed.taken.0 taken e h wrote)
-        ∙ subst (λ (c : Stored). value_after catalogue w.journal c.date rec ≡ Some c.value) b.refreshed.taken.2 (refresh.value b.refreshed.taken.0.0 s rec u.id b.refreshed.taken.0.1 answer.sent answer.low)
+        ∙ subst (λ (c : Stored). value_after catalogue w.journal c.date rec ≡ Some (content_of c)) b.refreshed.taken.2 (refresh.value b.refreshed.taken.0.0 s rec u.id b.refreshed.taken.0.1 answer.sent answer.low)
 
     pub brought_from : FromView catalogue new j rec c.date
     brought_from = FromView.closed u (d.st.moved.agreed u (d.here.held u held)) low (subst (Has u.members) (sym b.here) member)

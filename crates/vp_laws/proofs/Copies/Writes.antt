@@ -206,6 +206,7 @@ module _ (catalogue : Catalogue) (w new : Scene) (s : ℕ) (x : SiteState) (give
 
     -- so its content is the one after these entries
     pub applied_value : InvBase w → value_after catalogue new.journal c.date rec ≡ Some (content_of c)
+    unfolding before
     applied_value base = value_now catalogue w new s x given o k n d copies refresh c.date rec (λ e h. absurd (no_entry e h)) ∙ go (slice_get (start_values catalogue) rec) refl
       where
         at : c.date ≡ entry.0.view

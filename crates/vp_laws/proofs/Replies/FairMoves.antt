@@ -6,7 +6,7 @@ use Rattle.std.proofs.Math.ListN.{length-append}
 use Rattle.vp_model.specs.Calls.{short_by, short_here, short, change_asked}
 use Rattle.vp_model.specs.Types.op
 use Rattle.vp_model.specs.Types.{TxnId, ViewId, View, Owner, Obstacle, Answer, Event, Reply, Message, Input, Pending, Live, Ending, Finished}
-use Rattle.vp_base.specs.declared.site.Ending.TheVariants.{Committed, Aborted, LockHeld, ViewChanged, TimedOut}
+use Rattle.vp_base.specs.declared.site.Ending.TheVariants.{Committed, Aborted, LockHeld, ViewChanged, TimedOut, Inaccessible}
 use Rattle.vp_model.specs.Types.answer
 use Rattle.vp_model.specs.Types.input
 use Rattle.vp_model.specs.Types.message
@@ -335,7 +335,10 @@ module _ (catalogue : Catalogue) (world : WorldState) (past : List Moment) (m0 :
 
   -- the weights that an answer names: by the call's own table, or by the catalogue's
   weighs_when : (words : Event) (name : List ℕ) (rec : ℕ) (v : View) (i n : ℕ) → x.held ≡ Some v → nat_lt n (2 * i) ≡ false → find_record catalogue name ≡ Some rec → (option_map_or (λ table. sums_are table i n x) (table_in words) false || sums_are (weights_of catalogue rec) i n x) ≡ true → weighs catalogue words name i n x ≡ true
-  weighs_when words name rec v i n held short found sums = let up_to : nat_le (2 * i) n ≡ true = grind (arith, nat_tests, short) in rw (held, up_to, found) sums
+  weighs_when words name rec v i n held short found sums =
+      let up_to : nat_le (2 * i) n ≡ true = grind (arith, nat_tests, short) in
+      let some : is_some x.held ≡ true = rw held refl in
+      rw (some, up_to, found) sums
 
   sums_self : (table : Weights) → sums_are table (weight_inside (members_in x.held) table) (weight_total table) x ≡ true
   sums_self table = rw (eq_self (weight_inside (members_in x.held) table), eq_self (weight_total table)) refl
@@ -390,6 +393,7 @@ module _ (catalogue : Catalogue) (world : WorldState) (past : List Moment) (m0 :
   kept_tells f h n (LockHeld name at holder) calls = keeps_tells f n h (calls (own_held f.txn n name at holder))
   kept_tells f h n (ViewChanged at held held_now) calls = keeps_tells f n h (calls (own_view f.txn n at held held_now))
   kept_tells f h n (TimedOut at) calls = tt
+  kept_tells f h n (Inaccessible name inside total) calls = tt
 
   -- a kept refusal is repeated to the call that has its number, or to one under number 0
   place_called : (f : Finished) (place : ℕ) (a : Answer) (n : ℕ) → Has x.finished f → kept_answer place f.answers ≡ Some a → IsCallOf given f.txn place → refused_number f.txn a ≡ Some n → answers_call f.txn n m0 ≡ true
