@@ -1,5 +1,5 @@
 -- The laws of entries and doubts in the words of the contracts.
-use Rattle.std.proofs.Common.{inl, ◌≡◌, ◌≢◌, ◌∙◌, sym, ℕ, false, List, [], ◌∷◌, refl, arith}
+use Rattle.std.proofs.Common.{inl, inr, ◌≡◌, ◌≢◌, ◌∙◌, sym, ℕ, false, List, [], ◌∷◌, refl, arith}
 use Rattle.std.specs.Prelude.{Option, Some, None}
 use Rattle.std.proofs.lemmas.Bool.Decides.{nat_tests}
 use Rattle.std.proofs.lemmas.List.Kept.{AllPairs-cons}
@@ -60,4 +60,5 @@ entered s e h =
       q.2,
       contains q.0.members e.txn.site q.3,
       (λ operation k. (inv.refresh.entry e q.0 (record_in operation) there (q.1, q.2) (inl (op_used e.ops operation (has_of e.ops operation k)))).usable),
+      (λ rec k. (inv.refresh.entry e q.0 rec there (q.1, q.2) (inr (has_of _ rec k))).usable),
     )
