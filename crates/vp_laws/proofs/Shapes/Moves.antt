@@ -94,7 +94,7 @@ module _ (catalogue : Catalogue) (x : SiteState) (o : Stepped) (p : Forms catalo
     gives = p.gives;
   }
 
-  pub with_coordinator : (c : CoordinatorState) → IsCoordinator c → Forms catalogue x (record o { site = record o.site { coordinator = c } })
+  pub with_coordinator : (c : CoordinatorState) → IsCoordinator catalogue c → Forms catalogue x (record o { site = record o.site { coordinator = c } })
   with_coordinator c v = let s = p.site_is in record {
     site_is = record { listed = s.listed; lived = s.lived; life_fits = s.life_fits; views_are = s.views_are; locks_are = s.locks_are; copies_are = s.copies_are; parts_are = s.parts_are; doubts_are = s.doubts_are; refresh_are = s.refresh_are; coordinator_is = v };
     same = p.same;

@@ -193,7 +193,7 @@ module _ (e : Commit) (ops_are : AllByRecursion IsOp e.ops) (tables_are : AllByR
       let one : length (put_at t.0 (made_of t.0) ws) ≤ suc (length ws) = length_put (λ (a : ℕ × Change) (b : ℕ × Change). a.0 == b.0) (λ (a : ℕ × Change) (b : ℕ × Change). nat_lt a.0 b.0) (t.0, made_of t.0) ws in
       omega (arith, rest, one)
 
-  base : List (ℕ × Change)
+  abbrev base : List (ℕ × Change)
   base = map (λ (w : ℕ × Option (List ℕ)). (w.0, made_of w.0)) (last_writes e.ops)
 
   base_are : AllByRecursion IsWritten base

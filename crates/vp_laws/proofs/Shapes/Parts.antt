@@ -56,7 +56,7 @@ module _ (catalogue : Catalogue) (k : IsCatalogue catalogue) (x : SiteState) (sx
   takes_newer : (rec : ℕ) (own best : Stored) (o : Stepped) → IsRecord rec → IsStored best → F o → F (take_newer rec own best o)
   takes_newer rec own best o r i p =
       let a = with_copies catalogue x o p (replace_at rec best) (replace_is catalogue o.site.id rec best o.site.here.copies i p.site_is.copies_are) in
-      take-cases F rec own best o (with_gives catalogue x _ a _ (gives_entry x.id _ a.gives (log_record.Copy rec best) (r, i.0, i.1))) p
+      take-cases F rec own best o (with_gives catalogue x _ a _ (gives_entry x.id _ a.gives (log_record.Copy rec best) (r, i))) p
 
   pub ends_refresh : (rec : ℕ) (r : Refreshing) (own : Stored) (o : Stepped) → refreshing_of rec o.site.refresh ≡ Some r → value_at r.rec o.site.copies ≡ Some own → F o → F (end_refresh catalogue r own o)
   unfolding end_refresh unlist
