@@ -39,6 +39,7 @@ use Rattle.vp_laws.proofs.Moves.Table.{Comes, next_name, record_of, IsNext, Read
 use Rattle.vp_laws.specs.Shapes.{IsAnswer, IsInput, IsOp, IsPending, operates, asked, IsLive, IsEnding, IsFinished, IsCoordinator, IsLock, IsShaped, AreShaped}
 use Rattle.vp_laws.proofs.Lists.Items.{all_at, all_and_one, all_filter}
 use Rattle.vp_laws.proofs.Shapes.Numbers.{each_site, put_sites, put_all_sites, sites_of_ascending, some_sites, ascending_filter, written_is, changes_are, table_of_call}
+use Rattle.vp_laws.proofs.Shapes.Sizes.{writes_length}
 use Rattle.vp_laws.proofs.Shapes.Doubts.{with_decisions, fewer_decisions}
 use Rattle.vp_laws.proofs.Shapes.Catalogue.{others_ascend, found_is, inside_fits, total_fits, table_fits, part_fits}
 use Rattle.vp_laws.proofs.Shapes.Moves.{Forms, gives_entry, gives_commit, gives_reply, gives_message, gives_each, with_gives, with_locks, with_copies, with_coordinator, some_at, with_lock_is, conflict_is, writes_are, copy_is}
@@ -294,7 +295,7 @@ module _ (catalogue : Catalogue) (k : IsCatalogue catalogue) (x : SiteState) (sx
       let parts = sites_of_ascending (put_number q t.parts) (put_sites q t.parts s i.parts_are.2) in
       let now = waiting_is catalogue t p (t.remote ++ (q, rec) ∷ []) (put_number q t.parts) (q ∷ []) i (omega (arith, one, room)) (all_and_one (λ (r : ℕ × ℕ). IsRecord r.1) t.remote (q, rec) i.remote_are found) (omega (arith, one, less, longer)) parts ask.2 came_call.0 came_call.1 (some_sites (q ∷ []) refl (s.0, s.1, tt)) (λ deed e. let z : change_asked catalogue p.call ≡ None = rw r.words refl in cc) in
       let a = now_coordinator (put_live (record t { remote = t.remote ++ (q, rec) ∷ []; parts = put_number q t.parts; pending = Some (record p { missing = q ∷ [] }) })) (lent_at x) begins (puts_live catalogue _ x.coordinator now sx.coordinator_is) in
-      now_gives _ _ a (gives_message x.id _ a.gives x.id (message.ReadRequest t.txn t.view p.number rec) q refl s (ask, found))
+      now_gives _ _ a (gives_message x.id _ a.gives x.id (message.ReadRequest t.txn t.view p.number rec) q refl s (ask, found) tt)
 
   pub writes_at : (t : Live) (p : Pending) (rec : ℕ) (deed : Deed) (l : Lent) → Has x.live t → IsNext given t p → Changes catalogue p rec deed → is_too_large t deed ≡ false → is_empty (other_holders catalogue x rec) ≡ false → nat_le 64 (length t.answers) ≡ false → K l → K (write_at x.id t p rec (other_holders catalogue x rec) l)
   unfolding write_at
@@ -312,7 +313,7 @@ module _ (catalogue : Catalogue) (k : IsCatalogue catalogue) (x : SiteState) (sx
       let parts = sites_of_ascending (for_each sites put_number t.parts) (put_all_sites sites t.parts s i.parts_are.2) in
       let now = waiting_is catalogue t p t.remote (for_each sites put_number t.parts) sites i (omega (arith, one, room)) i.remote_are (omega (arith, one, less)) parts ask.2 came_call.0 came_call.1 (some_sites sites e up) (λ other a. let same : deed ≡ other = (let z = w.asked in cc) in subst (λ (d : Deed). is_too_large t d ≡ false) same fits) in
       let a = now_coordinator (put_live (record t { parts = for_each sites put_number t.parts; pending = Some (record p { missing = sites }) })) l q (puts_live catalogue _ l.coordinator now q.site_is.coordinator_is) in
-      now_gives _ _ a (gives_each x.id _ a.gives x.id (λ q. message.WriteRequest t.txn t.view p.number rec) sites refl s (λ q. (ask, found)))
+      now_gives _ _ a (gives_each x.id _ a.gives x.id (λ q. message.WriteRequest t.txn t.view p.number rec) sites refl s (λ q. (ask, found)) (λ q. tt))
 
   commits_none : (words : Call) → is_commit words ≡ true → operates words ≡ 0
   commits_none (call.Read txn number name) e = cc
@@ -348,7 +349,7 @@ module _ (catalogue : Catalogue) (k : IsCatalogue catalogue) (x : SiteState) (sx
       let short : length t.remote ≤ 64 = omega (arith, few, less) in
       let done = i.done_few in
       let small : length t.ops + length t.tables ≤ 64 = omega (arith, few, done) in
-      now_gives _ _ a (gives_each x.id _ a.gives x.id (prepare_for catalogue t p) t.parts refl (each_site t.parts i.parts_are.2) (λ q. (ask, recs_are q t.remote i.remote_are short, changes_are (entry_of t) i.ops_are i.tables_are (λ w. has (holders catalogue w.0) q) small)))
+      now_gives _ _ a (gives_each x.id _ a.gives x.id (prepare_for catalogue t p) t.parts refl (each_site t.parts i.parts_are.2) (λ q. (ask, recs_are q t.remote i.remote_are short, changes_are (entry_of t) i.ops_are i.tables_are (λ w. has (holders catalogue w.0) q) small)) (λ q. writes_length t (λ w. has (holders catalogue w.0) q) i.ops_are i.tables_are (changes_are (entry_of t) i.ops_are i.tables_are (λ w. has (holders catalogue w.0) q) small).0 i.size_fits))
 
   same_asked : (o : Option Pending) (p : Pending) → o ≡ Some p → asked o ≡ operates p.call
   same_asked o p e = rw e refl
@@ -378,7 +379,7 @@ module _ (catalogue : Catalogue) (k : IsCatalogue catalogue) (x : SiteState) (sx
   closes_one : (t : Live) (why : Ending) (l : Lent) → IsOver t → IsEnding why → K l → K (close x.id t why l)
   unfolding close
   closes_one t why l i e p =
-      let a = now_gives _ l p (gives_each x.id l.effects p.gives x.id (λ q. message.Outcome t.txn false) t.parts refl (each_site t.parts i.parts_are.2) (λ q. i.txn_is)) in
+      let a = now_gives _ l p (gives_each x.id l.effects p.gives x.id (λ q. message.Outcome t.txn false) t.parts refl (each_site t.parts i.parts_are.2) (λ q. i.txn_is) (λ q. tt)) in
       let b = now_locks (without_owner (owner.Txn t.txn)) _ a (all_filter IsLock _ l.here.locks p.site_is.locks_are) in
       ends t why _ i e b
 
@@ -386,7 +387,7 @@ module _ (catalogue : Catalogue) (k : IsCatalogue catalogue) (x : SiteState) (sx
   unfolding decided
   decides_one t l i p =
       let a = now_gives _ l p (gives_commit x.id l.effects p.gives (entry_of t)) in
-      let b = now_gives _ _ a (gives_each x.id _ a.gives x.id (λ q. message.Outcome t.txn true) t.parts refl (each_site t.parts i.parts_are.2) (λ q. i.txn_is)) in
+      let b = now_gives _ _ a (gives_each x.id _ a.gives x.id (λ q. message.Outcome t.txn true) t.parts refl (each_site t.parts i.parts_are.2) (λ q. i.txn_is) (λ q. tt)) in
       let c = now_locks (without_owner (owner.Txn t.txn)) _ b (all_filter IsLock _ l.here.locks p.site_is.locks_are) in
       ends t Committed _ i tt c
 
@@ -443,4 +444,4 @@ module _ (catalogue : Catalogue) (k : IsCatalogue catalogue) (x : SiteState) (sx
   unfolding resend_one
   resends d o h p =
       let i = all_at _ o.site.decisions p.site_is.coordinator_is.decisions_are.each d h in
-      with_gives catalogue x o p _ (gives_each x.id o.effects p.gives o.site.id (λ q. message.Outcome d.txn true) d.waiting p.same (each_site d.waiting i.1.2) (λ q. i.0))
+      with_gives catalogue x o p _ (gives_each x.id o.effects p.gives o.site.id (λ q. message.Outcome d.txn true) d.waiting p.same (each_site d.waiting i.1.2) (λ q. i.0) (λ q. tt))

@@ -199,7 +199,7 @@ module _ (e : Commit) (ops_are : AllByRecursion IsOp e.ops) (tables_are : AllByR
   base_are : AllByRecursion IsWritten base
   base_are = all_of IsWritten base (λ p h. let r = map_has (λ (w : ℕ × Option (List ℕ)). (w.0, made_of w.0)) (last_writes e.ops) p h in subst IsWritten r.2 (written_some r.0 r.1))
 
-  each_change : AllByRecursion IsWritten (last_changes e)
+  pub each_change : AllByRecursion IsWritten (last_changes e)
   each_change = puts_are e.tables base given_some base_are
 
   pub changes_rise : IsRising 0 (last_changes e)
