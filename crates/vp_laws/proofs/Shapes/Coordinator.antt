@@ -122,7 +122,6 @@ module _ (catalogue : Catalogue) (k : IsCatalogue catalogue) (x : SiteState) (sx
   named_is : (words : Call) (name : List ℕ) → Names words name → IsCall words → IsName name name
   named_is words name (Names.reads txn number e) i = (read_call words txn number name i e).1
   named_is words name (Names.writes txn number value e) i = (write_call words txn number name value i e).1
-
   named_is words name (Names.deletes txn number e) i = (delete_call words txn number name i e).1
   named_is words name (Names.weighs txn number table e) i = (weigh_call words txn number name table i e).1
 

@@ -93,7 +93,6 @@ mark_is catalogue t i = let same = marked_asked t.pending in record { txn_is = i
     marked_fits None q p deed e a = cc
     marked_fits (Some was) q p deed e a = i.asked_fits was deed q (ap (λ (p : Pending). change_asked catalogue p.call) (some_is _ p e) ∙ a)
 
-
 pub marks_are : (catalogue : Catalogue) (c : CoordinatorState) → IsCoordinator catalogue c → IsCoordinator catalogue (with_marks c)
 marks_are catalogue c h = record { seq_fits = h.seq_fits; live_are = all_map (IsLive catalogue) (IsLive catalogue) mark (mark_is catalogue) c.live h.live_are; finished_are = h.finished_are; decisions_are = h.decisions_are }
 
