@@ -4,8 +4,8 @@ use Rattle.std.specs.List.{Contains}
 use Rattle.vp_model.specs.Types.{TxnId, View, Commit, Live, Op, Doubt}
 use Rattle.vp_model.specs.Types.op
 use Rattle.vp_model.specs.Types.message
-use Rattle.vp_model.specs.Words.{keys, is_empty}
-use Rattle.vp_model.specs.Catalogue.{Catalogue, accessible}
+use Rattle.vp_model.specs.Words.{keys, is_empty, value_at}
+use Rattle.vp_model.specs.Catalogue.{Catalogue, Table, accessible, accessible_by, has_holders}
 use Rattle.vp_model.specs.Site.{SiteState}
 use Rattle.vp_model.specs.Transactions.{last_changes, entry_of, writes_held}
 use Rattle.vp_model.specs.World.{Place, WorldState, place_of, site_of}
@@ -36,3 +36,9 @@ abbrev pub EntriesAreAccessible : Catalogue → WorldState → Type 0
 EntriesAreAccessible catalogue w =
     (e : Commit) → Contains w.journal e → (v : View) × Contains w.agreed v × (v.id ≡ e.view) × Contains v.members e.txn.site × ((operation : Op) → Contains e.ops operation → accessible catalogue (record_in operation) v.members ≡ true)
     × ((rec : ℕ) → Contains (keys (last_changes e)) rec → accessible catalogue rec v.members ≡ true)
+
+-- each table that an entry gives a record has the record's holders, and by it too the members of the entry's view have more than half
+-- of the weight
+abbrev pub TablesAreAccessible : Catalogue → WorldState → Type 0
+TablesAreAccessible catalogue w =
+    (e : Commit) (rec : ℕ) (table : Table) → Contains w.journal e → value_at rec e.tables ≡ Some table → (v : View) × Contains w.agreed v × (v.id ≡ e.view) × (has_holders catalogue rec table ≡ true) × (accessible_by table v.members ≡ true)

@@ -1,5 +1,5 @@
 -- Live and finished transactions after the coordinator's moves.
-use Rattle.std.proofs.Common.{◌≡◌, ◌≤◌, ◌<◌, ◌∙◌, ap, sym, subst, ℕ, suc, ◌+◌, ◌^◌, true, false, List, [], ◌∷◌, ◌++◌, refl, arith, length}
+use Rattle.std.proofs.Common.{◌≡◌, ◌≤◌, ◌<◌, ◌∙◌, ap, sym, subst, ℕ, suc, ◌+◌, ◌*◌, ◌^◌, true, false, List, [], ◌∷◌, ◌++◌, refl, arith, length}
 use Rattle.std.specs.Prelude.{fold, sum_by, nat_eq, Option, Some, None, IfSome, filter, option_map, option_to_list, is_some, ◌==◌, nat_lt}
 use Rattle.std.specs.List.{AllByRecursion}
 use Rattle.std.proofs.lemmas.List.{length-append}
@@ -65,7 +65,7 @@ done_size t (Deed.weighs rec table) size fits = within _ fits
 -- ---- in the coordinator's state
 
 pub puts_live : (catalogue : Catalogue) (t : Live) (c : CoordinatorState) → IsLive catalogue t → IsCoordinator catalogue c → IsCoordinator catalogue (put_live t c)
-puts_live catalogue t c i h = record { seq_fits = h.seq_fits; live_are = all_change IsLive catalogue (λ u. same_txn u.txn t.txn) t c.live i h.live_are; finished_are = h.finished_are; decisions_are = h.decisions_are }
+puts_live catalogue t c i h = record { seq_fits = h.seq_fits; live_are = all_change (IsLive catalogue) (λ u. same_txn u.txn t.txn) t c.live i h.live_are; finished_are = h.finished_are; decisions_are = h.decisions_are }
 
 begun_is : (catalogue : Catalogue) (txn : TxnId) (view : ViewId) → IsTxn txn → IsView view → IsLive catalogue (begun txn view)
 begun_is catalogue txn view t v = record { txn_is = t; view_is = v; ops_are = tt; tables_are = tt; done_few = omega arith; few = omega arith; remote_are = tt; remote_few = omega arith; parts_are = (omega arith, omega arith, tt); answers_are = tt; pending_is = tt; size_fits = omega arith; asked_fits = λ p deed e a. cc }
