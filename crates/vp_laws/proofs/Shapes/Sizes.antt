@@ -29,12 +29,12 @@ use Rattle.vp_laws.proofs.Shapes.Numbers.{IsWritten, length_filter, each_change}
 -- ---- sums
 
 sum_filter : {X : Type 0} (f : X → ℕ) (test : X → Bool) (xs : List X) → sum_by f (filter test xs) ≤ sum_by f xs
-sum_filter f test [] = omega arith
-sum_filter f test (x ∷ xs) =
+sum_filter {X} f test [] = omega arith
+sum_filter {X} f test (x ∷ xs) =
     let rest = sum_filter f test xs in
     let all = sum_by-cons f x xs in
     let more = sum_by-cons f x (filter test xs) in
-    by_test (λ (zs : List _). sum_by f zs ≤ sum_by f (x ∷ xs)) (test x) (x ∷ filter test xs) (filter test xs) (λ e. omega (arith, rest, all, more)) (λ e. omega (arith, rest, all))
+    by_test (λ (zs : List X). sum_by f zs ≤ sum_by f (x ∷ xs)) (test x) (x ∷ filter test xs) (filter test xs) (λ e. omega (arith, rest, all, more)) (λ e. omega (arith, rest, all))
 
 module _ {V : Type 0} (g : V → ℕ) where
   -- what is at a number
