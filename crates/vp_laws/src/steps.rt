@@ -17,7 +17,6 @@ pub fn last_votes_commit()
 
 /// In every world of every schedule a read of an accessible record, whose copy at the site may be read, gives the content of that
 /// copy, where the call is the transaction's next, none is pending, and fewer than 64 calls are answered.
-/// where the call is the transaction's next, none is pending, and fewer than 64 operations are done.
 pub fn readable_copies_are_read()
     ensures { (s : Schedule) → ReadableCopiesAreRead s.catalogue (run_of s).world }
 {}
