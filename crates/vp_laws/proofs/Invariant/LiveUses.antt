@@ -23,7 +23,7 @@ use Rattle.vp_laws.proofs.Moves.Calls.{waiting, done, reading, writing, read_not
 
 -- the table has the holders of the record, and by it the members have more than half of the weight
 pub record MayWeigh (catalogue : Catalogue) (members : List ℕ) (rec : ℕ) (table : Table) : Type 0 where
-  pub table : has_holders catalogue rec table ≡ true
+  pub holders : has_holders catalogue rec table ≡ true
   pub enough : accessible_by table members ≡ true
 
 -- what is done may give the table that it gives
@@ -37,7 +37,7 @@ may_give catalogue x t rec (Deed.weighs n given) a r table e =
     let same : n ≡ r = cc in
     let is : given ≡ table = cc in
     subst (λ (table : Table). MayWeigh catalogue (members_in x.held) r table) is (subst (λ (r : ℕ). MayWeigh catalogue (members_in x.held) r given) same (record {
-      table = not_false (has_holders catalogue n given) a.table;
+      holders = not_false (has_holders catalogue n given) a.table;
       enough = no_weights (accessible_by given (members_in x.held)) _ _ a.enough;
     }))
   where

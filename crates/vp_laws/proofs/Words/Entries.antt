@@ -70,4 +70,4 @@ weighed s e rec table h gave =
     let there = has_of w.journal e h in
     let q = inv.known.led.entry e there in
     let may = inv.refresh.weighed e q.0 rec table there (q.1, q.2) gave in
-    (q.0, contains w.agreed q.0 q.1, q.2, may.table, may.enough)
+    (q.0, contains w.agreed q.0 q.1, q.2, may.holders, may.enough)
