@@ -137,7 +137,7 @@ message_length (message.Probe view) i s = let a = view_length view in omega (ari
 name_length : (name : List ℕ) → IsName name name → length (counted_bytes name) ≤ 17
 name_length name h = let a = h.short in omega (arith, a)
 
-pub answer_length : (a : Answer) → IsAnswer a → length (answer_fields versions.Second a) ≤ 15768
+pub answer_length : (a : Answer) → IsAnswer a → length (answer_fields versions.Second a) ≤ 15767
 answer_length (answer.Begun txn view) i = let a = length-append (txn_bytes txn) (view_bytes view) in let b = txn_length txn in let c = view_length view in omega (arith, a, b, c)
 answer_length (answer.Value txn number value) i = let a = length-append (numbered_bytes txn number) (value_bytes versions.Second value) in let b = numbered_length txn number in let c = value_length value i.1 in omega (arith, a, b, c)
 answer_length (answer.Written txn number) i = let a = numbered_length txn number in omega (arith, a)
