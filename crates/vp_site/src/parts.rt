@@ -11,7 +11,7 @@ ghost use Rattle.vp_model.specs.Site.{send, change_locks, change_participant};
 ghost use Rattle.vp_model.specs.Messages.{holds_view, with_part, refuse_view, on_read_request, on_write_request, on_prepare, end_doubt, with_ended, acknowledge, on_outcome};
 ghost use Rattle.vp_participant.specs.Doubts.{doubt_ended};
 ghost use Rattle.vp_participant.specs.Refusals.{lock_refusal, lock_refused};
-ghost use Rattle.vp_site.specs.Requests.{asked};
+ghost use Rattle.vp_site.specs.Requests.{answer_request};
 ghost use Rattle.vp_site.specs.Ballots.{with_ballot};
 
 use crate::stepped::Stepped;
@@ -60,7 +60,7 @@ impl Stepped {
         answer: Message,
         from: SiteId,
     ) -> Result<(), NoMemory>
-        ensures { OnOk result (self.new ≡ asked request.now exclusive answer from self.old) }
+        ensures { OnOk result (self.new ≡ answer_request request.now exclusive answer from self.old) }
     {
         let why = match self.lock(request, exclusive) {
             Ok(()) => return self.send(from, answer),
@@ -144,16 +144,19 @@ impl Stepped {
     #[tactic(auto, unfolding(vp_model::specs::Messages::on_prepare), using(crate::proofs::Voting::prepare_row))]
     pub fn on_prepare(&mut self, from: SiteId, asked: &Prepare<'_>) -> Result<(), NoMemory>
         ensures { OnOk result (self.new ≡
-            on_prepare from asked.now.txn asked.now.view asked.now.number asked.now.reads.now asked.now.writes.now self.old) }
+            on_prepare from answer_request.now.txn answer_request.now.view answer_request.now.number answer_request.now.reads.now answer_request.now.writes.now self.old) }
     {
         let locks = &self.coordinator.here.locks;
-        match self.participant.prepare(locks, self.views.held(), asked) {
-            Ok(voted) => self.cast(asked.txn, voted, from),
+        match self
+            .participant
+            .prepare(locks, self.views.held(), answer_request)
+        {
+            Ok(voted) => self.cast(answer_request.txn, voted, from),
             Err(PrepareFault::Ended) => Ok(()),
             Err(PrepareFault::NoMemory) => Err(NoMemory),
             Err(PrepareFault::OtherView { now }) => self.refuse(
-                asked.txn,
-                asked.number,
+                answer_request.txn,
+                answer_request.number,
                 Obstacle::OtherView { now },
                 from,
             ),
