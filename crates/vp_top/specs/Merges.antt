@@ -5,7 +5,7 @@ use Rattle.vp_model.specs.Limits.{limit_reached, world_limits}
 use Rattle.vp_model.specs.World.{Schedule}
 use Rattle.vp_model.specs.Texts.Schedule.{schedule_text}
 use Rattle.vp_schedule.specs.Document.{IsScheduleText}
-use Rattle.vp_world.specs.Limits.{limit_of}
+use Rattle.vp_replay.specs.Replayed.{limit_of}
 use Rattle.vp_recording.specs.Document.{Answered, IsOnly}
 use Rattle.vp_recording.specs.declared.draft.RecordingSet.{RecordingSet}
 use Rattle.vp_recording.specs.declared.fault.RecordingFault.{RecordingFault}

@@ -58,8 +58,8 @@ pub fn logs_are_audited<D: Disk>()
     ensures { LogsAreAudited D.state }
 {}
 
-/// Whoever runs `merge` on recordings of nodes gets the text of a schedule that does all that they ask and gives what they say, and reaches no
-/// limit; or, only if no schedule does, the turn that ends it; or the limit that the next event would exceed.
+/// Whoever runs `merge` on recordings of nodes gets the text of a schedule that does all that they ask, gives what they say and reaches no
+/// limit; or the turn that ends it, but only if no schedule does that; or the limit that the next event would exceed.
 pub fn recordings_are_merged<D: Disk>()
     ensures { RecordingsAreMerged D.state }
 {}
@@ -81,8 +81,8 @@ pub fn long_inputs_are_refused<D: Disk>()
     ensures { LongInputsAreRefused D.state }
 {}
 
-/// Whoever runs a command on an input that is no text of the command's (a schedule, lines that a history ends, recordings, a catalogue) gets the one
-/// fault of the input: its place, the line that repeats a name or a port, or the limit that the line exceeds.
+/// Whoever runs a command on an input that is no text of the command's (a schedule, lines that a history ends, recordings, a catalogue)
+/// gets the one fault of the input: its place, the line that repeats a name or a port, or the limit that the line exceeds.
 pub fn malformed_inputs_are_refused<D: Disk>()
     ensures { MalformedInputsAreRefused D.state }
 {}
