@@ -102,6 +102,9 @@ module _ (bytes text : List ℕ) (link link' : LinkState) where
   answer_has (commands.Signal site given) end a = ⊎_elim (λ nowhere. nowhere_has bytes site end text nowhere.0) (λ told. signal_has told.port site end given told.is) a
   answer_has (commands.Audit logs) end a = lacking_has bytes logs end text a.0
   answer_has (commands.Gateway own turns site) end a = absurd a
+  answer_has commands.Merge status.NoMemory a = a
+  answer_has commands.Merge status.SourceFault a = a
+  answer_has commands.Merge status.SinkFault a = a
   answer_has _ _ a = tt
 
 -- ---- what is defined
@@ -130,6 +133,7 @@ module _ (words : List (List ℕ)) (source source' : SourceState) (link link' : 
   unread (commands.Client own turns site call) none = absurd (none tt)
   unread (commands.Signal site given) none = absurd (none tt)
   unread (commands.Audit logs) none = absurd (none tt)
+  unread commands.Merge none = absurd (none tt)
 
 pub plans_unread : (words : List (List ℕ)) (source : SourceState) (link link' : LinkState) (command : Command) (plan : Plan) → command_of words ≡ Some command → (Reads command → ⊥) → PlansFor command [] link link' plan → Plans words source source link link' plan
 plans_unread words source link link' command (plans.Print told) is none p = record {

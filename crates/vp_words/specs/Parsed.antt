@@ -58,7 +58,7 @@ abbrev pub program_app : App
 program_app = fold with_command bare_app (
     new_app (codes "replay") ∷ new_app (codes "check") ∷ node_app ∷ client_app ∷ signal_app (codes "tick")
     ∷ signal_app (codes "probe") ∷ signal_app (codes "stop") ∷ drawing_app (codes "generate") ∷ drawing_app (codes "soak") ∷ new_app (codes "logs") ∷ audit_app
-    ∷ gateway_app ∷ [])
+    ∷ gateway_app ∷ new_app (codes "merge") ∷ [])
 
 -- ---- what the rows of the operands mean
 
@@ -111,4 +111,5 @@ meant name rows =
     else (if bytes_eq name (codes "logs") then Some commands.Logs
     else (if bytes_eq name (codes "audit") then audit_command rows
     else (if bytes_eq name (codes "gateway") then answered rows
-    else None)))))))))))
+    else (if bytes_eq name (codes "merge") then Some commands.Merge
+    else None))))))))))))

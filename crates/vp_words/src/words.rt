@@ -73,6 +73,8 @@ pub enum Command {
         turns: u64,
         site: SiteId,
     },
+    /// Puts the recordings of nodes together to one schedule.
+    Merge,
 }
 
 /// What a node is ordered to do.
@@ -155,7 +157,8 @@ fn program<'a>(alloc: Global) -> Result<clap::Command<'a>, AllocError>
     let program = with_command(alloc, program, "soak", &["SEED", "COUNT"])?;
     let program = with_command(alloc, program, "logs", &[])?;
     let program = program.subcommand(auditing(alloc)?)?;
-    with_command(alloc, program, "gateway", &["PORT", "TURNS", "SITE"])
+    let program = with_command(alloc, program, "gateway", &["PORT", "TURNS", "SITE"])?;
+    with_command(alloc, program, "merge", &[])
 }
 
 /// The program without its commands. It has no options, so none asks for help.
@@ -229,6 +232,7 @@ fn meant(alloc: Global, matches: &ArgMatches) -> Result<Option<Command>, NoMemor
         "logs" => Ok(Some(Command::Logs)),
         "audit" => audit_command(alloc, matches),
         "gateway" => Ok(answered(matches)),
+        "merge" => Ok(Some(Command::Merge)),
         _ => Ok(None),
     }
 }
