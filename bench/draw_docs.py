@@ -1,9 +1,9 @@
 #!/usr/bin/env python3
 """Draws the schedules of docs/examples that have a picture, with `vpdraw`.
 
-usage: draw_docs.py [--check] VPDRAW
+usage: draw_docs.py [--check] [VPDRAW]
 
-NAME.txt is a schedule, and NAME.svg what `vpdraw` draws of it, or of the part that PARTS names. With --check nothing is written: it ends with
+VPDRAW is the program, by itself the one that `rt run` builds in crates/vpdraw. NAME.txt is a schedule, and NAME.svg what `vpdraw` draws of it, or of the part that PARTS names. With --check nothing is written: it ends with
 status 1 where a picture is another than what is drawn. It also does where a page of docs/ shows a picture that isn't there, or a picture is on
 no page.
 """
@@ -33,7 +33,7 @@ def shown(page):
 def main():
     words = sys.argv[1:]
     is_check = "--check" in words
-    (vpdraw,) = (word for word in words if word != "--check")
+    vpdraw = next((word for word in words if word != "--check"), TOP / "crates/vpdraw/out/vpdraw")
     schedules = sorted(EXAMPLES.glob("*.txt"))
     faults = []
     for schedule in schedules:

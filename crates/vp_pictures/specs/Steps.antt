@@ -123,8 +123,13 @@ said_message catalogue x sent s =
 abbrev pub said_reply : ℕ → Reply → Sheet → Sheet
 said_reply x reply s = add_text_line x (if refuses reply.answer then ink.Refusal else ink.Reply) (answer_text reply.answer) s
 
+-- a life that begins is written as a view is, and what did nothing in a colour of its own
+abbrev pub idle_kind : Shown → Ink
+idle_kind (shown.Life life) = ink.View
+idle_kind _ = ink.Idle
+
 abbrev pub said_idle : ℕ → Shown → Sheet → Sheet
-said_idle x what s = add_text_line x ink.Idle (idle_words what) s
+said_idle x what s = add_text_line x (idle_kind what) (idle_words what) s
 
 -- the effects of the step: its commits, its messages and its replies; or why it did nothing
 unfoldable pub said_shown : Catalogue → ℕ → Shown → Sheet → Sheet

@@ -26,11 +26,11 @@ const TEXTS: &[u8] =
 
 /// The style of each kind of text.
 const INKS: &[u8] =
-    b".h{font-weight:bold;font-size:14px}.n{fill:#999}.k{font-weight:bold;fill:#000}.m{fill:#666}.r{fill:#05c}.f{fill:#c00;font-weight:bold}.w{fill:#060}.d{fill:#c00}\n";
+    b".h{font-weight:bold;font-size:14px}.n{fill:#999}.k{font-weight:bold;fill:#000}.m{fill:#666}.r{fill:#05c}.f{fill:#c00;font-weight:bold}.w{fill:#060}.d{fill:#b50}\n";
 
 /// The style of lines.
 const LINES: &[u8] =
-    b"line{stroke:#999}.a{stroke:#777;marker-end:url(#arrow)}.x{stroke:#c00;marker-end:url(#cross)}.s{stroke:#777;marker-end:url(#stop)}\n.c{stroke:#c00;stroke-dasharray:6 3}.j{stroke:#080;stroke-dasharray:6 3}\n";
+    b"line{stroke:#999}.a{stroke:#777;marker-end:url(#arrow)}.x{stroke:#b50;marker-end:url(#cross)}.s{stroke:#777;marker-end:url(#stop)}\n.c{stroke:#b50;stroke-dasharray:6 3}.j{stroke:#080;stroke-dasharray:6 3}\n";
 
 /// The colours of views, and that of locks.
 const COLOURS: &[u8] =
@@ -46,7 +46,7 @@ const ARROW: &[u8] =
 
 /// The ends of an arrow that is lost, and of a stub.
 const ENDS: &[u8] =
-    b"<marker id=\"cross\" markerWidth=\"10\" markerHeight=\"10\" refX=\"5\" refY=\"5\" orient=\"auto\"><path d=\"M1,1 L9,9 M1,9 L9,1\" stroke=\"#c00\" stroke-width=\"2\"/></marker>\n<marker id=\"stop\" markerWidth=\"4\" markerHeight=\"10\" refX=\"2\" refY=\"5\" orient=\"auto\"><path d=\"M2,0 L2,10\" stroke=\"#777\" stroke-width=\"2\"/></marker>\n";
+    b"<marker id=\"cross\" markerWidth=\"10\" markerHeight=\"10\" refX=\"5\" refY=\"5\" orient=\"auto\"><path d=\"M1,1 L9,9 M1,9 L9,1\" stroke=\"#b50\" stroke-width=\"2\"/></marker>\n<marker id=\"stop\" markerWidth=\"4\" markerHeight=\"10\" refX=\"2\" refY=\"5\" orient=\"auto\"><path d=\"M2,0 L2,10\" stroke=\"#777\" stroke-width=\"2\"/></marker>\n";
 
 /// The white edges of all texts, which are below them, and the beginning of the texts.
 const EDGES: &[u8] = b"<use class=\"b\" xlink:href=\"#texts\"/>\n<g id=\"texts\">\n";

@@ -4,7 +4,7 @@ ghost use Rattle.std.specs.Prelude.{◌≡◌, ◌≤◌, ◌^◌, ◌<◌, Bool
 ghost use Rattle.vp_model.specs.Words.{for_each};
 ghost use Rattle.vp_pictures.specs.Sheets.{mark_at};
 ghost use Rattle.vp_pictures.specs.Places.{top};
-ghost use Rattle.vp_pictures.specs.Steps.{arrow_kind, arrow_of, bar_of, colour, cut_of, delivery, drawn, event_x, hide_messages, hidden_message, is_drawn, life_of, lock_of, refuses, said_commit, said_event, said_idle, said_message, said_reply, said_shown, said_view, stepped, with_arrow, with_lock, with_look, words_of_event};
+ghost use Rattle.vp_pictures.specs.Steps.{arrow_kind, arrow_of, bar_of, colour, cut_of, delivery, drawn, event_x, hide_messages, hidden_message, idle_kind, is_drawn, life_of, lock_of, refuses, said_commit, said_event, said_idle, said_message, said_reply, said_shown, said_view, stepped, with_arrow, with_lock, with_look, words_of_event};
 
 use crate::places::{column, edge, top};
 use crate::shape::{Ink, Shape};
@@ -51,6 +51,16 @@ fn arrow_kind(shown: &Shown) -> Ink
     match shown {
         Shown::Step { .. } => Ink::Comes,
         _ => Ink::Lost,
+    }
+}
+
+/// The kind of the text of a step that does nothing, or that begins a life.
+fn idle_kind(shown: &Shown) -> Ink
+    ensures { result ≡ idle_kind shown.now }
+{
+    match shown {
+        Shown::Life { .. } => Ink::View,
+        _ => Ink::Idle,
     }
 }
 
@@ -316,7 +326,7 @@ impl Sheet {
         ensures { OnOk result (self.new ≡ said_idle x shown.now self.old) }
     {
         let text = idle_words(self.alloc(), shown)?;
-        self.say(x, Ink::Idle, text)
+        self.say(x, idle_kind(shown), text)
     }
 
     fn say_commits(&mut self, x: u64, commits: &[Commit]) -> Result<(), NoMemory>
