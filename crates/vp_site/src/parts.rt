@@ -144,19 +144,16 @@ impl Stepped {
     #[tactic(auto, unfolding(vp_model::specs::Messages::on_prepare), using(crate::proofs::Voting::prepare_row))]
     pub fn on_prepare(&mut self, from: SiteId, asked: &Prepare<'_>) -> Result<(), NoMemory>
         ensures { OnOk result (self.new ≡
-            on_prepare from answer_request.now.txn answer_request.now.view answer_request.now.number answer_request.now.reads.now answer_request.now.writes.now self.old) }
+            on_prepare from asked.now.txn asked.now.view asked.now.number asked.now.reads.now asked.now.writes.now self.old) }
     {
         let locks = &self.coordinator.here.locks;
-        match self
-            .participant
-            .prepare(locks, self.views.held(), answer_request)
-        {
-            Ok(voted) => self.cast(answer_request.txn, voted, from),
+        match self.participant.prepare(locks, self.views.held(), asked) {
+            Ok(voted) => self.cast(asked.txn, voted, from),
             Err(PrepareFault::Ended) => Ok(()),
             Err(PrepareFault::NoMemory) => Err(NoMemory),
             Err(PrepareFault::OtherView { now }) => self.refuse(
-                answer_request.txn,
-                answer_request.number,
+                asked.txn,
+                asked.number,
                 Obstacle::OtherView { now },
                 from,
             ),
