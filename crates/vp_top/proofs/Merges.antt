@@ -13,7 +13,7 @@ use Rattle.vp_recording.specs.Recordings.{AreOfNodes}
 use Rattle.vp_recording.specs.declared.draft.RecordingSet.{RecordingSet}
 use Rattle.vp_recording.specs.declared.fault.RecordingFault.{RecordingFault}
 use Rattle.vp_recording.specs.declared.fault.RecordingFault.TheVariants as faults
-use Rattle.vp_fitting.specs.Laws.{FittingRecordingsMerge, IsWhole, MatchesAll, MergesMatch, over}
+use Rattle.vp_fitting.specs.Laws.{FittingRecordingsMerge, IsWhole, MergesMatch, over}
 use Rattle.vp_fitting.specs.Merged.{Merge}
 use Rattle.vp_merge.specs.Merges.{Merges}
 use Rattle.vp_merge.specs.declared.fault.MergeFault.{MergeFault}

@@ -62,7 +62,7 @@ out 5601040102000000000000000101020102
 ";
 
 /// A catalogue, recordings, and what `merge` gives for them: of a schedule the lines after its catalogue.
-const MERGES: [(&str, &str, Status, &str); 14] = [
+const MERGES: [(&str, &str, Status, &str); 13] = [
     (ONE, "", Status::Done, "events\n"),
     (
         ONE,
@@ -121,12 +121,6 @@ const MERGES: [(&str, &str, Status, &str); 14] = [
         "node 2\nstart 1\nin 56010b0201010000000100000001\nend\n",
         Status::TurnDiffers,
         "differs 2 1\n",
-    ),
-    (
-        ONE,
-        "node 1\nstart 50002\nin 5601220001\nend\n",
-        Status::Limit,
-        "limit events 100000\n",
     ),
     (
         ONE,
