@@ -37,6 +37,10 @@ size_text s =
 abbrev pub edges : List ℕ
 edges = codes "<use class=\"b\" xlink:href=\"#texts\"/>\n<g id=\"texts\">\n"
 
+-- the texts on top of their edges, and the end
+abbrev pub texts_text : Sheet → List ℕ
+texts_text s = edges ++ (flat_map shape_text s.texts ++ codes "</g>\n</svg>\n")
+
 -- the bars below, then the arrows and the stubs, and the texts on top
 abbrev pub picture_text : Catalogue → Sheet → List ℕ
 picture_text catalogue s =
@@ -44,4 +48,4 @@ picture_text catalogue s =
     ++ (style
     ++ (flat_map shape_text s.bars
     ++ (flat_map shape_text s.arrows
-    ++ (flat_map (stub_text catalogue s.came) s.marks ++ (edges ++ (flat_map shape_text s.texts ++ codes "</g>\n</svg>\n"))))))
+    ++ (flat_map (stub_text catalogue s.came) s.marks ++ texts_text s))))

@@ -8,7 +8,7 @@ ghost use Rattle.vp_pictures.specs.Style.{style};
 ghost use Rattle.vp_pictures.specs.Sheets.{add_text_line};
 ghost use Rattle.vp_pictures.specs.Words.{legend};
 ghost use Rattle.vp_pictures.specs.declared.shape.Ink.TheVariants as ink;
-ghost use Rattle.vp_pictures.specs.Pictures.{picture_text, size_text, stub, stub_of, stub_text};
+ghost use Rattle.vp_pictures.specs.Pictures.{picture_text, size_text, stub, stub_of, stub_text, texts_text};
 
 use crate::places::{column, edge, stub_end, top};
 use crate::shape::{Ink, Shape, print_attribute, print_shape, print_shapes};
@@ -36,10 +36,6 @@ const LINES: &[u8] =
 const COLOURS: &[u8] =
     b".v0{fill:#bbb}.v1{fill:#8cf}.v2{fill:#fc6}.v3{fill:#9d9}.v4{fill:#f99}.v5{fill:#c9f}.v6{fill:#fe6}.v7{fill:#6dd}.v8{fill:#db8}.v9{fill:#f9d}.v10{fill:#aac}.v11{fill:#be6}.v12{fill:#c0c}\n";
 
-/// What the bars and the stubs are.
-const LEGEND: &[u8] =
-    b"bar: the view that is held; thin bar: a copy locked for its refresh; stub: a message that never comes";
-
 /// The head of an arrow.
 const ARROW: &[u8] =
     b"</style>\n<defs>\n<marker id=\"arrow\" markerWidth=\"9\" markerHeight=\"8\" refX=\"8\" refY=\"4\" orient=\"auto\"><path d=\"M0,0 L8,4 L0,8 z\" fill=\"#777\"/></marker>\n";
@@ -47,9 +43,6 @@ const ARROW: &[u8] =
 /// The ends of an arrow that is lost, and of a stub.
 const ENDS: &[u8] =
     b"<marker id=\"cross\" markerWidth=\"10\" markerHeight=\"10\" refX=\"5\" refY=\"5\" orient=\"auto\"><path d=\"M1,1 L9,9 M1,9 L9,1\" stroke=\"#b50\" stroke-width=\"2\"/></marker>\n<marker id=\"stop\" markerWidth=\"4\" markerHeight=\"10\" refX=\"2\" refY=\"5\" orient=\"auto\"><path d=\"M2,0 L2,10\" stroke=\"#777\" stroke-width=\"2\"/></marker>\n";
-
-/// The white edges of all texts, which are below them, and the beginning of the texts.
-const EDGES: &[u8] = b"<use class=\"b\" xlink:href=\"#texts\"/>\n<g id=\"texts\">\n";
 
 /// The page.
 const PAGE: &[u8] = b"</defs>\n<rect width=\"100%\" height=\"100%\" fill=\"#fff\"/>\n";
@@ -106,7 +99,10 @@ impl Sheet {
     fn explain(&mut self) -> Result<(), NoMemory>
         ensures { OnOk result (self.new ≡ add_text_line 56 ink.Faint legend self.old) }
     {
-        let text = copied(self.texts.allocator(), LEGEND)?;
+        let text = copied(
+            self.texts.allocator(),
+            b"bar: the view that is held; thin bar: a copy locked for its refresh; stub: a message that never comes",
+        )?;
         self.say(56, Ink::Faint, text)
     }
 
@@ -207,6 +203,16 @@ impl Sheet {
         Ok(())
     }
 
+    /// Appends the texts with their white edges, and the end of the picture.
+    fn print_texts(&self, out: &mut Vec<u8>) -> Result<(), NoMemory>
+        ensures { OnOk result (out.new.items ≡ out.old.items ++ texts_text self.now) }
+    {
+        out.extend_from_slice(b"<use class=\"b\" xlink:href=\"#texts\"/>\n<g id=\"texts\">\n")?;
+        print_shapes(self.texts.as_slice(), out)?;
+        out.extend_from_slice(b"</g>\n</svg>\n")?;
+        Ok(())
+    }
+
     /// Appends the picture as SVG. If memory runs out, a beginning of it was appended.
     pub fn print(&self, catalog: &Catalog, out: &mut Vec<u8>) -> Result<(), NoMemory>
         ensures { OnOk result (out.new.items ≡ out.old.items ++ picture_text catalog.now self.now) }
@@ -216,9 +222,6 @@ impl Sheet {
         print_shapes(self.bars.as_slice(), out)?;
         print_shapes(self.arrows.as_slice(), out)?;
         self.print_stubs(catalog, out)?;
-        out.extend_from_slice(EDGES)?;
-        print_shapes(self.texts.as_slice(), out)?;
-        out.extend_from_slice(b"</g>\n</svg>\n")?;
-        Ok(())
+        self.print_texts(out)
     }
 }
