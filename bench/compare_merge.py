@@ -214,7 +214,7 @@ def differs(seed):
 if __name__ == "__main__":
     ends, events = {}, 0
     with multiprocessing.Pool(int(os.environ.get("JOBS", os.cpu_count()))) as pool:
-        for found in pool.imap_unordered(differs, range(SEED, SEED + COUNT), 20):
+        for found in pool.imap_unordered(differs, range(SEED, SEED + COUNT), 4):
             if len(found) == 4:
                 print("differs at seed", found[0])
                 sys.stdout.buffer.write(found[1] + b"\n----\n" + found[2][1] + b"----\n" + found[3][1])
