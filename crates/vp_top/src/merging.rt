@@ -1,6 +1,6 @@
 //! The command that puts the recordings of nodes together to one schedule.
 
-ghost use Rattle.std.specs.Prelude.{◌≡◌, ◌++◌, ◌∷◌, [], IfOk, OnOk};
+ghost use Rattle.std.specs.Prelude.{◌≡◌, ◌++◌, ◌∷◌, [], Err, IfOk, List, OnOk, ℕ};
 ghost use Rattle.std.specs.Fmt.{decimal};
 ghost use Rattle.vp_catalog.specs.Document.{IsCatalogue};
 ghost use Rattle.vp_recording.specs.Recordings.{AreOfNodes};
@@ -41,26 +41,36 @@ fn output_of(alloc: Global, merged: Result<Schedule, MergeFault>) -> Result<RunO
     ensures { IfOk result (λ defined. TellsMerge merged defined.status defined.text.items) }
 {
     let mut text = Vec::new(alloc);
-    let status = match merged {
+    let status = match &merged {
         Ok(schedule) => {
-            print(&schedule, &mut text)?;
+            print(schedule, &mut text)?;
             Status::Done
         }
-        Err(MergeFault::Unsent { site, turn }) => {
-            print_turn(b"unsent ", site, turn, &mut text)?;
-            Status::Unsent
-        }
-        Err(MergeFault::Differs { site, turn }) => {
-            print_turn(b"differs ", site, turn, &mut text)?;
-            Status::TurnDiffers
-        }
-        Err(MergeFault::Limit { limit, .. }) => {
-            print_limit(limit, &mut text)?;
-            Status::Limit
-        }
-        Err(MergeFault::NoMemory) => return Err(NoMemory),
+        Err(fault) => print_fault(fault, &mut text)?,
     };
     Ok(RunOutput { status, text })
+}
+
+/// Appends the line of what ends a merge, and answers its status.
+fn print_fault(fault: &MergeFault, out: &mut Vec<u8>) -> Result<Status, NoMemory>
+    ensures { IfOk result (λ status.
+        (text : List ℕ) × (out.new.items ≡ out.old.items ++ text) × TellsMerge (Err fault.now) status text) }
+{
+    match *fault {
+        MergeFault::Unsent { site, turn } => {
+            print_turn(b"unsent ", site, turn, out)?;
+            Ok(Status::Unsent)
+        }
+        MergeFault::Differs { site, turn } => {
+            print_turn(b"differs ", site, turn, out)?;
+            Ok(Status::TurnDiffers)
+        }
+        MergeFault::Limit { limit, .. } => {
+            print_limit(limit, out)?;
+            Ok(Status::Limit)
+        }
+        MergeFault::NoMemory => Err(NoMemory),
+    }
 }
 
 /// Appends the line of a turn at which a merge goes no further.
