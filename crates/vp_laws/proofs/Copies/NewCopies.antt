@@ -1,8 +1,8 @@
 -- A copy that an entry of the step changes has the content after the entries of its view and all lower ones: the copy before had the
 -- content so far, and the entry is added to it.
-use Rattle.std.proofs.Common.{◌≡◌, ◌≢◌, ◌∙◌, ap, sym, subst, ℕ, true, List, [], ◌∷◌, ◌++◌, refl}
+use Rattle.std.proofs.Common.{◌≡◌, ◌≢◌, ◌∙◌, ap, sym, subst, ℕ, true, List, refl}
 use Rattle.std.specs.Prelude.{Option, Some, None, option_map, slice_get}
-use Rattle.vp_model.specs.Types.{Change, Commit, Input, Stored, Doubt}
+use Rattle.vp_model.specs.Types.{Commit, Input, Stored, Doubt}
 use Rattle.vp_model.specs.Words.{keys, value_at}
 use Rattle.vp_model.specs.Catalogue.{Catalogue, holders, start_values}
 use Rattle.vp_model.specs.Durable.{DurableState}
@@ -82,8 +82,8 @@ module _ (catalogue : Catalogue) (w new : Scene) (s : ℕ) (x : SiteState) (give
           let z : Some (value_up_to rec (started first) w.journal f.view.id) ≡ Some (content_of b.old) = subst (λ (q : Option (Option (List ℕ))). option_map (λ start. value_up_to rec (started start) w.journal f.view.id) q ≡ Some (content_of b.old)) e before_is in
           let old_is : value_up_to rec (started first) w.journal f.view.id ≡ content_of b.old = cc in
           ap (λ (v : Content). Some v) (
-            ap (λ (es : List Commit). value_up_to rec (started first) es c.date) (journal_with catalogue w new s x given o k n d b.entry b.entered)
-            ∙ value_written rec (started first) w.journal b.entry c.date b.write.1 (AtMost-same b.entry.view c.date date_is) change_is (λ g h above le q. not_both b.entry.view g.view above (AtMost-along le refl date_is))
-            ∙ ap (made b.write.1) (ap (value_up_to rec (started first) w.journal) (sym (f.is ∙ date_is)) ∙ old_is)
-            ∙ ap (λ (p : ℕ × Stored). content_of p.1) b.is
+          ap (λ (es : List Commit). value_up_to rec (started first) es c.date) (journal_with catalogue w new s x given o k n d b.entry b.entered)
+          ∙ value_written rec (started first) w.journal b.entry c.date b.write.1 (AtMost-same b.entry.view c.date date_is) change_is (λ g h above le q. not_both b.entry.view g.view above (AtMost-along le refl date_is))
+          ∙ ap (made b.write.1) (ap (value_up_to rec (started first) w.journal) (sym (f.is ∙ date_is)) ∙ old_is)
+          ∙ ap (λ (p : ℕ × Stored). content_of p.1) b.is
           )

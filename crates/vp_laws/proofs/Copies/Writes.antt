@@ -223,13 +223,13 @@ module _ (catalogue : Catalogue) (w new : Scene) (s : ℕ) (x : SiteState) (give
             let z = subst (λ (q : Option (Option (List ℕ))). option_map (λ start. value_up_to rec (started start) w.journal c.date) q ≡ Some some.0) e some.1 in
             cc
         go (Some first) e = ap (λ (v : Content). Some v) (
-          ap (value_up_to rec (started first) w.journal) at
-          ∙ applied_content (writes_over rec) (λ f none. leaves_value f rec none) (started first) content_of base
-              (λ none. starts_as w.journal before.0.date first (content_of before.0) e (copies.value j rec before.0 before.1 none))
-              (λ u on. starts_as (without_entry u.txn w.journal) before.0.date first (content_of before.0) e (copies.value_in_doubt j rec before.0 u before.1 on))
-          ∙ takes_value entry.0 rec a.write.1 (content_of a.old) change_is
-          ∙ ap (λ (p : ℕ × Stored). content_of p.1) a.is
-        )
+            ap (value_up_to rec (started first) w.journal) at
+            ∙ applied_content (writes_over rec) (λ f none. leaves_value f rec none) (started first) content_of base
+            (λ none. starts_as w.journal before.0.date first (content_of before.0) e (copies.value j rec before.0 before.1 none))
+            (λ u on. starts_as (without_entry u.txn w.journal) before.0.date first (content_of before.0) e (copies.value_in_doubt j rec before.0 u before.1 on))
+            ∙ takes_value entry.0 rec a.write.1 (content_of a.old) change_is
+            ∙ ap (λ (p : ℕ × Stored). content_of p.1) a.is
+            )
 
     pub applied_above : (e : Commit) (v : View) → Has new.journal e → Wrote e rec → Precedes c.date e.view → AgreedAs new e.view v → Has v.members j → ⊥
     applied_above e v h wrote later agreed member = ⊎_elim earlier (λ q. ⊎_elim equal above q) (three_ways before.0.date e.view)

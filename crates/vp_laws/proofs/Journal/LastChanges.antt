@@ -4,10 +4,10 @@ use Rattle.std.specs.Prelude.{Option, Some, None, ◌==◌, option_map, find}
 use Rattle.std.specs.List.{AllByRecursion}
 use Rattle.std.specs.Option.{option_map_or}
 use Rattle.std.proofs.lemmas.Bool.{eqb-true}
-use Rattle.vp_model.specs.Types.{Op, Change, Commit}
-use Rattle.vp_model.specs.Words.{for_each, keys, put_at, value_at}
+use Rattle.vp_model.specs.Types.{Change, Commit}
+use Rattle.vp_model.specs.Words.{first_some, for_each, keys, put_at, value_at}
 use Rattle.vp_model.specs.Catalogue.{Table}
-use Rattle.vp_model.specs.Durable.{with_put}
+use Rattle.vp_model.specs.Durable.{with_put, with_new_table}
 use Rattle.vp_model.specs.Transactions.{last_writes, last_put, change_of, last_changes}
 use Rattle.vp_laws.proofs.Lists.Members.{Has}
 use Rattle.vp_laws.proofs.Lists.Pairs.{Differ, pair_value}
@@ -71,6 +71,21 @@ act_value e rec c = ⊎_elim
     go : (o : Option (Option (List ℕ))) → value_at rec (last_writes e.ops) ≡ o → value_at rec (last_changes e) ≡ option_map (λ (v : Option (List ℕ)). change_of rec e.ops e.tables) (value_at rec (last_writes e.ops)) → (writes_over rec e c).value ≡ written_over (last_writes e.ops) rec c.value
     go None f is = let z : value_at rec (last_changes e) ≡ None = is ∙ rw f refl in rw (z, f) refl
     go (Some v) f is = let z : value_at rec (last_changes e) ≡ Some (change_of rec e.ops e.tables) = is ∙ rw f refl in rw z (put_value (value_at rec (last_writes e.ops)) c.value)
+
+put_table : (o own : Option Table) → with_new_table o own ≡ first_some o own
+put_table None own = refl
+put_table (Some table) own = refl
+
+-- and of its table the one that it gave
+pub act_table : (e : Commit) (rec : ℕ) (c : Content) → (writes_over rec e c).table ≡ first_some (value_at rec e.tables) c.table
+act_table e rec c = ⊎_elim
+    (λ (q : value_at rec (last_changes e) ≡ Some (change_of rec e.ops e.tables)). rw q (put_table (value_at rec e.tables) c.table))
+    (λ q. go (value_at rec (last_writes e.ops)) refl q.0 q.1)
+    (last_change_at e rec)
+  where
+    go : (o : Option (Option (List ℕ))) → value_at rec (last_writes e.ops) ≡ o → value_at rec e.tables ≡ None → value_at rec (last_changes e) ≡ option_map (λ (v : Option (List ℕ)). change_of rec e.ops e.tables) (value_at rec (last_writes e.ops)) → (writes_over rec e c).table ≡ first_some (value_at rec e.tables) c.table
+    go None f none is = let z : value_at rec (last_changes e) ≡ None = is ∙ rw f refl in rw (z, none) refl
+    go (Some v) f none is = let z : value_at rec (last_changes e) ≡ Some (change_of rec e.ops e.tables) = is ∙ rw f refl in rw z (put_table (value_at rec e.tables) c.table)
 
 -- what is not changed was not written
 pub unchanged_unwritten : (e : Commit) (rec : ℕ) → value_at rec (last_changes e) ≡ None → value_at rec (last_writes e.ops) ≡ None

@@ -423,6 +423,7 @@ module _ (catalogue : Catalogue) (world : WorldState) (past : List Moment) (m0 :
   why_tells t (LockHeld name from holder) p at y e h = closes_tells t p.number (handled_site t at) (closed_here t _ p.number at h (own_held t.txn p.number name from holder)) (closed_called t _ p y e)
   why_tells t (ViewChanged from held held_now) p at y e h = closes_tells t p.number (handled_site t at) (closed_here t _ p.number at h (own_view t.txn p.number from held held_now)) (closed_called t _ p y e)
   why_tells t (TimedOut from) p at y e h = tt
+  why_tells t (Inaccessible name inside total) p at y e h = tt
 
   end_justified : (a : Answer) → Fair catalogue now a → Untold (lines_in now) a → TellsEnd m0 a → justified catalogue now m0 a ≡ true
   end_justified a f untold ends = fair_justified catalogue now m0 a f untold ends

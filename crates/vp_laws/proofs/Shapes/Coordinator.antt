@@ -29,16 +29,17 @@ use Rattle.vp_model.specs.Locks.{with_lock, without_owner}
 use Rattle.vp_model.specs.Site.{CoordinatorState, SiteState, Lent, Stepped, begin_step, lent, put_back, lent_force, lent_reply, lent_coordinator}
 use Rattle.vp_model.specs.Transactions.{Deed, with_done, deed_answer, last_changes, entry_of, writes_held, with_pending_reply, with_finished, finish, close, writing_parts, with_kept, keep_writes, decided, decide, complete, put_live, wait_for, answer_of}
 use Rattle.vp_model.specs.Refresh.{members_in, is_usable_in, other_holders}
-use Rattle.vp_model.specs.Calls.{change_asked, short_by, short_here, short, begun, with_begun, start_txn, handling, take_lock, read_at, write_at, prepare_for, prepare_parts}
+use Rattle.vp_model.specs.Calls.{change_asked, is_too_large, short_by, short_here, short, begun, with_begun, start_txn, handling, take_lock, read_at, write_at, prepare_for, prepare_parts}
 use Rattle.vp_model.specs.Answers.{with_acknowledged}
 use Rattle.vp_model.specs.Step.{with_marks, mark_calls, resend_one}
 use Rattle.vp_laws.specs.Votes.{is_commit}
 use Rattle.vp_laws.proofs.Lists.Members.{Has}
 use Rattle.vp_laws.proofs.Moves.Frames.{decide-cases}
 use Rattle.vp_laws.proofs.Moves.Table.{Comes, next_name, record_of, IsNext, Reads, Changes, Tries, remaining, Completes, Decides, Says, Closes, Names, IsCallOf, lent_at, Back}
-use Rattle.vp_laws.specs.Shapes.{IsAnswer, IsInput, IsOp, IsPending, operates, asked, IsLive, IsEnding, IsFinished, IsCoordinator, IsLock, IsShaped, AreShaped}
+use Rattle.vp_laws.specs.Shapes.{IsAnswer, IsInput, IsPending, operates, asked, IsLive, IsEnding, IsFinished, IsCoordinator, IsLock, IsShaped, AreShaped}
 use Rattle.vp_laws.proofs.Lists.Items.{all_at, all_and_one, all_filter}
 use Rattle.vp_laws.proofs.Shapes.Numbers.{each_site, put_sites, put_all_sites, sites_of_ascending, some_sites, ascending_filter, written_is, changes_are, table_of_call}
+use Rattle.vp_laws.proofs.Shapes.Sizes.{writes_length}
 use Rattle.vp_laws.proofs.Shapes.Doubts.{with_decisions, fewer_decisions}
 use Rattle.vp_laws.proofs.Shapes.Catalogue.{others_ascend, found_is, inside_fits, total_fits, table_fits, part_fits}
 use Rattle.vp_laws.proofs.Shapes.Moves.{Forms, gives_entry, gives_commit, gives_reply, gives_message, gives_each, with_gives, with_locks, with_copies, with_coordinator, some_at, with_lock_is, conflict_is, writes_are, copy_is}
@@ -58,15 +59,15 @@ module _ (catalogue : Catalogue) (k : IsCatalogue catalogue) (x : SiteState) (sx
   own_id : IsSite x.id
   own_id = id_is catalogue k x sx given came
 
-  own_live : (t : Live) → Has x.live t → IsLive t
-  own_live t h = all_at IsLive x.live sx.coordinator_is.live_are t h
+  own_live : (t : Live) → Has x.live t → IsLive catalogue t
+  own_live t h = all_at (IsLive catalogue) x.live sx.coordinator_is.live_are t h
 
   own_finished : (f : Finished) → Has x.finished f → IsFinished f
   own_finished f h = all_at IsFinished x.finished sx.coordinator_is.finished_are f h
 
   -- ---- single changes
 
-  now_coordinator : (f : CoordinatorState → CoordinatorState) (l : Lent) → K l → IsCoordinator (f l.coordinator) → K (lent_coordinator f l)
+  now_coordinator : (f : CoordinatorState → CoordinatorState) (l : Lent) → K l → IsCoordinator catalogue (f l.coordinator) → K (lent_coordinator f l)
   now_coordinator f l p c = with_coordinator catalogue x (put_back (begin_step x) l) p (f l.coordinator) c
 
   now_gives : (e : Effects) (l : Lent) → K l → AreShaped x.id e → K (record l { effects = e })
@@ -87,7 +88,7 @@ module _ (catalogue : Catalogue) (k : IsCatalogue catalogue) (x : SiteState) (sx
       let bound : x.seq < 2 ^ 32 = sx.coordinator_is.seq_fits in
       let room : x.seq + 1 < 2 ^ 32 = grind (arith, nat_tests, s, bound) in
       let t : IsTxn (next_name x) = record { site_some = own_id.0; site_fits = own_id.1; life_some = sx.lived; life_fits = sx.life_fits; seq_some = omega arith; seq_fits = room } in
-      let a = now_coordinator (with_begun (begun (next_name x) view.id)) (lent_at x) begins (begins_one (next_name x) view.id x.coordinator t v room sx.coordinator_is) in
+      let a = now_coordinator (with_begun (begun (next_name x) view.id)) (lent_at x) begins (begins_one catalogue (next_name x) view.id x.coordinator t v room sx.coordinator_is) in
       replies (answer.Begun (next_name x) view.id) port _ a (called_is given port call.Begin came c).0 (t, v)
 
   -- ---- what a call is told
@@ -121,7 +122,6 @@ module _ (catalogue : Catalogue) (k : IsCatalogue catalogue) (x : SiteState) (sx
   named_is : (words : Call) (name : List ℕ) → Names words name → IsCall words → IsName name name
   named_is words name (Names.reads txn number e) i = (read_call words txn number name i e).1
   named_is words name (Names.writes txn number value e) i = (write_call words txn number name value i e).1
-
   named_is words name (Names.deletes txn number e) i = (delete_call words txn number name i e).1
   named_is words name (Names.weighs txn number table e) i = (weigh_call words txn number name table i e).1
 
@@ -174,6 +174,7 @@ module _ (catalogue : Catalogue) (k : IsCatalogue catalogue) (x : SiteState) (sx
     port_fits : p.port < 2 ^ 16
     room : length t.answers + 1 ≤ 64
     deed_is : IsDeed deed
+    fits : is_too_large t deed ≡ false
     numbered : IsNumbered t.txn p.number
 
   next_call : (t : Live) (p : Pending) → IsNext given t p → (p.port < 2 ^ 16) × IsCall p.call
@@ -243,19 +244,22 @@ module _ (catalogue : Catalogue) (k : IsCatalogue catalogue) (x : SiteState) (sx
   reads_along : (deed : Deed) (rec : ℕ) (value : Option (List ℕ)) → deed ≡ Deed.operates (op.Read rec value) → IsContent versions.Second value → IsDeed deed
   reads_along deed rec value e i = subst IsDeed (sym e) i
 
+  read_fits : (t : Live) (deed : Deed) (rec : ℕ) (value : Option (List ℕ)) → deed ≡ Deed.operates (op.Read rec value) → is_too_large t deed ≡ false
+  read_fits t deed rec value e = rw e refl
+
   does_is : (t : Live) (p : Pending) (deed : Deed) (l : Lent) → Has x.live t → Completes catalogue x given t p deed l → (is_some t.pending ≡ false → nat_le 64 (length t.answers) ≡ false) → Does t p deed
   does_is t p deed l h (Completes.own_write rec value next r a e d m) few =
-      record { port_fits = (next_call t p next).0; room = new_room t (few next.idle); deed_is = reads_along deed rec value d (written_is t.ops rec value (own_live t h).ops_are e).1; numbered = next_numbered t p.number h next.number }
+      record { port_fits = (next_call t p next).0; room = new_room t (few next.idle); deed_is = reads_along deed rec value d (written_is t.ops rec value (own_live t h).ops_are e).1; fits = read_fits t deed rec value d; numbered = next_numbered t p.number h next.number }
   does_is t p deed l h (Completes.own_copy rec stored next r a v e c d m) few =
-      record { port_fits = (next_call t p next).0; room = new_room t (few next.idle); deed_is = reads_along deed rec stored.value d (copy_is x.here.copies rec stored sx.copies_are.stored e).0; numbered = next_numbered t p.number h next.number }
+      record { port_fits = (next_call t p next).0; room = new_room t (few next.idle); deed_is = reads_along deed rec stored.value d (copy_is x.here.copies rec stored sx.copies_are.stored e).0; fits = read_fits t deed rec stored.value d; numbered = next_numbered t p.number h next.number }
   does_is t p deed l h (Completes.change_again rec before next w a v m) few =
-      record { port_fits = (next_call t p next).0; room = new_room t (few next.idle); deed_is = asked_deed deed p.call (next_call t p next).1 w.asked; numbered = next_numbered t p.number h next.number }
+      record { port_fits = (next_call t p next).0; room = new_room t (few next.idle); deed_is = asked_deed deed p.call (next_call t p next).1 w.asked; fits = a.fits; numbered = next_numbered t p.number h next.number }
   does_is t p deed l h (Completes.change_alone rec next w a v n m) few =
-      record { port_fits = (next_call t p next).0; room = new_room t (few next.idle); deed_is = asked_deed deed p.call (next_call t p next).1 w.asked; numbered = next_numbered t p.number h next.number }
+      record { port_fits = (next_call t p next).0; room = new_room t (few next.idle); deed_is = asked_deed deed p.call (next_call t p next).1 w.asked; fits = a.fits; numbered = next_numbered t p.number h next.number }
   does_is t p deed l h (Completes.read_answered from rec value c last r d m) few =
-      record { port_fits = (pending_at t p h last.pending).port_fits; room = old_room t p h last.pending (reads_one p rec r); deed_is = reads_along deed rec value d (value_came from t.txn p.number value c); numbered = pending_numbered t p h last.pending }
+      record { port_fits = (pending_at t p h last.pending).port_fits; room = old_room t p h last.pending (reads_one p rec r); deed_is = reads_along deed rec value d (value_came from t.txn p.number value c); fits = read_fits t deed rec value d; numbered = pending_numbered t p h last.pending }
   does_is t p deed l h (Completes.change_answered from rec c last w m) few =
-      record { port_fits = (pending_at t p h last.pending).port_fits; room = old_room t p h last.pending (changes_one p rec deed w); deed_is = asked_deed deed p.call (pending_at t p h last.pending).words_are w.asked; numbered = pending_numbered t p h last.pending }
+      record { port_fits = (pending_at t p h last.pending).port_fits; room = old_room t p h last.pending (changes_one p rec deed w); deed_is = asked_deed deed p.call (pending_at t p h last.pending).words_are w.asked; fits = (own_live t h).asked_fits p deed last.pending w.asked; numbered = pending_numbered t p h last.pending }
 
   pub completes : (t : Live) (p : Pending) (deed : Deed) (l : Lent) → Has x.live t → Completes catalogue x given t p deed l → (is_some t.pending ≡ false → nat_le 64 (length t.answers) ≡ false) → K l → K (complete t p deed l)
   unfolding complete
@@ -265,7 +269,7 @@ module _ (catalogue : Catalogue) (k : IsCatalogue catalogue) (x : SiteState) (sx
       let words = deed_answer t.txn p.number deed in
       let a = replies words p.port l q d.port_fits said in
       let now = with_done deed words t in
-      now_coordinator (put_live now) _ a (puts_live now l.coordinator (done_is t deed words (own_live t h) d.room d.deed_is said) a.site_is.coordinator_is)
+      now_coordinator (put_live now) _ a (puts_live catalogue now l.coordinator (done_is catalogue t deed words (own_live t h) d.room d.deed_is d.fits said) a.site_is.coordinator_is)
 
   -- ---- a call waits for other sites
 
@@ -288,13 +292,13 @@ module _ (catalogue : Catalogue) (k : IsCatalogue catalogue) (x : SiteState) (sx
       let came_call = next_call t p n in
       let ask = request_is t p h n in
       let parts = sites_of_ascending (put_number q t.parts) (put_sites q t.parts s i.parts_are.2) in
-      let now = waiting_is t p (t.remote ++ (q, rec) ∷ []) (put_number q t.parts) (q ∷ []) i (omega (arith, one, room)) (all_and_one (λ (r : ℕ × ℕ). IsRecord r.1) t.remote (q, rec) i.remote_are found) (omega (arith, one, less, longer)) parts ask.2 came_call.0 came_call.1 (some_sites (q ∷ []) refl (s.0, s.1, tt)) in
-      let a = now_coordinator (put_live (record t { remote = t.remote ++ (q, rec) ∷ []; parts = put_number q t.parts; pending = Some (record p { missing = q ∷ [] }) })) (lent_at x) begins (puts_live _ x.coordinator now sx.coordinator_is) in
-      now_gives _ _ a (gives_message x.id _ a.gives x.id (message.ReadRequest t.txn t.view p.number rec) q refl s (ask, found))
+      let now = waiting_is catalogue t p (t.remote ++ (q, rec) ∷ []) (put_number q t.parts) (q ∷ []) i (omega (arith, one, room)) (all_and_one (λ (r : ℕ × ℕ). IsRecord r.1) t.remote (q, rec) i.remote_are found) (omega (arith, one, less, longer)) parts ask.2 came_call.0 came_call.1 (some_sites (q ∷ []) refl (s.0, s.1, tt)) (λ deed e. let z : change_asked catalogue p.call ≡ None = rw r.words refl in cc) in
+      let a = now_coordinator (put_live (record t { remote = t.remote ++ (q, rec) ∷ []; parts = put_number q t.parts; pending = Some (record p { missing = q ∷ [] }) })) (lent_at x) begins (puts_live catalogue _ x.coordinator now sx.coordinator_is) in
+      now_gives _ _ a (gives_message x.id _ a.gives x.id (message.ReadRequest t.txn t.view p.number rec) q refl s (ask, found) tt)
 
-  pub writes_at : (t : Live) (p : Pending) (rec : ℕ) (deed : Deed) (l : Lent) → Has x.live t → IsNext given t p → Changes catalogue p rec deed → is_empty (other_holders catalogue x rec) ≡ false → nat_le 64 (length t.answers) ≡ false → K l → K (write_at x.id t p rec (other_holders catalogue x rec) l)
+  pub writes_at : (t : Live) (p : Pending) (rec : ℕ) (deed : Deed) (l : Lent) → Has x.live t → IsNext given t p → Changes catalogue p rec deed → is_too_large t deed ≡ false → is_empty (other_holders catalogue x rec) ≡ false → nat_le 64 (length t.answers) ≡ false → K l → K (write_at x.id t p rec (other_holders catalogue x rec) l)
   unfolding write_at
-  writes_at t p rec deed l h n w e few q =
+  writes_at t p rec deed l h n w fits e few q =
       let i = own_live t h in
       let sites = other_holders catalogue x rec in
       let up = others_ascend catalogue k x.id x.held rec in
@@ -306,9 +310,9 @@ module _ (catalogue : Catalogue) (k : IsCatalogue catalogue) (x : SiteState) (sx
       let came_call = next_call t p n in
       let ask = request_is t p h n in
       let parts = sites_of_ascending (for_each sites put_number t.parts) (put_all_sites sites t.parts s i.parts_are.2) in
-      let now = waiting_is t p t.remote (for_each sites put_number t.parts) sites i (omega (arith, one, room)) i.remote_are (omega (arith, one, less)) parts ask.2 came_call.0 came_call.1 (some_sites sites e up) in
-      let a = now_coordinator (put_live (record t { parts = for_each sites put_number t.parts; pending = Some (record p { missing = sites }) })) l q (puts_live _ l.coordinator now q.site_is.coordinator_is) in
-      now_gives _ _ a (gives_each x.id _ a.gives x.id (λ q. message.WriteRequest t.txn t.view p.number rec) sites refl s (λ q. (ask, found)))
+      let now = waiting_is catalogue t p t.remote (for_each sites put_number t.parts) sites i (omega (arith, one, room)) i.remote_are (omega (arith, one, less)) parts ask.2 came_call.0 came_call.1 (some_sites sites e up) (λ other a. let same : deed ≡ other = (let z = w.asked in cc) in subst (λ (d : Deed). is_too_large t d ≡ false) same fits) in
+      let a = now_coordinator (put_live (record t { parts = for_each sites put_number t.parts; pending = Some (record p { missing = sites }) })) l q (puts_live catalogue _ l.coordinator now q.site_is.coordinator_is) in
+      now_gives _ _ a (gives_each x.id _ a.gives x.id (λ q. message.WriteRequest t.txn t.view p.number rec) sites refl s (λ q. (ask, found)) (λ q. tt))
 
   commits_none : (words : Call) → is_commit words ≡ true → operates words ≡ 0
   commits_none (call.Read txn number name) e = cc
@@ -320,6 +324,16 @@ module _ (catalogue : Catalogue) (k : IsCatalogue catalogue) (x : SiteState) (sx
   commits_none call.Begin e = refl
   commits_none call.Regroup e = refl
 
+  commits_change_none : (words : Call) → is_commit words ≡ true → (deed : Deed) → change_asked catalogue words ≡ Some deed → ⊥
+  commits_change_none (call.Read txn number name) e deed a = cc
+  commits_change_none (call.Write txn number name value) e deed a = cc
+  commits_change_none (call.Delete txn number name) e deed a = cc
+  commits_change_none (call.Weigh txn number name table) e deed a = cc
+  commits_change_none (call.Commit txn number) e deed a = cc
+  commits_change_none (call.Abort txn number) e deed a = cc
+  commits_change_none call.Begin e deed a = cc
+  commits_change_none call.Regroup e deed a = cc
+
   pub prepares : (t : Live) (p : Pending) → Has x.live t → IsNext given t p → is_commit p.call ≡ true → is_empty t.parts ≡ false → K (prepare_parts catalogue x.id t p (lent_at x))
   unfolding prepare_parts
   prepares t p h n c e =
@@ -329,12 +343,12 @@ module _ (catalogue : Catalogue) (k : IsCatalogue catalogue) (x : SiteState) (sx
       let less = next_few t p h n in
       let came_call = next_call t p n in
       let ask = request_is t p h n in
-      let now = waiting_is t p t.remote t.parts t.parts i (omega (arith, few, zero_more)) i.remote_are (omega (arith, zero_more, less)) i.parts_are ask.2 came_call.0 came_call.1 (some_sites t.parts e i.parts_are.2) in
-      let a = now_coordinator (put_live (record t { pending = Some (record p { missing = t.parts }) })) (lent_at x) begins (puts_live _ x.coordinator now sx.coordinator_is) in
+      let now = waiting_is catalogue t p t.remote t.parts t.parts i (omega (arith, few, zero_more)) i.remote_are (omega (arith, zero_more, less)) i.parts_are ask.2 came_call.0 came_call.1 (some_sites t.parts e i.parts_are.2) (λ deed a. absurd (commits_change_none p.call c deed a)) in
+      let a = now_coordinator (put_live (record t { pending = Some (record p { missing = t.parts }) })) (lent_at x) begins (puts_live catalogue _ x.coordinator now sx.coordinator_is) in
       let short : length t.remote ≤ 64 = omega (arith, few, less) in
       let done = i.done_few in
       let small : length t.ops + length t.tables ≤ 64 = omega (arith, few, done) in
-      now_gives _ _ a (gives_each x.id _ a.gives x.id (prepare_for catalogue t p) t.parts refl (each_site t.parts i.parts_are.2) (λ q. (ask, recs_are q t.remote i.remote_are short, changes_are (entry_of t) i.ops_are i.tables_are (λ w. has (holders catalogue w.0) q) small)))
+      now_gives _ _ a (gives_each x.id _ a.gives x.id (prepare_for catalogue t p) t.parts refl (each_site t.parts i.parts_are.2) (λ q. (ask, recs_are q t.remote i.remote_are short, changes_are (entry_of t) i.ops_are i.tables_are (λ w. has (holders catalogue w.0) q) small)) (λ q. writes_length t (λ w. has (holders catalogue w.0) q) i.ops_are i.tables_are (changes_are (entry_of t) i.ops_are i.tables_are (λ w. has (holders catalogue w.0) q) small).0 i.size_fits))
 
   same_asked : (o : Option Pending) (p : Pending) → o ≡ Some p → asked o ≡ operates p.call
   same_asked o p e = rw e refl
@@ -346,8 +360,8 @@ module _ (catalogue : Catalogue) (k : IsCatalogue catalogue) (x : SiteState) (sx
       let same = same_asked t.pending p e in
       let few = i.few in
       let less = i.remote_few in
-      let now = waiting_is t p t.remote t.parts (remaining from p) i (omega (arith, same, few)) i.remote_are (omega (arith, same, less)) i.parts_are was.number_is was.port_fits was.words_are (some_sites (remaining from p) more (ascending_filter 1 16 _ p.missing was.missing_are.2)) in
-      now_coordinator (put_live (record t { pending = Some (record p { missing = remaining from p }) })) (lent_at x) begins (puts_live _ x.coordinator now sx.coordinator_is)
+      let now = waiting_is catalogue t p t.remote t.parts (remaining from p) i (omega (arith, same, few)) i.remote_are (omega (arith, same, less)) i.parts_are was.number_is was.port_fits was.words_are (some_sites (remaining from p) more (ascending_filter 1 16 _ p.missing was.missing_are.2)) (λ deed a. i.asked_fits p deed e a) in
+      now_coordinator (put_live (record t { pending = Some (record p { missing = remaining from p }) })) (lent_at x) begins (puts_live catalogue _ x.coordinator now sx.coordinator_is)
 
   -- ---- a transaction ends
 
@@ -359,12 +373,12 @@ module _ (catalogue : Catalogue) (k : IsCatalogue catalogue) (x : SiteState) (sx
   unfolding finish
   ends t why l i e p =
       let a = now_gives _ l p (last_reply t.txn why t.pending l.effects i.txn_is e i.pending_is p.gives) in
-      now_coordinator (with_finished t why) _ a (finishes t why l.coordinator i e p.site_is.coordinator_is)
+      now_coordinator (with_finished t why) _ a (finishes catalogue t why l.coordinator i e p.site_is.coordinator_is)
 
   closes_one : (t : Live) (why : Ending) (l : Lent) → IsOver t → IsEnding why → K l → K (close x.id t why l)
   unfolding close
   closes_one t why l i e p =
-      let a = now_gives _ l p (gives_each x.id l.effects p.gives x.id (λ q. message.Outcome t.txn false) t.parts refl (each_site t.parts i.parts_are.2) (λ q. i.txn_is)) in
+      let a = now_gives _ l p (gives_each x.id l.effects p.gives x.id (λ q. message.Outcome t.txn false) t.parts refl (each_site t.parts i.parts_are.2) (λ q. i.txn_is) (λ q. tt)) in
       let b = now_locks (without_owner (owner.Txn t.txn)) _ a (all_filter IsLock _ l.here.locks p.site_is.locks_are) in
       ends t why _ i e b
 
@@ -372,7 +386,7 @@ module _ (catalogue : Catalogue) (k : IsCatalogue catalogue) (x : SiteState) (sx
   unfolding decided
   decides_one t l i p =
       let a = now_gives _ l p (gives_commit x.id l.effects p.gives (entry_of t)) in
-      let b = now_gives _ _ a (gives_each x.id _ a.gives x.id (λ q. message.Outcome t.txn true) t.parts refl (each_site t.parts i.parts_are.2) (λ q. i.txn_is)) in
+      let b = now_gives _ _ a (gives_each x.id _ a.gives x.id (λ q. message.Outcome t.txn true) t.parts refl (each_site t.parts i.parts_are.2) (λ q. i.txn_is) (λ q. tt)) in
       let c = now_locks (without_owner (owner.Txn t.txn)) _ b (all_filter IsLock _ l.here.locks p.site_is.locks_are) in
       ends t Committed _ i tt c
 
@@ -392,11 +406,11 @@ module _ (catalogue : Catalogue) (k : IsCatalogue catalogue) (x : SiteState) (sx
   over_along t u e i = rw e i
 
   next_over : (t was : Live) (p : Pending) → Has x.live was → IsNext given was p → t ≡ handling was p → IsOver t
-  next_over t was p h n e = let q = next_numbered was p.number h n.number in over_along t (handling was p) e (handled_over was p (own_live was h) (next_call was p n).0 (q.some, q.fits))
+  next_over t was p h n e = let q = next_numbered was p.number h n.number in over_along t (handling was p) e (handled_over catalogue was p (own_live was h) (next_call was p n).0 (q.some, q.fits))
 
   decides_over : (t : Live) → Decides catalogue x given t → IsOver t
   decides_over t (Decides.alone was p h n c e s) = next_over t was p h n s
-  decides_over t (Decides.voted p from h last c m) = live_over t (own_live t h)
+  decides_over t (Decides.voted p from h last c m) = live_over catalogue t (own_live t h)
 
   pub decides : (t : Live) → Decides catalogue x given t → K (decide catalogue x.id t (lent_at x))
   decides t d = let i = decides_over t d in decide-cases K catalogue x.id t (lent_at x) (λ e. decides_one t (lent_at x) i begins) (λ e. decides_one t _ i (keeps_writes t i))
@@ -404,10 +418,10 @@ module _ (catalogue : Catalogue) (k : IsCatalogue catalogue) (x : SiteState) (sx
   closes_over : (t : Live) (why : Ending) → Closes x given t why → IsOver t × IsEnding why
   closes_over t _ (Closes.aborted was p h n e) = (next_over t was p h n e, tt)
   closes_over t _ (Closes.held_here was p name rec exclusive holder h n e m f) = (next_over t was p h n e, (named_is p.call name m (next_call was p n).1, own_id, conflict_is rec exclusive was.txn x.here.locks holder sx.locks_are f))
-  closes_over t _ (Closes.held_there p txn number from name holder h e m c) = let q = came_is given from (message.Refuse txn number (obstacle.Held holder)) came c in (live_over t (own_live t h), (named_is p.call name m (pending_at t p h e).words_are, q.0, q.1.1))
-  closes_over t _ (Closes.other_view txn number from now h c) = let q = came_is given from (message.Refuse txn number (obstacle.OtherView now)) came c in let i = own_live t h in (live_over t i, (q.0, i.view_is, q.1.1))
-  closes_over t _ (Closes.left h) = let i = own_live t h in (live_over t i, (own_id, i.view_is, tt))
-  closes_over t _ (Closes.timed_out h e) = let i = own_live t h in (live_over t i, missing_is t.pending i.pending_is e)
+  closes_over t _ (Closes.held_there p txn number from name holder h e m c) = let q = came_is given from (message.Refuse txn number (obstacle.Held holder)) came c in (live_over catalogue t (own_live t h), (named_is p.call name m (pending_at t p h e).words_are, q.0, q.1.1))
+  closes_over t _ (Closes.other_view txn number from now h c) = let q = came_is given from (message.Refuse txn number (obstacle.OtherView now)) came c in let i = own_live t h in (live_over catalogue t i, (q.0, i.view_is, q.1.1))
+  closes_over t _ (Closes.left h) = let i = own_live t h in (live_over catalogue t i, (own_id, i.view_is, tt))
+  closes_over t _ (Closes.timed_out h e) = let i = own_live t h in (live_over catalogue t i, missing_is t.pending i.pending_is e)
 
   pub closes : (t : Live) (why : Ending) (l : Lent) → Closes x given t why → K l → K (close x.id t why l)
   closes t why l y p = let q = closes_over t why y in closes_one t why l q.0 q.1 p
@@ -416,7 +430,7 @@ module _ (catalogue : Catalogue) (k : IsCatalogue catalogue) (x : SiteState) (sx
 
   pub marks : (l : Lent) → K l → K (mark_calls l)
   unfolding mark_calls
-  marks l p = now_coordinator with_marks l p (marks_are l.coordinator p.site_is.coordinator_is)
+  marks l p = now_coordinator with_marks l p (marks_are catalogue l.coordinator p.site_is.coordinator_is)
 
   pub acknowledges : (from : ℕ) (txn : TxnId) → Comes given from (message.Ack txn) → K (lent_coordinator (with_acknowledged txn from) (lent_force (log_record.Acked txn from) (lent_at x)))
   acknowledges from txn c =
@@ -429,4 +443,4 @@ module _ (catalogue : Catalogue) (k : IsCatalogue catalogue) (x : SiteState) (sx
   unfolding resend_one
   resends d o h p =
       let i = all_at _ o.site.decisions p.site_is.coordinator_is.decisions_are.each d h in
-      with_gives catalogue x o p _ (gives_each x.id o.effects p.gives o.site.id (λ q. message.Outcome d.txn true) d.waiting p.same (each_site d.waiting i.1.2) (λ q. i.0))
+      with_gives catalogue x o p _ (gives_each x.id o.effects p.gives o.site.id (λ q. message.Outcome d.txn true) d.waiting p.same (each_site d.waiting i.1.2) (λ q. i.0) (λ q. tt))

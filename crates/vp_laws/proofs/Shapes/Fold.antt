@@ -49,7 +49,6 @@ applied catalogue id (log_record.Checkpoint generation life promise copies doubt
   doubts_are = record { each = recursion_from_All (IsDoubtIn versions.Second) doubts i.4.1; ascend = ascends_of doubt_before doubts i.4.2 };
   decisions_are = record { each = recursion_from_All IsDecision decisions i.5.1; ascend = ascends_of decision_before decisions i.5.2 };
 }
-
 applied catalogue id (log_record.YesOfValues txn view writes) d i h = record { promise = h.promise; life = h.life; copies_are = h.copies_are; doubts_are = put_doubts (record { txn = txn; view = view; writes = writes }) d.doubts (i.0, i.1, writes_second writes i.2) h.doubts_are; decisions_are = h.decisions_are }
 applied catalogue id (log_record.CommitOfValues txn view writes waiting) d i h = record { promise = h.promise; life = h.life; copies_are = writes_are catalogue id 0 view writes d.copies i.1 (writes_second writes i.2).1 h.copies_are; doubts_are = h.doubts_are; decisions_are = with_decisions txn waiting d.decisions i.0 i.3.2 h.decisions_are }
 applied catalogue id (log_record.CopyOfValue rec stored) d i h = record { promise = h.promise; life = h.life; copies_are = replace_is catalogue id rec stored d.copies (stored_second stored i.1) h.copies_are; doubts_are = h.doubts_are; decisions_are = h.decisions_are }

@@ -21,7 +21,7 @@ use Rattle.vp_model.specs.Messages.{with_answer}
 use Rattle.vp_model.specs.Step.{known}
 use Rattle.vp_laws.proofs.Lists.Members.{find_has}
 use Rattle.vp_laws.proofs.Lists.Changes.{value_has}
-use Rattle.vp_laws.specs.Shapes.{IsMessage, IsAnswer, IsStored, IsDoubt, AreCopies, AreDoubts, AreViews, IsLock, IsPart, IsRefreshing, IsCoordinator, IsShaped, IsSent, IsReply, AreShaped}
+use Rattle.vp_laws.specs.Shapes.{IsMessage, IsAnswer, IsStored, IsDoubt, AreCopies, AreDoubts, AreViews, IsLock, IsPart, IsRefreshing, IsCoordinator, IsShaped, IsShort, IsSent, IsReply, AreShaped}
 use Rattle.vp_laws.proofs.Lists.Items.{all_at, all_append, all_and_one, all_filter, all_put, all_map}
 use Rattle.vp_laws.proofs.Lists.Keeps.{by_test}
 use Rattle.vp_records.proofs.Held.{changed_keys, replaced_keys}
@@ -34,24 +34,27 @@ pub record Forms (catalogue : Catalogue) (x : SiteState) (o : Stepped) : Type 0 
 
 -- ---- what is given
 
+abbrev IsSmall : Sent → Type 0
+IsSmall sent = IsShort sent.message
+
 module _ (id : ℕ) (e : Effects) (a : AreShaped id e) where
   pub gives_entry : (entry : LogRecord) → IsLogRecord entry → AreShaped id (with_entry entry e)
-  gives_entry entry i = record { records_are = all_and_one IsLogRecord e.records entry a.records_are i; messages_are = a.messages_are; replies_are = a.replies_are }
+  gives_entry entry i = record { records_are = all_and_one IsLogRecord e.records entry a.records_are i; messages_are = a.messages_are; short_are = a.short_are; replies_are = a.replies_are }
 
   pub gives_commit : (commit : Commit) → AreShaped id (with_commit commit e)
-  gives_commit commit = record { records_are = a.records_are; messages_are = a.messages_are; replies_are = a.replies_are }
+  gives_commit commit = record { records_are = a.records_are; messages_are = a.messages_are; short_are = a.short_are; replies_are = a.replies_are }
 
   pub gives_reply : (answer : Answer) (to : ℕ) → to < 2 ^ 16 → IsAnswer answer → AreShaped id (with_reply answer to e)
-  gives_reply answer to fits i = record { records_are = a.records_are; messages_are = a.messages_are; replies_are = all_and_one IsReply e.replies (record { to = to; answer = answer }) a.replies_are (fits, i) }
+  gives_reply answer to fits i = record { records_are = a.records_are; messages_are = a.messages_are; short_are = a.short_are; replies_are = all_and_one IsReply e.replies (record { to = to; answer = answer }) a.replies_are (fits, i) }
 
-  pub gives_message : (from : ℕ) (message : Message) (to : ℕ) → from ≡ id → IsSite to → IsMessage message → AreShaped id (with_message from message to e)
-  gives_message from message to own s i = record { records_are = a.records_are; messages_are = all_and_one (IsSent id) e.messages (record { from = from; to = to; message = message }) a.messages_are (own, s, i); replies_are = a.replies_are }
+  pub gives_message : (from : ℕ) (message : Message) (to : ℕ) → from ≡ id → IsSite to → IsMessage message → IsShort message → AreShaped id (with_message from message to e)
+  gives_message from message to own s i small = record { records_are = a.records_are; messages_are = all_and_one (IsSent id) e.messages (record { from = from; to = to; message = message }) a.messages_are (own, s, i); short_are = all_and_one IsSmall e.messages (record { from = from; to = to; message = message }) a.short_are small; replies_are = a.replies_are }
 
-  pub gives_sent : (messages : List Sent) → AllByRecursion (IsSent id) messages → AreShaped id (with_sent messages e)
-  gives_sent messages i = record { records_are = a.records_are; messages_are = all_append (IsSent id) e.messages messages a.messages_are i; replies_are = a.replies_are }
+  pub gives_sent : (messages : List Sent) → AllByRecursion (IsSent id) messages → AllByRecursion IsSmall messages → AreShaped id (with_sent messages e)
+  gives_sent messages i small = record { records_are = a.records_are; messages_are = all_append (IsSent id) e.messages messages a.messages_are i; short_are = all_append IsSmall e.messages messages a.short_are small; replies_are = a.replies_are }
 
-  pub gives_each : (from : ℕ) (message_to : ℕ → Message) (sites : List ℕ) → from ≡ id → AllByRecursion IsSite sites → ((q : ℕ) → IsMessage (message_to q)) → AreShaped id (with_each_message from message_to sites e)
-  gives_each from message_to sites own s i = gives_sent (letters from message_to sites) (all_map IsSite (IsSent id) (λ q. record { from = from; to = q; message = message_to q }) (λ q h. (own, h, i q)) sites s)
+  pub gives_each : (from : ℕ) (message_to : ℕ → Message) (sites : List ℕ) → from ≡ id → AllByRecursion IsSite sites → ((q : ℕ) → IsMessage (message_to q)) → ((q : ℕ) → IsShort (message_to q)) → AreShaped id (with_each_message from message_to sites e)
+  gives_each from message_to sites own s i small = gives_sent (letters from message_to sites) (all_map IsSite (IsSent id) (λ q. record { from = from; to = q; message = message_to q }) (λ q h. (own, h, i q)) sites s) (all_map IsSite IsSmall (λ q. record { from = from; to = q; message = message_to q }) (λ q h. small q) sites s)
 
 -- ---- what changes
 
@@ -94,7 +97,7 @@ module _ (catalogue : Catalogue) (x : SiteState) (o : Stepped) (p : Forms catalo
     gives = p.gives;
   }
 
-  pub with_coordinator : (c : CoordinatorState) → IsCoordinator c → Forms catalogue x (record o { site = record o.site { coordinator = c } })
+  pub with_coordinator : (c : CoordinatorState) → IsCoordinator catalogue c → Forms catalogue x (record o { site = record o.site { coordinator = c } })
   with_coordinator c v = let s = p.site_is in record {
     site_is = record { listed = s.listed; lived = s.lived; life_fits = s.life_fits; views_are = s.views_are; locks_are = s.locks_are; copies_are = s.copies_are; parts_are = s.parts_are; doubts_are = s.doubts_are; refresh_are = s.refresh_are; coordinator_is = v };
     same = p.same;

@@ -12,7 +12,7 @@ use Rattle.vp_contents.specs.Changes.{IsPut, Alters, IsChange, IsAscendingWrites
 use Rattle.vp_contents.specs.declared.version.Version.TheVariants as versions
 use Rattle.vp_model.specs.Types.{Change, Op, Commit}
 use Rattle.vp_model.specs.Types.op
-use Rattle.vp_model.specs.Words.{put, put_number, put_at, value_at, for_each, is_empty, keys}
+use Rattle.vp_model.specs.Words.{put, put_number, put_at, value_at, for_each, is_empty}
 use Rattle.vp_model.specs.Catalogue.{Table}
 use Rattle.vp_model.specs.Transactions.{with_op, last_writes, last_put, change_of, last_changes}
 use Rattle.vp_laws.specs.Shapes.{IsOp, IsGiven}
@@ -193,13 +193,13 @@ module _ (e : Commit) (ops_are : AllByRecursion IsOp e.ops) (tables_are : AllByR
       let one : length (put_at t.0 (made_of t.0) ws) ≤ suc (length ws) = length_put (λ (a : ℕ × Change) (b : ℕ × Change). a.0 == b.0) (λ (a : ℕ × Change) (b : ℕ × Change). nat_lt a.0 b.0) (t.0, made_of t.0) ws in
       omega (arith, rest, one)
 
-  base : List (ℕ × Change)
+  abbrev base : List (ℕ × Change)
   base = map (λ (w : ℕ × Option (List ℕ)). (w.0, made_of w.0)) (last_writes e.ops)
 
   base_are : AllByRecursion IsWritten base
   base_are = all_of IsWritten base (λ p h. let r = map_has (λ (w : ℕ × Option (List ℕ)). (w.0, made_of w.0)) (last_writes e.ops) p h in subst IsWritten r.2 (written_some r.0 r.1))
 
-  each_change : AllByRecursion IsWritten (last_changes e)
+  pub each_change : AllByRecursion IsWritten (last_changes e)
   each_change = puts_are e.tables base given_some base_are
 
   pub changes_rise : IsRising 0 (last_changes e)
