@@ -167,17 +167,17 @@ weighed_lasts lines l a h u n e = subst (λ (ns : List ℕ). Has ns n) (sym (num
 pub asked_table : (catalogue : Catalogue) (words : Call) (rec : ℕ) (table : Table) → change_asked catalogue words ≡ Some (Deed.weighs rec table) → table_asked catalogue words ≡ Some (rec, table)
 asked_table catalogue (call.Weigh txn number name given) rec table e = go (find_record catalogue name) e
   where
-    go : (o : Option ℕ) → option_map (λ r. Deed.weighs r given) o ≡ Some (Deed.weighs rec table) → option_map (λ r. (r, given)) o ≡ Some (rec, table)
+    go : (o : Option ℕ) → option_map (λ r. Deed.weighs r given) o ≡ Some (Deed.weighs rec table) → ◌≡◌ {A = Option (ℕ × Table)} (option_map (λ r. (r, given)) o) (Some (rec, table))
     go None q = cc
     go (Some r) q = let a : r ≡ rec = cc in let b : given ≡ table = cc in rw (a, b) refl
 asked_table catalogue (call.Write txn number name value) rec table e = go (find_record catalogue name) e
   where
-    go : (o : Option ℕ) → option_map (λ r. Deed.operates (op.Write r (Some value))) o ≡ Some (Deed.weighs rec table) → None ≡ Some (rec, table)
+    go : (o : Option ℕ) → option_map (λ r. Deed.operates (op.Write r (Some value))) o ≡ Some (Deed.weighs rec table) → ◌≡◌ {A = Option (ℕ × Table)} None (Some (rec, table))
     go None q = cc
     go (Some r) q = cc
 asked_table catalogue (call.Delete txn number name) rec table e = go (find_record catalogue name) e
   where
-    go : (o : Option ℕ) → option_map (λ r. Deed.operates (op.Write r None)) o ≡ Some (Deed.weighs rec table) → None ≡ Some (rec, table)
+    go : (o : Option ℕ) → option_map (λ r. Deed.operates (op.Write r None)) o ≡ Some (Deed.weighs rec table) → ◌≡◌ {A = Option (ℕ × Table)} None (Some (rec, table))
     go None q = cc
     go (Some r) q = cc
 asked_table catalogue (call.Read txn number name) rec table e = cc
