@@ -26,13 +26,11 @@ use Rattle.vp_laws.proofs.Copies.Origins.{Untouched, Own, Brought, gone_aborted}
 use Rattle.vp_laws.proofs.Copies.Values.{value_now}
 use Rattle.vp_laws.proofs.Copies.Writes.{applied_above, written_above}
 use Rattle.vp_laws.proofs.Copies.Refreshes.{Answer, answer_listed, answer_view, answer_in, answer_unwritten, answer_usable, left_below, other_answer, all_closed}
-use Rattle.vp_laws.proofs.Invariant.Ops.{written_used}
 use Rattle.vp_laws.proofs.Keeping.Does.{Does}
 use Rattle.vp_laws.proofs.Invariant.Copies.{FromView, InvCopies}
 use Rattle.vp_laws.proofs.Invariant.Refresh.{InvRefresh}
 use Rattle.vp_laws.proofs.Keeping.Listed.{wrote_here}
 use Rattle.vp_laws.proofs.Invariant.Known.{Known}
-use Rattle.vp_laws.proofs.Lists.Pairs.{written_op}
 
 -- a doubt of an entry's transaction writes what the entry wrote there
 pub doubt_on : (catalogue : Catalogue) (w : Scene) → InvShares catalogue w → (e : Commit) (j rec : ℕ) (u : Doubt) → Has w.journal e → Wrote e rec → Has (holders catalogue rec) j → Has (kept_at w j).doubts u → u.txn ≡ e.txn → Has (keys u.writes) rec

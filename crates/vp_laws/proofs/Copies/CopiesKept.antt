@@ -1,8 +1,7 @@
 -- A step keeps the invariant of copies.
-use Rattle.std.proofs.Common.{◌≡◌, ◌≢◌, ◌∙◌, ap, sym, subst, ℕ, Bool, true, false, List, [], ◌∷◌, ◌++◌, refl, ⊎_elim, cond}
-use Rattle.std.specs.Prelude.{Option, Some, None, find, ◌==◌}
-use Rattle.std.proofs.lemmas.Bool.{eqb-true}
-use Rattle.vp_model.specs.Types.{ViewId, View, Commit, Input, Stored, Refreshing, Doubt}
+use Rattle.std.proofs.Common.{◌≡◌, ◌≢◌, ◌∙◌, ap, sym, subst, ℕ, Bool, true, List, ◌∷◌, ◌++◌, ⊎_elim}
+use Rattle.std.specs.Prelude.{Option, Some, None}
+use Rattle.vp_model.specs.Types.{ViewId, View, Commit, Input, Stored, Doubt}
 use Rattle.vp_model.specs.Words.{value_at, keys, has}
 use Rattle.vp_model.specs.Transactions.{last_changes}
 use Rattle.vp_laws.proofs.Copies.Force.{Table, accessible_by, weighs, below, after, Weighed, none_between, in_force}
@@ -11,7 +10,7 @@ use Rattle.vp_model.specs.Catalogue.{Catalogue, holders, accessible}
 use Rattle.vp_model.specs.Durable.{DurableState}
 use Rattle.vp_model.specs.Refresh.{is_open, is_usable_in, refreshing_of}
 use Rattle.vp_model.specs.Site.{SiteState, Stepped}
-use Rattle.vp_laws.proofs.Lists.Members.{Has, has_none, has_first, has_more, has_cons, has_test, has_from_test}
+use Rattle.vp_laws.proofs.Lists.Members.{Has, has_test, has_from_test}
 use Rattle.vp_laws.proofs.Lists.Views.{Precedes, same_site}
 use Rattle.vp_laws.proofs.Journal.Order.{Precedes-trans}
 use Rattle.vp_laws.proofs.Table.Copies.{AnswerNow}
@@ -41,7 +40,6 @@ use Rattle.vp_laws.proofs.Invariant.Refresh.{InvRefresh}
 use Rattle.vp_laws.proofs.Keeping.Listed.{not_below_itself}
 use Rattle.vp_laws.proofs.Invariant.Known.{Known}
 use Rattle.vp_laws.proofs.Invariant.Closed.{Closed, Open}
-use Rattle.vp_laws.proofs.Lists.Numbers.{unequal}
 
 module _ (catalogue : Catalogue) (w new : Scene) (s : ℕ) (x : SiteState) (given : Input) (o : Stepped) (k : Known catalogue w) (n : Known catalogue new) (d : Does catalogue w new s x given o) (copies : InvCopies catalogue w) (refresh : InvRefresh catalogue w) where
   pub closed_now : (rec : ℕ) (v : View) → Closed catalogue w rec v → Closed catalogue new rec v

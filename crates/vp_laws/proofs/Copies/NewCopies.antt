@@ -1,8 +1,8 @@
 -- A copy that an entry of the step changes has the content after the entries of its view and all lower ones: the copy before had the
 -- content so far, and the entry is added to it.
-use Rattle.std.proofs.Common.{◌≡◌, ◌≢◌, ◌∙◌, ap, sym, subst, ℕ, true, List, [], ◌∷◌, ◌++◌, refl}
+use Rattle.std.proofs.Common.{◌≡◌, ◌≢◌, ◌∙◌, ap, sym, subst, ℕ, true, List, refl}
 use Rattle.std.specs.Prelude.{Option, Some, None, option_map, slice_get}
-use Rattle.vp_model.specs.Types.{Change, Commit, Input, Stored, Doubt}
+use Rattle.vp_model.specs.Types.{Commit, Input, Stored, Doubt}
 use Rattle.vp_model.specs.Words.{keys, value_at}
 use Rattle.vp_model.specs.Catalogue.{Catalogue, holders, start_values}
 use Rattle.vp_model.specs.Durable.{DurableState}

@@ -1,6 +1,6 @@
 -- Where each copy in the world after a step comes from: it is untouched, or is written by a transaction in doubt that commits or by
 -- an entry of the step, or a refresh brought it.
-use Rattle.std.proofs.Common.{◌≡◌, ◌≢◌, ◌⊎◌, ◌∙◌, ap, sym, subst, ℕ, Bool, true, false, List, refl, inl, inr, ⊎_elim}
+use Rattle.std.proofs.Common.{◌≡◌, ◌≢◌, ◌⊎◌, ◌∙◌, ap, sym, subst, ℕ, Bool, true, false, refl, inl, inr, ⊎_elim}
 use Rattle.std.specs.Prelude.{Some}
 use Rattle.vp_model.specs.Types.{Change, ViewId, TxnId, Commit, Input, Stored, Doubt}
 use Rattle.vp_model.specs.Types.message

@@ -1,7 +1,7 @@
 -- A step keeps the invariant of answers to a refresh and of closed records.
-use Rattle.std.proofs.Common.{List, ◌≡◌, ◌≢◌, ◌⊎◌, ◌∙◌, ap, sym, subst, ℕ, Bool, true, false, refl, inl, inr, ⊎_elim}
+use Rattle.std.proofs.Common.{◌≡◌, ◌≢◌, ◌⊎◌, ◌∙◌, ap, sym, subst, ℕ, Bool, true, false, refl, inl, inr, ⊎_elim}
 use Rattle.std.specs.Prelude.{Option, Some, is_some, not, ◌||◌, ◌&&◌, ◌==◌}
-use Rattle.vp_model.specs.Types.{ViewId, TxnId, View, Sent, Commit, Input, Op, Stored, Pending, Live}
+use Rattle.vp_model.specs.Types.{ViewId, TxnId, View, Sent, Commit, Input, Stored, Pending, Live}
 use Rattle.vp_model.specs.Types.message
 use Rattle.vp_model.specs.Types.owner
 use Rattle.vp_model.specs.Words.{has, value_at}

@@ -6,7 +6,7 @@ use Rattle.std.proofs.lemmas.Bool.{eqb-true}
 use Rattle.vp_model.specs.Words.{keys, value_at, first_some}
 use Rattle.vp_laws.proofs.Journal.Changed.{changed_by, HasChanged}
 use Rattle.vp_model.specs.Transactions.{last_changes, entry_of, Deed, with_operation, with_table}
-use Rattle.vp_model.specs.Types.{Commit, TxnId, View, ViewId, Input, Op, Answer, Pending, Live}
+use Rattle.vp_model.specs.Types.{Commit, TxnId, View, ViewId, Input, Op, Pending, Live}
 use Rattle.vp_model.specs.Types.op
 use Rattle.vp_model.specs.Catalogue.{Catalogue, Table, accessible_by, has_holders}
 use Rattle.vp_model.specs.Site.{SiteState, Lent}

@@ -4,7 +4,7 @@ use Rattle.std.specs.Prelude.{Option, Some, None, ◌==◌, option_map, find}
 use Rattle.std.specs.List.{AllByRecursion}
 use Rattle.std.specs.Option.{option_map_or}
 use Rattle.std.proofs.lemmas.Bool.{eqb-true}
-use Rattle.vp_model.specs.Types.{Op, Change, Commit}
+use Rattle.vp_model.specs.Types.{Change, Commit}
 use Rattle.vp_model.specs.Words.{first_some, for_each, keys, put_at, value_at}
 use Rattle.vp_model.specs.Catalogue.{Table}
 use Rattle.vp_model.specs.Durable.{with_put, with_new_table}

@@ -5,7 +5,7 @@ use Rattle.std.specs.List.{AllByRecursion}
 use Rattle.vp_model.specs.Types.{Op, Commit}
 use Rattle.vp_model.specs.Words.{keys, value_at}
 use Rattle.vp_model.specs.Transactions.{last_writes}
-use Rattle.vp_laws.proofs.Journal.Play.{Write, Ascending, last_ascending}
+use Rattle.vp_laws.proofs.Journal.Play.{Ascending, last_ascending}
 use Rattle.vp_laws.proofs.Lists.Members.{has_none, has_first, has_more, has_right, has_cons, Has}
 use Rattle.vp_laws.proofs.Lists.Pairs.{Differ, pair_value}
 

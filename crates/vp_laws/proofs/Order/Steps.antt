@@ -2,7 +2,7 @@
 -- that is given has the value after them.
 use Rattle.std.proofs.Common.{◌≡◌, ◌≢◌, ◌∙◌, ap, sym, subst, ℕ, Bool, true, false, List, [], ◌∷◌, ◌++◌, refl, ⊎_elim, length}
 use Rattle.std.specs.Prelude.{option_map, Option, Some, None, is_some, option_and_then, slice_get, slice_set, ◌||◌}
-use Rattle.vp_model.specs.Types.{ViewId, TxnId, View, Sent, Commit, Input, Op, Answer, Stored, Pending, Live, Doubt}
+use Rattle.vp_model.specs.Types.{ViewId, TxnId, View, Sent, Commit, Input, Op, Stored, Pending, Live, Doubt}
 use Rattle.vp_model.specs.Types.message
 use Rattle.vp_model.specs.Types.op
 use Rattle.vp_model.specs.Types.owner

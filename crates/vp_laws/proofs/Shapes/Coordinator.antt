@@ -36,7 +36,7 @@ use Rattle.vp_laws.specs.Votes.{is_commit}
 use Rattle.vp_laws.proofs.Lists.Members.{Has}
 use Rattle.vp_laws.proofs.Moves.Frames.{decide-cases}
 use Rattle.vp_laws.proofs.Moves.Table.{Comes, next_name, record_of, IsNext, Reads, Changes, Tries, remaining, Completes, Decides, Says, Closes, Names, IsCallOf, lent_at, Back}
-use Rattle.vp_laws.specs.Shapes.{IsAnswer, IsInput, IsOp, IsPending, operates, asked, IsLive, IsEnding, IsFinished, IsCoordinator, IsLock, IsShaped, AreShaped}
+use Rattle.vp_laws.specs.Shapes.{IsAnswer, IsInput, IsPending, operates, asked, IsLive, IsEnding, IsFinished, IsCoordinator, IsLock, IsShaped, AreShaped}
 use Rattle.vp_laws.proofs.Lists.Items.{all_at, all_and_one, all_filter}
 use Rattle.vp_laws.proofs.Shapes.Numbers.{each_site, put_sites, put_all_sites, sites_of_ascending, some_sites, ascending_filter, written_is, changes_are, table_of_call}
 use Rattle.vp_laws.proofs.Shapes.Sizes.{writes_length}

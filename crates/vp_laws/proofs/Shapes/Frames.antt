@@ -1,11 +1,11 @@
 -- How long the frames of what a step gives are.
-use Rattle.std.proofs.Common.{◌≡◌, ◌≤◌, ◌∙◌, ℕ, ◌+◌, Bool, true, false, List, [], ◌∷◌, ◌++◌, refl, arith, length}
+use Rattle.std.proofs.Common.{◌≡◌, ◌≤◌, ℕ, List, [], ◌∷◌, ◌++◌, refl, arith, length}
 use Rattle.std.specs.Prelude.{Option, Some, None}
 use Rattle.std.specs.List.{AllByRecursion}
 use Rattle.std.proofs.lemmas.List.{length-append}
 use Rattle.vp_base.specs.Words.{IsName}
-use Rattle.vp_bytes.specs.Fields.{number_bytes, view_bytes, maybe_view_bytes, txn_bytes, owner_bytes, counted_bytes, numbered_bytes, request_bytes, outcome_byte, IsSites, IsRecs}
-use Rattle.vp_contents.specs.Tables.{maybe_table_bytes, IsMaybeTable}
+use Rattle.vp_bytes.specs.Fields.{number_bytes, view_bytes, maybe_view_bytes, txn_bytes, owner_bytes, counted_bytes, numbered_bytes, request_bytes, outcome_byte}
+use Rattle.vp_contents.specs.Tables.{maybe_table_bytes}
 use Rattle.vp_contents.specs.Values.{value_bytes, most_length, IsValueIn}
 use Rattle.vp_contents.specs.Contents.{content_bytes, IsContent}
 use Rattle.vp_contents.specs.Copies.{stored_bytes, copy_bytes}

@@ -1,6 +1,6 @@
 -- Live and finished transactions after the coordinator's moves.
 use Rattle.std.proofs.Common.{◌≡◌, ◌≤◌, ◌<◌, ◌∙◌, ap, sym, subst, ℕ, suc, ◌+◌, ◌*◌, ◌^◌, true, false, List, [], ◌∷◌, ◌++◌, refl, arith, length}
-use Rattle.std.specs.Prelude.{fold, sum_by, nat_eq, Option, Some, None, IfSome, filter, option_map, option_to_list, is_some, ◌==◌, nat_lt}
+use Rattle.std.specs.Prelude.{sum_by, Option, Some, None, IfSome, filter, option_map, option_to_list, is_some, ◌==◌, nat_lt}
 use Rattle.std.specs.List.{AllByRecursion}
 use Rattle.std.proofs.lemmas.List.{length-append}
 use Rattle.std.proofs.lemmas.List.Sums.{sum_by-cons, fold-append}
@@ -8,7 +8,7 @@ use Rattle.std.proofs.lemmas.Bool.Decides.{nat_tests}
 use Rattle.vp_base.specs.Identifiers.{IsView, IsTxn}
 use Rattle.vp_base.specs.Calls.{IsNumbered, IsCall}
 use Rattle.vp_bytes.specs.Fields.{IsSite, IsRecord, IsSites, IsRecs, IsAscending, IsCallNumber}
-use Rattle.vp_model.specs.Types.{ViewId, TxnId, Op, Answer, Call, Pending, Live, Ending}
+use Rattle.vp_model.specs.Types.{ViewId, TxnId, Answer, Call, Pending, Live, Ending}
 use Rattle.vp_base.specs.declared.site.Ending.TheVariants.{Committed, Aborted, LockHeld, ViewChanged, TimedOut, Inaccessible}
 use Rattle.vp_model.specs.Types.call
 use Rattle.vp_model.specs.Types.op

@@ -12,7 +12,7 @@ use Rattle.vp_contents.specs.Changes.{IsPut, Alters, IsChange, IsAscendingWrites
 use Rattle.vp_contents.specs.declared.version.Version.TheVariants as versions
 use Rattle.vp_model.specs.Types.{Change, Op, Commit}
 use Rattle.vp_model.specs.Types.op
-use Rattle.vp_model.specs.Words.{put, put_number, put_at, value_at, for_each, is_empty, keys}
+use Rattle.vp_model.specs.Words.{put, put_number, put_at, value_at, for_each, is_empty}
 use Rattle.vp_model.specs.Catalogue.{Table}
 use Rattle.vp_model.specs.Transactions.{with_op, last_writes, last_put, change_of, last_changes}
 use Rattle.vp_laws.specs.Shapes.{IsOp, IsGiven}

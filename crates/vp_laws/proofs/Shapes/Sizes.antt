@@ -1,6 +1,6 @@
 -- How long the fields of a Prepare are: its changes have the values that the transaction last wrote and the tables that it gave, each
 -- once.
-use Rattle.std.proofs.Common.{◌≡◌, ◌≤◌, ◌∙◌, ap, sym, subst, ℕ, suc, ◌+◌, ◌*◌, Bool, true, false, cond, List, [], ◌∷◌, ◌++◌, map, refl, arith, length}
+use Rattle.std.proofs.Common.{◌≡◌, ◌≤◌, ◌∙◌, ap, sym, subst, ℕ, ◌+◌, ◌*◌, Bool, true, false, cond, List, [], ◌∷◌, map, refl, arith, length}
 use Rattle.std.specs.Prelude.{Option, Some, None, option_map, filter, flat_map, find, sum_by, nat_lt, ◌==◌}
 use Rattle.std.specs.Option.{option_map_or}
 use Rattle.std.specs.List.{AllByRecursion}
@@ -8,11 +8,10 @@ use Rattle.std.proofs.lemmas.Bool.{eqb-true}
 use Rattle.std.proofs.lemmas.List.{length-append}
 use Rattle.std.proofs.lemmas.List.Sums.{sum_by-cons}
 use Rattle.vp_bytes.specs.Fields.{number_bytes}
-use Rattle.vp_contents.specs.Tables.{weight_bytes, table_bytes, maybe_table_bytes, IsTable, IsMaybeTable}
-use Rattle.vp_contents.specs.Values.{value_bytes}
-use Rattle.vp_contents.specs.Changes.{put_bytes, change_bytes, write_bytes, writes_bytes, IsChange}
+use Rattle.vp_contents.specs.Tables.{weight_bytes, maybe_table_bytes, IsMaybeTable}
+use Rattle.vp_contents.specs.Changes.{put_bytes, write_bytes, writes_bytes}
 use Rattle.vp_contents.specs.declared.version.Version.TheVariants as versions
-use Rattle.vp_model.specs.Types.{Put, Change, Op, Commit, Live}
+use Rattle.vp_model.specs.Types.{Put, Change, Commit, Live}
 use Rattle.vp_model.specs.Types.puts
 use Rattle.vp_model.specs.Words.{put_at, value_at, for_each, keys}
 use Rattle.vp_model.specs.Catalogue.{Table}
@@ -20,11 +19,11 @@ use Rattle.vp_model.specs.Transactions.{last_writes, last_put, change_of, last_c
 use Rattle.vp_model.specs.Calls.{content_size, size_of}
 use Rattle.vp_laws.specs.Shapes.{IsOp, IsGiven}
 use Rattle.vp_laws.proofs.Lists.Keeps.{by_test}
-use Rattle.vp_laws.proofs.Lists.Members.{Has, has_none, has_first, has_more, map_has, all_of}
-use Rattle.vp_laws.proofs.Lists.Items.{all_at, all_put, all_filter}
+use Rattle.vp_laws.proofs.Lists.Members.{Has, has_first, has_more}
+use Rattle.vp_laws.proofs.Lists.Items.{all_put, all_filter}
 use Rattle.vp_laws.proofs.Lists.Pairs.{Differ}
 use Rattle.vp_laws.proofs.Journal.LastChanges.{changes_differ}
-use Rattle.vp_laws.proofs.Shapes.Numbers.{IsWritten, length_filter, each_change}
+use Rattle.vp_laws.proofs.Shapes.Numbers.{IsWritten, each_change}
 
 -- ---- sums
 

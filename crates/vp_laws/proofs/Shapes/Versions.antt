@@ -5,7 +5,7 @@ use Rattle.std.specs.List.{AllByRecursion}
 use Rattle.vp_contents.specs.Values.{most_length, IsValueIn}
 use Rattle.vp_contents.specs.Contents.{IsContent}
 use Rattle.vp_contents.specs.Tables.{IsMaybeTable}
-use Rattle.vp_contents.specs.Changes.{IsPut, Alters, IsChange, IsAscendingWrites, IsWrites}
+use Rattle.vp_contents.specs.Changes.{IsPut, IsChange, IsAscendingWrites, IsWrites}
 use Rattle.vp_contents.specs.Copies.{IsStored, IsCopy}
 use Rattle.vp_contents.specs.Doubts.{IsDoubt}
 use Rattle.vp_contents.specs.declared.version.Version.TheVariants as versions

@@ -19,7 +19,7 @@ use Rattle.vp_model.specs.Views.{drop_view, start_inviting, hold}
 use Rattle.vp_model.specs.Calls.{start_txn, take_lock, read_at, write_at, prepare_parts}
 use Rattle.vp_model.specs.Messages.{holds_view, with_answer, accept, on_accept, on_stale, grant, end_here}
 use Rattle.vp_model.specs.Step.{fix, mark_calls, ask_again, resend_one, inquire}
-use Rattle.vp_laws.proofs.Lists.Members.{Has, has_none, has_one, has_one_is, has_first, has_more, has_cons, map_has, filter_has, find_has, find_true, any_false, both_true, has_test}
+use Rattle.vp_laws.proofs.Lists.Members.{Has, has_none, has_one, has_one_is, has_cons, map_has, filter_has, find_has, find_true, any_false, both_true, has_test}
 use Rattle.vp_model.proofs.SameTxn.{same_txn-is, same_txn-clash}
 use Rattle.vp_laws.proofs.Lists.Changes.{put_has}
 use Rattle.vp_laws.proofs.Lists.Views.{AtMost, AtMost-refl, AtMost-trans, Precedes-at_most, from_before, is_view_is}

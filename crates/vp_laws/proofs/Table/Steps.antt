@@ -1,7 +1,7 @@
 -- Where each live transaction, each request and each entry of a step comes from.
 use Rattle.std.proofs.Common.{◌≡◌, ◌≢◌, ◌∙◌, ap, sym, subst, ℕ, Bool, true, false, List, [], ◌∷◌, ◌++◌, map, refl, ⊎_elim, append-nil}
-use Rattle.std.specs.Prelude.{Option, Some, None}
-use Rattle.vp_model.specs.Types.{TxnId, View, Sent, Commit, Input, Effects, Op, Answer, Pending, Live, Ending, Message}
+use Rattle.std.specs.Prelude.{Some, None}
+use Rattle.vp_model.specs.Types.{TxnId, View, Sent, Commit, Input, Effects, Pending, Live, Ending, Message}
 use Rattle.vp_base.specs.declared.site.Ending.TheVariants.{Committed}
 use Rattle.vp_model.specs.Types.input
 use Rattle.vp_model.specs.Types.message

@@ -3,7 +3,7 @@
 use Rattle.std.proofs.Common.{◌≡◌, ◌≢◌, ◌∙◌, ap, sym, subst, ℕ, ◌+◌, true, false, List, [], ◌∷◌, ◌++◌, map, length, ⊎_elim}
 use Rattle.std.specs.Prelude.{Some, None}
 use Rattle.vp_model.specs.Transactions.{deed_answer, Deed}
-use Rattle.vp_model.specs.Types.{TxnId, Op, Call, Answer, Event, Input, Line, Reply, Pending, Live}
+use Rattle.vp_model.specs.Types.{TxnId, Call, Answer, Event, Input, Line, Reply, Pending, Live}
 use Rattle.vp_model.specs.Catalogue.{Catalogue, start_copies}
 use Rattle.vp_model.specs.Durable.{empty_durable}
 use Rattle.vp_model.specs.Site.{SiteState, Lent}

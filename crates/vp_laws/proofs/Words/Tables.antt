@@ -1,16 +1,15 @@
 -- A copy that may be read has the table that the journal leaves its record.
-use Rattle.std.proofs.Common.{◌≡◌, ◌∙◌, ap, ℕ, true, List, [], ◌∷◌, refl}
+use Rattle.std.proofs.Common.{◌≡◌, ◌∙◌, ap, ℕ, List, [], ◌∷◌, refl}
 use Rattle.std.specs.Prelude.{Option, Some, None, option_map, slice_get, fold, not}
 use Rattle.std.specs.List.{Contains, list_any}
-use Rattle.vp_model.specs.Types.{Commit, View, Stored}
+use Rattle.vp_model.specs.Types.{Commit}
 use Rattle.vp_model.specs.Catalogue.{Catalogue, Table, start_values}
-use Rattle.vp_model.specs.Site.{SiteState}
 use Rattle.vp_model.specs.Refresh.{is_open}
 use Rattle.vp_model.specs.OneCopy.{order}
 use Rattle.vp_model.specs.Headline.{is_locked}
 use Rattle.vp_model.specs.World.{WorldState, Moment, Schedule, moments_of}
 use Rattle.vp_laws.specs.Tables.{table_by, table_after, CopiesHaveTables}
-use Rattle.vp_laws.proofs.Lists.Members.{Has, has_of, both_true, not_true}
+use Rattle.vp_laws.proofs.Lists.Members.{has_of, both_true, not_true}
 use Rattle.vp_laws.proofs.Journal.UpTo.{upto}
 use Rattle.vp_laws.proofs.Journal.ValuesAfter.{Content, content_of, started, writes_over, value_in, value_up_to}
 use Rattle.vp_laws.proofs.Journal.LastChanges.{act_table}
