@@ -1,11 +1,11 @@
-use Rattle.std.proofs.Common.{◌∙◌, map, ap}
+use Rattle.std.proofs.Common.{◌∙◌, Some, map, ap}
 use Rattle.std.proofs.lemmas.List.{take_all}
 use Rattle.std.proofs.lemmas.Result.{err_from_is_err_and}
 use Rattle.vp_catalog.proofs.Onward.{read_more}
 use Rattle.vp_catalog.proofs.catalog.Catalog.start_values.Goals as goal
 
 pub loop-placed-preserved : goal.loop-placed-preserved
-loop-placed-preserved c = read_more (λ entry. entry.start) c.records-placed-items.result.now c.loop-placed.placed-index c.placed-item.result _ _ c.loop-placed-test.true c.placed-item.is c.loop-placed.invariant (rw (c.in_ok-copy_of.ensures, c.start.ensures) at c.in_ok-push.ensures.items)
+loop-placed-preserved c = read_more (λ entry. Some entry.start) c.records-placed-items.result.now c.loop-placed.placed-index c.placed-item.result _ _ c.loop-placed-test.true c.placed-item.is c.loop-placed.invariant (rw (c.in_ok-copy_of.ensures, c.start.ensures) at c.in_ok-push.ensures.items)
 
 pub returns-in_err-copy_of : goal.returns-in_err-copy_of
 returns-in_err-copy_of c =
@@ -18,4 +18,4 @@ returns-in_err-push c =
     rw p.1 tt
 
 pub returns : goal.returns
-returns c = (rw (take_all c.loop-placed.placed-index c.records-placed-items.result.now c.loop-placed-test.false) at c.loop-placed.invariant) ∙ ap (map (λ entry. entry.start)) c.records-placed-items.ensures
+returns c = (rw (take_all c.loop-placed.placed-index c.records-placed-items.result.now c.loop-placed-test.false) at c.loop-placed.invariant) ∙ ap (map (λ entry. Some entry.start)) c.records-placed-items.ensures

@@ -1,21 +1,32 @@
-//! Writing: a record that the transaction has written before needs no more locks; else the copy here is locked, and the other
-//! holders in the view are asked for their locks.
+//! Writing, deleting and weighing: a record that the transaction has changed before needs no more locks; else the copy here is
+//! locked, and the other holders in the view are asked for their locks.
 
 ghost use Rattle.std.specs.Prelude.{◌≡◌, OnOk, option_copied, true, false};
 ghost use Rattle.vp_base.specs.declared.message.Message.TheVariants as message;
 ghost use Rattle.vp_model.specs.Words.{put_number, is_empty, for_each};
 ghost use Rattle.vp_model.specs.Site.{with_messages};
-ghost use Rattle.vp_model.specs.Calls.{with_record, lock_here, answer_write, write_at, write_elsewhere, write};
+ghost use Rattle.vp_model.specs.Transactions.{complete};
+ghost use Rattle.vp_model.specs.Calls.{new_change, lock_here, write_at, change_elsewhere, change};
 ghost use Rattle.vp_transactions.specs.Waiting.{waits};
 ghost use Rattle.vp_coordinator.specs.InPlace.{in_place};
+ghost use Rattle.vp_coordinator.specs.Deeds.{as_deed, deed_asked};
 
 use crate::around::Around;
 use crate::coordinator::Coordinator;
-use crate::records::{NamedValue, usable_record, wrote};
-use vp_base::{Effects, Message, Name, NoMemory, RecId, SiteId, Sites, Value};
+use crate::deeds::deed_asked;
+use crate::records::{has_changed, usable_record};
+use vp_base::{Call, Effects, Message, Name, NoMemory, RecId, SiteId, Sites};
 use vp_lists::put_in;
 use vp_locks::LockFault;
 use vp_transactions::Handled;
+
+/// What a call asks to change: a record, by name and by place.
+#[derive(Clone, Copy)]
+struct Wanted<'a> {
+    name: &'a Name,
+    rec: RecId,
+    call: &'a Call,
+}
 
 #[tactic(auto, unfolding(vp_model::specs::Calls::write_at), using(crate::proofs::Operations::waits_in_place))]
 fn write_at(
@@ -34,87 +45,99 @@ fn write_at(
     lent.wait_for(handled, sites)
 }
 
-#[tactic(auto, unfolding(vp_model::specs::Calls::write_elsewhere))]
-fn write_elsewhere(
+/// Answers the call, which needs no more locks.
+fn complete_change(
+    lent: &mut Coordinator,
+    handled: &mut Handled,
+    wanted: &Wanted<'_>,
+) -> Result<(), NoMemory>
+    ensures { OnOk result (lent.new ≡
+        complete handled.old.live handled.old.pending (deed_asked wanted.now.call.now wanted.now.rec) (in_place handled.old.live lent.old)) }
+{
+    let deed = deed_asked(wanted.call, wanted.rec)?;
+    lent.complete(handled, deed)
+}
+
+#[tactic(auto, unfolding(vp_model::specs::Calls::change_elsewhere))]
+fn change_elsewhere(
     lent: &mut Coordinator,
     at: &Around<'_, '_>,
     handled: &mut Handled,
-    wanted: &NamedValue<'_>,
+    wanted: &Wanted<'_>,
 ) -> Result<(), NoMemory>
     ensures { OnOk result (lent.new ≡
-        write_elsewhere at.now.catalog.now at.now.id (option_copied at.now.held) handled.old.live handled.old.pending wanted.now.rec wanted.now.value.now
+        change_elsewhere at.now.catalog.now at.now.id (option_copied at.now.held) handled.old.live handled.old.pending wanted.now.rec (deed_asked wanted.now.call.now wanted.now.rec)
         (in_place handled.old.live lent.old)) }
 {
     let asked = at.catalog.other_holders(at.id, at.held, wanted.rec)?;
     if asked.as_slice().is_empty() {
-        lent.answer_write(handled, wanted.rec, wanted.value)
+        complete_change(lent, handled, wanted)
     } else {
         write_at(lent, at.id, handled, wanted.rec, asked)
     }
 }
 
-/// Locks the copy here, and then writes the record.
+/// Locks the copy here, and then changes the record.
 #[tactic(auto, unfolding(vp_model::specs::Calls::lock_here, vp_model::specs::Calls::take_lock))]
-fn write_here(
+fn change_here(
     lent: &mut Coordinator,
     at: &Around<'_, '_>,
     handled: &mut Handled,
-    wanted: &NamedValue<'_>,
+    wanted: &Wanted<'_>,
 ) -> Result<(), NoMemory>
     ensures { OnOk result (lent.new ≡
         lock_here at.now.id handled.old.live handled.old.pending wanted.now.name.now wanted.now.rec true
-        (write_elsewhere at.now.catalog.now at.now.id (option_copied at.now.held) handled.old.live handled.old.pending wanted.now.rec wanted.now.value.now)
+        (change_elsewhere at.now.catalog.now at.now.id (option_copied at.now.held) handled.old.live handled.old.pending wanted.now.rec (deed_asked wanted.now.call.now wanted.now.rec))
         (in_place handled.old.live lent.old)) }
 {
     match lent.here.locks.take_exclusive(wanted.rec, handled.txn()) {
-        Ok(()) => write_elsewhere(lent, at, handled, wanted),
+        Ok(()) => change_elsewhere(lent, at, handled, wanted),
         Err(LockFault::Held { owner }) => lent.close_blocked(at.id, handled, wanted.name, owner),
         Err(LockFault::NoMemory) => Err(NoMemory),
     }
 }
 
-#[tactic(auto, unfolding(vp_model::specs::Calls::write), using(crate::proofs::Presence::by_presence))]
-fn write(
+#[tactic(auto, unfolding(vp_model::specs::Calls::change), using(crate::proofs::Presence::by_presence))]
+fn change(
     lent: &mut Coordinator,
     at: &Around<'_, '_>,
     handled: &mut Handled,
-    wanted: &NamedValue<'_>,
+    wanted: &Wanted<'_>,
 ) -> Result<(), NoMemory>
     ensures { OnOk result (lent.new ≡
-        write at.now.catalog.now at.now.id (option_copied at.now.held) handled.old.live handled.old.pending wanted.now.name.now wanted.now.value.now wanted.now.rec
+        change at.now.catalog.now at.now.id (option_copied at.now.held) handled.old.live handled.old.pending wanted.now.name.now (deed_asked wanted.now.call.now) wanted.now.rec
         (in_place handled.old.live lent.old)) }
 {
-    if wrote(&handled.live, wanted.rec) {
-        lent.answer_write(handled, wanted.rec, wanted.value)
+    if has_changed(&handled.live, wanted.rec) {
+        complete_change(lent, handled, wanted)
     } else if lent.here.copies.has(wanted.rec) {
-        write_here(lent, at, handled, wanted)
+        change_here(lent, at, handled, wanted)
     } else {
-        write_elsewhere(lent, at, handled, wanted)
+        change_elsewhere(lent, at, handled, wanted)
     }
 }
 
-/// Writes the record of this name.
-#[tactic(auto, using(crate::proofs::Operations::record_first))]
-pub fn write_named(
+/// Changes the record of this name as the call asks.
+#[tactic(auto, unfolding(vp_model::specs::Calls::new_change), using(crate::proofs::Operations::record_first))]
+pub fn change_named(
     lent: &mut Coordinator,
     at: &Around<'_, '_>,
     handled: &mut Handled,
     name: &Name,
-    value: &Value,
+    call: &Call,
 ) -> Result<(), NoMemory>
     requires { waits handled.old.live ≡ true }
     ensures { OnOk result (lent.new ≡
-        with_record at.now.catalog.now (option_copied at.now.held) handled.old.live handled.old.pending name.now
-        (write at.now.catalog.now at.now.id (option_copied at.now.held) handled.old.live handled.old.pending name.now value.now)
+        new_change at.now.catalog.now at.now.id (option_copied at.now.held) handled.old.live handled.old.pending name.now (deed_asked call.now)
         (in_place handled.old.live lent.old)) }
 {
-    match usable_record(at, handled, name)? {
-        Ok(rec) => write(lent, at, handled, &NamedValue { name, rec, value }),
+    match usable_record(at, handled, name, call)? {
+        Ok(rec) => change(lent, at, handled, &Wanted { name, rec, call }),
         Err(answer) => lent.refuse(handled, answer),
     }
 }
 
-/// Asks the sites to lock the record for the write.
+/// Asks the sites to lock the record for the change.
 fn ask_to_write(
     id: SiteId,
     handled: &Handled,

@@ -1,7 +1,7 @@
 use Rattle.std.proofs.Common.{◌≡◌, ◌≤◌, take}
 use Rattle.std.specs.Prelude.{◌*◌}
 use Rattle.vp_model.specs.Catalogue.{weight_inside}
-use Rattle.vp_catalog.proofs.placed.weight_at.Given as goal
+use Rattle.vp_catalog.proofs.placed.weight_inside.Given as goal
 
 abbrev pub invariant-loop-weight : goal.invariant-loop-weight
 invariant-loop-weight l = record {

@@ -1,6 +1,6 @@
 use Rattle.std.proofs.Common.{◌≡◌, ◌≤◌, take}
 use Rattle.std.specs.Prelude.{◌*◌, sum_by}
-use Rattle.vp_catalog.proofs.placed.weight_of.Given as goal
+use Rattle.vp_catalog.proofs.placed.weight_total.Given as goal
 
 abbrev pub invariant-loop-weight : goal.invariant-loop-weight
 invariant-loop-weight l = record {
