@@ -6,6 +6,8 @@ use vp_base::{Answer, Call, CopyOf, Message, NoMemory};
 /// to 0, and everything else from 0 to a site.
 #[derive(Drop)]
 pub struct Frame {
+    /// 1 or 2: how the body is spelled. Frames of version 2 are sent, and both are read.
+    pub version: u8,
     pub from: u8,
     pub to: u8,
     pub body: Body,
@@ -31,6 +33,7 @@ pub enum Body {
 impl CopyOf for Frame {
     fn copy_of(&self) -> Result<Frame, NoMemory> {
         Ok(Frame {
+            version: self.version,
             from: self.from,
             to: self.to,
             body: self.body.copy_of()?,
