@@ -6,7 +6,7 @@ ghost use Rattle.vp_model.specs.Refresh.{members_in, other_holders_in};
 ghost use Rattle.vp_catalog.specs.Entries.{IsSite, IsRecord, last_site, has_port, has_name};
 ghost use Rattle.vp_catalog.specs.Adding.{IsAllowed, Adds};
 ghost use Rattle.vp_catalog.specs.Document.{IsCatalogueSoFar};
-ghost use Rattle.vp_model.specs.Catalogue.{sites_of, find_record, weights_of, holders, has_holders, inside, total, accessible, weight, start_values, start_copies, copies_from};
+ghost use Rattle.vp_model.specs.Catalogue.{sites_of, find_record, weights_of, holders, has_holders, inside, total, accessible, weight, start_copies, copies_from};
 
 use crate::entry::Entry;
 use crate::fault::CatalogFault;
@@ -353,13 +353,13 @@ impl Catalog {
         Ok(names)
     }
 
-    /// The contents that the records start with, in their order: each is a value.
-    pub fn start_values(&self) -> Result<Vec<Option<Value>>, NoMemory>
-        ensures { IfOk result (λ values. values.items ≡ start_values self.now) }
+    /// Copies the values that the records start with, in their order.
+    pub fn starts(&self) -> Result<Vec<Value>, NoMemory>
+        ensures { IfOk result (λ values. values.items ≡ map (λ entry. entry.start) self.now.records) }
     {
         let mut values = Vec::new(*self.records.allocator());
         for placed in self.records() {
-            values.push(Some(placed.start().copy_of()?))?;
+            values.push(placed.start().copy_of()?)?;
         }
         Ok(values)
     }

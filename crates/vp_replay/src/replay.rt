@@ -11,7 +11,7 @@ use std::alloc::Global;
 use vp_base::{Commits, NoMemory};
 use vp_catalog::Catalog;
 use vp_cluster::run;
-use vp_onecopy::{History, Map, order, print_history};
+use vp_onecopy::{History, order, print_history};
 use vp_schedule::{Schedule, ScheduleFault, read};
 use vp_status::{RunOutput, Status, print_bad_line, print_limit, print_twice};
 use vp_world::WorldEnd;
@@ -99,11 +99,11 @@ fn print_end(
     out: &mut Vec<u8>,
 ) -> Result<(), NoMemory>
     ensures { OnOk result (out.new.items ≡ out.old.items
-        ++ history_lines (map (λ entry. entry.name) catalog.now.records) (start_values catalog.now) (order journal.now)) }
+        ++ history_lines (map (λ entry. entry.name) catalog.now.records) (map (λ entry. entry.start) catalog.now.records) (order journal.now)) }
 {
     let history = History {
         names: catalog.names()?,
-        start: Map::from_vec(catalog.start_values()?),
+        start: Seq::from_vec(catalog.starts()?),
         commits: order(alloc, journal.as_slice())?,
     };
     print_history(&history, out)

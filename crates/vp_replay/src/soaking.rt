@@ -50,7 +50,7 @@ fn serial_commits(alloc: Global, world: &World) -> Result<usize, NoMemory>
     requires serial { IsSome (serial (start_values world.now.catalogue) (order world.now.world.journal)) }
     ensures { IfOk result (λ count. count ≡ length (order world.now.world.journal)) }
 {
-    let start = Map::from_vec(world.catalog().start_values()?);
+    let start = Map::starting(alloc, &world.catalog().starts()?)?;
     let commits = order(alloc, world.journal().as_slice())?;
     match check(&start, commits.as_slice())? {
         Verdict::Serial { .. } => Ok(commits.as_slice().len()),
@@ -74,6 +74,9 @@ fn is_refusal(answer: &Answer) -> bool
         Answer::Begun { .. }
         | Answer::Value { .. }
         | Answer::Written { .. }
+        | Answer::Absent { .. }
+        | Answer::Deleted { .. }
+        | Answer::Weighed { .. }
         | Answer::Committed { .. }
         | Answer::Aborted { .. }
         | Answer::Inviting { .. } => false,
@@ -82,6 +85,7 @@ fn is_refusal(answer: &Answer) -> bool
         | Answer::Skipped { .. }
         | Answer::Busy { .. }
         | Answer::NoRecord { .. }
+        | Answer::BadTable { .. }
         | Answer::TooManyOps { .. }
         | Answer::Inaccessible { .. }
         | Answer::LockHeld { .. }
