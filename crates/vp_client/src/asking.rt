@@ -97,6 +97,7 @@ fn send_call<L: Link>(
         result }
 {
     let frame = Frame {
+        version: 2,
         from: 0,
         to: site.get(),
         body: Body::Call(call.copy_of()?),

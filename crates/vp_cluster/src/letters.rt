@@ -27,6 +27,7 @@ pub fn to_site(catalog: &Catalog, site: SiteId, body: Body) -> Result<Option<Let
         return Ok(None);
     };
     let frame = Frame {
+        version: 2,
         from: 0,
         to: site.get(),
         body,

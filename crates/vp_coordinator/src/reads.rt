@@ -62,36 +62,20 @@ fn read_there(
     }
 }
 
-/// The content of the copy here of a record, which is given by name and by place.
-struct HereContent<'a> {
-    name: &'a Name,
-    rec: RecId,
-    content: Option<Value>,
-}
-
-impl Drop for HereContent<'_> {
-    fn drop(self) {
-        let HereContent {
-            name: _,
-            rec: _,
-            content: _,
-        } = self;
-    }
-}
-
 /// Locks the copy here and reads it.
 #[tactic(auto, unfolding(vp_model::specs::Calls::lock_here, vp_model::specs::Calls::take_lock))]
 fn read_here(
     lent: &mut Coordinator,
     id: SiteId,
     handled: &mut Handled,
-    found: HereContent<'_>,
+    name: &Name,
+    rec: RecId,
+    content: Option<Value>,
 ) -> Result<(), NoMemory>
     ensures { OnOk result (lent.new ≡
-        lock_here id handled.old.live handled.old.pending found.name.now found.rec false (answer_read handled.old.live handled.old.pending found.rec found.content)
+        lock_here id handled.old.live handled.old.pending name.now rec false (answer_read handled.old.live handled.old.pending rec content)
         (in_place handled.old.live lent.old)) }
 {
-    let HereContent { name, rec, content } = found;
     match lent.here.locks.take_shared(rec, handled.txn()) {
         Ok(()) => lent.answer_read(handled, rec, content),
         Err(LockFault::Held { owner }) => lent.close_blocked(id, handled, name, owner),
@@ -115,10 +99,7 @@ fn read(
     match own_write(&handled.live, rec)? {
         Some(content) => lent.answer_read(handled, rec, content),
         None => match copy_here(&lent.here, rec)? {
-            Some(stored) => {
-                let content = stored.into_value();
-                read_here(lent, at.id, handled, HereContent { name, rec, content })
-            }
+            Some(stored) => read_here(lent, at.id, handled, name, rec, stored.into_value()),
             None => read_there(lent, at, handled, rec),
         },
     }

@@ -8,7 +8,7 @@ ghost use Rattle.vp_schedule.specs.Document.{IsSchedule};
 ghost use Rattle.vp_replay.specs.Replayed.{IsReplayAnswer, Gives, StopsAt, Tells};
 
 use std::alloc::Global;
-use vp_base::{Commits, NoMemory};
+use vp_base::{Commits, NoMemory, Seq};
 use vp_catalog::Catalog;
 use vp_cluster::run;
 use vp_onecopy::{History, order, print_history};

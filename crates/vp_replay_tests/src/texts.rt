@@ -1,7 +1,7 @@
 //! Worked schedules, and the texts of what stopped runs become.
 
 use std::alloc::Global;
-use vp_base::{Commits, NoMemory};
+use vp_base::{Commits, NoMemory, Seq};
 use vp_catalog::Catalog;
 use vp_onecopy::{History, order, print_history};
 use vp_schedule::{Schedule, print};

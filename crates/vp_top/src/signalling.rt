@@ -60,6 +60,7 @@ fn send<L: Link>(
         (L.state link.new) result }
 {
     let frame = Frame {
+        version: 2,
         from: 0,
         to: site.get(),
         body: body_of(signal),
