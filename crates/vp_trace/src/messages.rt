@@ -304,7 +304,8 @@ fn print_refreshed(
     ensures { Appends result out.old.items
         (word.now ++ (view_text view.now ++ 32 ∷ name_of catalog.now rec)) out.new.items }
 {
-    print_view(out, word, view)?;
+    print_word(out, word)?;
+    view.print(out)?;
     print_record_after(out, catalog, rec)
 }
 
@@ -339,7 +340,6 @@ fn print_content(
     }
 }
 
-#[tactic(auto, using(crate::proofs::Printed::copy_parts))]
 fn print_refresh_answer(
     out: &mut Vec<u8>,
     catalog: &Catalog,
