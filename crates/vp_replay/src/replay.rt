@@ -1,7 +1,6 @@
 //! Replaying a schedule: its trace and its journal.
 
 ghost use Rattle.std.specs.Prelude.{◌≡◌, ◌++◌, IfOk, OnOk, map};
-ghost use Rattle.vp_model.specs.Catalogue.{start_values};
 ghost use Rattle.vp_model.specs.OneCopy.{order};
 ghost use Rattle.vp_model.specs.Texts.History.{history_lines};
 ghost use Rattle.vp_schedule.specs.Document.{IsSchedule};

@@ -44,6 +44,7 @@ pub fn soaked(alloc: Global, seed: u32, count: u32) -> Result<RunOutput, NoMemor
 }
 
 /// Counts the transactions that the run committed, which the check finds serial.
+#[tactic(auto, using(crate::proofs::Contents::contents_start))]
 fn serial_commits(alloc: Global, world: &World) -> Result<usize, NoMemory>
     requires within { CommitsWithin (length (start_values world.now.catalogue))
         (order world.now.world.journal) }
