@@ -107,10 +107,10 @@ impl SiteCopies {
         if !self.ascending {
             return change_at(&mut self.copies, rec, date, change);
         }
-        match self.place_of(rec) {
-            None => Ok(()),
-            Some(place) => change_copy(&mut self.copies[place].1, date, change),
+        if let Some(place) = self.place_of(rec) {
+            change_copy(&mut self.copies[place].1, date, change)?;
         }
+        Ok(())
     }
 
     /// Stores what a transaction of the view `date` changed. A record without a copy is passed over. After want of memory the copies

@@ -171,6 +171,7 @@ fn last_write<'a>(ops: &'a [Op], rec: RecId) -> Option<&'a Option<Value>>
 }
 
 /// Whether the transaction has changed the record.
+#[tactic(auto, using(crate::proofs::HasChanged::changed_there))]
 pub fn has_changed(t: &Live, rec: RecId) -> bool
     ensures { result ≡ is_some (value_at rec (last_changes (entry_of t.now))) }
 {

@@ -164,6 +164,7 @@ fn commits(rt: &impl Abort, alloc: Global) -> Commits {
         txn: txn(),
         view: OPENING,
         ops: Ops::new(alloc),
+        tables: Tables::new(alloc),
     };
     only(rt, alloc, commit)
 }
