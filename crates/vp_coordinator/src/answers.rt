@@ -37,11 +37,7 @@ fn wanted_read(catalog: &Catalog, number: CallNo, p: &Pending) -> Option<RecId>
 }
 
 /// What the pending call asks to change, where it has this number.
-fn wanted_change(
-    catalog: &Catalog,
-    number: CallNo,
-    p: &Pending,
-) -> Result<Option<Deed>, NoMemory>
+fn wanted_change(catalog: &Catalog, number: CallNo, p: &Pending) -> Result<Option<Deed>, NoMemory>
     ensures { IfOk result (λ wanted. option_map as_deed wanted ≡ wanted_change catalog.now number p.now) }
 {
     if p.number == number {

@@ -86,7 +86,8 @@ pub fn deed_answer(txn: TxnId, number: CallNo, deed: &Deed) -> Result<Answer, No
         Deed::Operates { operation } => match operation {
             Op::Read { value: None, .. } => Answer::Absent { txn, number },
             Op::Read {
-                value: Some(value), ..
+                value: Some(value),
+                ..
             } => Answer::Value {
                 txn,
                 number,

@@ -96,7 +96,10 @@ pub fn last_changes(alloc: Global, t: &Live) -> Result<Writes, NoMemory>
     let tables = t.tables.as_slice();
     let mut changes = written_changes(alloc, &contents, tables)?;
     for given in tables {
-        put(&mut changes, (given.0, change_of(given.0, &contents, tables)?))?;
+        put(
+            &mut changes,
+            (given.0, change_of(given.0, &contents, tables)?),
+        )?;
     }
     Ok(Writes::from_vec(changes))
 }

@@ -63,12 +63,7 @@ fn print_access(
 }
 
 #[tactic(auto, using(vp_text::proofs::Printing::printing))]
-fn print_absent(
-    key: &[u8],
-    names: &[Name],
-    rec: RecId,
-    out: &mut Vec<u8>,
-) -> Result<(), NoMemory>
+fn print_absent(key: &[u8], names: &[Name], rec: RecId, out: &mut Vec<u8>) -> Result<(), NoMemory>
     ensures { Appends result out.old.items (key.now ++ slice_index_or names.now rec []) out.new.items }
 {
     out.extend_from_slice(key)?;

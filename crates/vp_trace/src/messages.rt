@@ -170,12 +170,7 @@ fn print_put_absent(out: &mut Vec<u8>, catalog: &Catalog, rec: RecId) -> Result<
 
 /// Appends what a change makes of the content of the record: nothing where it keeps it.
 #[tactic(auto, using(vp_text::proofs::Printing::printing))]
-fn print_put(
-    out: &mut Vec<u8>,
-    catalog: &Catalog,
-    rec: RecId,
-    put: &Put,
-) -> Result<(), NoMemory>
+fn print_put(out: &mut Vec<u8>, catalog: &Catalog, rec: RecId, put: &Put) -> Result<(), NoMemory>
     ensures { Appends result out.old.items (put_text catalog.now rec put.now) out.new.items }
 {
     match put {
