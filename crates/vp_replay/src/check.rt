@@ -94,11 +94,7 @@ fn print_serial(
     print_values(names, values, out)
 }
 
-fn print_values(
-    names: &[Name],
-    values: &[Option<Value>],
-    out: &mut Vec<u8>,
-) -> Result<(), NoMemory>
+fn print_values(names: &[Name], values: &[Option<Value>], out: &mut Vec<u8>) -> Result<(), NoMemory>
     ensures { OnOk result (out.new.items ≡ out.old.items ++ values_text names.now values.now) }
 {
     for (name, value) in names.iter().zip(values.iter()) {
@@ -167,11 +163,7 @@ fn print_place(txn: &TxnId, place: usize, out: &mut Vec<u8>) -> Result<(), NoMem
     Ok(())
 }
 
-fn print_kept(
-    kept: &Option<Value>,
-    read: &Option<Value>,
-    out: &mut Vec<u8>,
-) -> Result<(), NoMemory>
+fn print_kept(kept: &Option<Value>, read: &Option<Value>, out: &mut Vec<u8>) -> Result<(), NoMemory>
     ensures { OnOk result
         (out.new.items ≡ out.old.items ++
         (content_text (codes " kept ") (codes " absent") kept.now ++

@@ -51,8 +51,7 @@ impl Bench {
         };
         let done = match &message {
             Message::ReadAnswer { txn, number, value } => {
-                self.coordinator
-                    .on_read_answer(&came, txn, *number, value)
+                self.coordinator.on_read_answer(&came, txn, *number, value)
             }
             Message::WriteAnswer { txn, number } => self
                 .coordinator

@@ -98,11 +98,17 @@ fn journal(rt: &impl Abort, alloc: Global) -> Vec<Commit> {
     let ops = vec![in alloc; read(rt, alloc, 0, b"10"), write(rt, alloc, 0, b"11")].expect(
         rt, "memory",
     );
-    journal.push(commit(alloc, 1, opening, ops)).expect(rt, "memory");
+    journal
+        .push(commit(alloc, 1, opening, ops))
+        .expect(rt, "memory");
     let ops = vec![in alloc; read(rt, alloc, 0, b"11")].expect(rt, "memory");
-    journal.push(commit(alloc, 3, next, ops)).expect(rt, "memory");
+    journal
+        .push(commit(alloc, 3, next, ops))
+        .expect(rt, "memory");
     let ops = vec![in alloc; write(rt, alloc, 1, b"21")].expect(rt, "memory");
-    journal.push(commit(alloc, 2, opening, ops)).expect(rt, "memory");
+    journal
+        .push(commit(alloc, 2, opening, ops))
+        .expect(rt, "memory");
     journal
 }
 
@@ -198,7 +204,9 @@ fn is_difference(verdict: &Verdict) -> bool {
             rec,
             kept,
             read,
-        } => (txn.seq, *op, rec.get()) == (2, 1, 0) && has_value(kept, b"11") && has_value(read, b"10"),
+        } => (txn.seq, *op, rec.get()) == (2, 1, 0)
+            && has_value(kept, b"11")
+            && has_value(read, b"10"),
     }
 }
 
@@ -226,14 +234,17 @@ fn an_absent_record_is_read_and_written_again(rt: HostRuntime) {
     let history = read_history(rt.alloc(), lines).expect(&rt, "a history");
     let printed = printed(&rt, rt.alloc(), &history);
     assert_eq!(rt; printed.as_slice(), lines.as_slice());
-    assert!(rt; matches!(verdict(&rt, rt.alloc(), lines), Verdict::Serial { map } if has_value(&map.as_slice()[0], b"5")));
+    assert!(rt;
+        matches!(verdict(&rt, rt.alloc(), lines), Verdict::Serial { map } if has_value(&map.as_slice()[0], b"5"))
+    );
 }
 
 /// Whether a read of a value or of none differs from what is kept.
 fn is_absent_difference(verdict: &Verdict, is_kept: bool, is_read: bool) -> bool {
     match verdict {
         Verdict::Serial { .. } => false,
-        Verdict::Differs { kept, read, .. } => kept.is_some() == is_kept && read.is_some() == is_read,
+        Verdict::Differs { kept, read, .. } => kept.is_some() == is_kept
+            && read.is_some() == is_read,
     }
 }
 
