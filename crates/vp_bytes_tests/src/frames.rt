@@ -53,11 +53,7 @@ fn numbers_stand_with_their_highest_byte_first(rt: HostRuntime) {
 }
 
 /// The bytes of a copy of record 0 in a frame of the version, with this content.
-fn copy_bytes(
-    alloc: Global,
-    version: u8,
-    value: Option<Value>,
-) -> Result<BytesMut, NoMemory> {
+fn copy_bytes(alloc: Global, version: u8, value: Option<Value>) -> Result<BytesMut, NoMemory> {
     let mut out = BytesMut::new(alloc);
     let stored = Stored {
         value,
@@ -277,5 +273,7 @@ fn a_copy_is_the_same_frame(rt: HostRuntime) {
         body: Body::Tick,
     };
     let copy = tick.copy_of().expect(&rt, "memory");
-    assert!(rt; copy.version == 2 && copy.from == 0 && copy.to == 1 && matches!(copy.body, Body::Tick));
+    assert!(rt;
+        copy.version == 2 && copy.from == 0 && copy.to == 1 && matches!(copy.body, Body::Tick)
+    );
 }

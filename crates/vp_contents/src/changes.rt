@@ -74,11 +74,7 @@ fn read_write(
 
 /// Reads a change: in the first version a value, in the second a put and a table or none.
 #[tactic(auto, unfolding(crate::specs::Changes::change_at))]
-fn read_change(
-    alloc: Global,
-    cursor: &mut Cursor,
-    version: Version,
-) -> Result<Change, LineFault>
+fn read_change(alloc: Global, cursor: &mut Cursor, version: Version) -> Result<Change, LineFault>
     ensures { Tries (λ c. c) line_left result cursor.new (change_at version cursor.old) }
 {
     match version {

@@ -46,11 +46,7 @@ fn read_some_weights(alloc: Global, cursor: &mut Cursor, count: u8) -> Result<Ta
 
 /// Reads a site from `least` on that leaves room for the others after it, and its weight.
 #[tactic(auto, unfolding(crate::specs::Tables::weight_at))]
-fn read_weight(
-    cursor: &mut Cursor,
-    least: u8,
-    following: u8,
-) -> Result<(SiteId, u16), Unexpected>
+fn read_weight(cursor: &mut Cursor, least: u8, following: u8) -> Result<(SiteId, u16), Unexpected>
     requires least { 1 ≤ least }
     requires room { least + following ≤ 16 }
     ensures read { Reads (λ w. w) (λ e. e.left) result cursor.new (weight_at following least cursor.old) }

@@ -18,11 +18,7 @@ use vp_text::{Class, Cursor, Unexpected};
 
 /// Reads the length of a value and then the value.
 #[tactic(auto, unfolding(crate::specs::Values::value_at))]
-pub fn read_value(
-    alloc: Global,
-    cursor: &mut Cursor,
-    version: Version,
-) -> Result<Value, LineFault>
+pub fn read_value(alloc: Global, cursor: &mut Cursor, version: Version) -> Result<Value, LineFault>
     ensures { Tries (λ a. a) line_left result cursor.new (value_at version cursor.old) }
 {
     let count = read_length(cursor, version)?;

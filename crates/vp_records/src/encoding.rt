@@ -151,12 +151,7 @@ fn put_acked(out: &mut Vec<u8>, txn: &TxnId, site: SiteId) -> Result<(), NoMemor
 
 /// Appends what a checkpoint has before its lists.
 #[tactic(auto, using(vp_bytes::proofs::Writing::writing))]
-fn put_head(
-    out: &mut Vec<u8>,
-    generation: u64,
-    life: u32,
-    promise: &ViewId,
-) -> Result<(), NoMemory>
+fn put_head(out: &mut Vec<u8>, generation: u64, life: u32, promise: &ViewId) -> Result<(), NoMemory>
     ensures { Appends result out.old.items
         (number_bytes 8 generation ++ (number_bytes 4 life ++ view_bytes promise.now)) out.new.items }
 {

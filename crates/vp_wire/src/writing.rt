@@ -18,12 +18,12 @@ use crate::frame::{Body, Frame};
 use crate::kind::{FrameKind, MessageKind};
 use bytes::{BufMut, BytesMut};
 use vp_base::{
-    Answer, Boxed, CallNo, Change, Message, NoMemory, Obstacle, RecId, SiteId, Stored, TxnId, Value,
-    ViewId,
+    Answer, Boxed, CallNo, Change, Message, NoMemory, Obstacle, RecId, SiteId, Stored, TxnId,
+    Value, ViewId,
 };
 use vp_bytes::{
-    put_byte, put_maybe_view, put_numbered, put_outcome, put_owner, put_recs, put_request, put_sites,
-    put_txn, put_u32, put_view,
+    put_byte, put_maybe_view, put_numbered, put_outcome, put_owner, put_recs, put_request,
+    put_sites, put_txn, put_u32, put_view,
 };
 use vp_contents::{Version, put_absent, put_copy, put_present, put_writes};
 
