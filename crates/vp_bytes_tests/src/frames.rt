@@ -8,12 +8,7 @@ use vp_wire::{Body, Frame, WireFault, decode, encode};
 #[test]
 fn a_tick_has_its_bytes(rt: HostRuntime) {
     let mut out = BytesMut::new(rt.alloc());
-    let tick = Frame {
-        version: 2,
-        from: 0,
-        to: 1,
-        body: Body::Tick,
-    };
+    let tick = Frame::of(0, 1, Body::Tick);
     encode(&tick, &mut out).expect(&rt, "memory");
     assert_eq!(rt; out.as_slice(), b"\x56\x02\x22\x00\x01".as_slice());
 }
@@ -21,12 +16,7 @@ fn a_tick_has_its_bytes(rt: HostRuntime) {
 #[test]
 fn a_begin_has_its_bytes(rt: HostRuntime) {
     let mut out = BytesMut::new(rt.alloc());
-    let begin = Frame {
-        version: 2,
-        from: 0,
-        to: 1,
-        body: Body::Call(Call::Begin),
-    };
+    let begin = Frame::of(0, 1, Body::Call(Call::Begin));
     encode(&begin, &mut out).expect(&rt, "memory");
     assert_eq!(rt; out.as_slice(), b"\x56\x02\x20\x00\x01\x01".as_slice());
 }
@@ -34,12 +24,7 @@ fn a_begin_has_its_bytes(rt: HostRuntime) {
 /// The bytes of the answer that this number is spent.
 fn encoded(alloc: Global, number: u64) -> Result<BytesMut, NoMemory> {
     let mut out = BytesMut::new(alloc);
-    let spent = Frame {
-        version: 2,
-        from: 16,
-        to: 0,
-        body: Body::Reply(Answer::Spent { number }),
-    };
+    let spent = Frame::of(16, 0, Body::Reply(Answer::Spent { number }));
     encode(&spent, &mut out)?;
     Ok(out)
 }
@@ -266,12 +251,7 @@ fn what_was_encoded_is_decoded(rt: HostRuntime) {
 
 #[test]
 fn a_copy_is_the_same_frame(rt: HostRuntime) {
-    let tick = Frame {
-        version: 2,
-        from: 0,
-        to: 1,
-        body: Body::Tick,
-    };
+    let tick = Frame::of(0, 1, Body::Tick);
     let copy = tick.copy_of().expect(&rt, "memory");
     assert!(rt;
         copy.version == 2 && copy.from == 0 && copy.to == 1 && matches!(copy.body, Body::Tick)
