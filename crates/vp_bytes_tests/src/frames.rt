@@ -1,5 +1,9 @@
 //! The bytes of frames.
 
+ghost use Rattle.std.specs.Prelude.{◌≡◌, IfOk, None};
+ghost use Rattle.vp_base.specs.declared.message.Message.TheVariants as message;
+ghost use Rattle.vp_wire.specs.declared.frame.Body.TheVariants as body;
+
 use bytes::BytesMut;
 use std::alloc::Global;
 use vp_base::{Answer, Boxed, Call, CopyOf, Message, NoMemory, RecId, Stored, Value, ViewId};
@@ -37,49 +41,60 @@ fn numbers_stand_with_their_highest_byte_first(rt: HostRuntime) {
     );
 }
 
-/// The bytes of a copy of record 0 in a frame of the version, with this content.
-fn copy_bytes(alloc: Global, version: u8, value: Option<Value>) -> Result<BytesMut, NoMemory> {
-    let mut out = BytesMut::new(alloc);
+/// The message with a copy of record 0, which has this content and the opening date.
+fn copy_of(alloc: Global, value: Option<Value>) -> Result<Body, NoMemory>
+    ensures { IfOk result (λ b. b ≡ body.Message (message.RefreshAnswer
+        (record { number = 1; site = 2 }) 0
+        (record { value = value; table = None; date = record { number = 0; site = 0 } }))) }
+{
     let stored = Stored {
         value,
         table: None,
         date: ViewId { number: 0, site: 0 },
     };
+    Ok(Body::Message(Message::RefreshAnswer {
+        view: ViewId { number: 1, site: 2 },
+        rec: RecId::new(0),
+        stored: Boxed::new(alloc, stored)?,
+    }))
+}
+
+#[test]
+fn a_copy_of_the_first_version_has_its_bytes(rt: HostRuntime) {
+    let value = Value::read(rt.alloc(), b"11").expect(&rt, "a value");
+    let mut out = BytesMut::new(rt.alloc());
     let copy = Frame {
-        version,
+        version: 1,
         from: 3,
         to: 2,
-        body: Body::Message(Message::RefreshAnswer {
-            view: ViewId { number: 1, site: 2 },
-            rec: RecId::new(0),
-            stored: Boxed::new(alloc, stored)?,
-        }),
+        body: copy_of(rt.alloc(), Some(value)).expect(&rt, "memory"),
     };
-    encode(&copy, &mut out)?;
-    Ok(out)
+    encode(&copy, &mut out).expect(&rt, "memory");
+    assert_eq!(rt;
+        out.as_slice(),
+        b"\x56\x01\x10\x03\x02\x00\x00\x00\x00\x00\x00\x00\x01\x02\x00\x0211\x00\x00\x00\x00\x00\x00\x00\x00\x00".as_slice()
+    );
 }
 
 #[test]
 fn a_copy_has_its_bytes(rt: HostRuntime) {
     let value = Value::read(rt.alloc(), b"11").expect(&rt, "a value");
-    let first = copy_bytes(rt.alloc(), 1, Some(value)).expect(&rt, "memory");
+    let mut out = BytesMut::new(rt.alloc());
+    let copy = Frame::of(3, 2, copy_of(rt.alloc(), Some(value)).expect(&rt, "memory"));
+    encode(&copy, &mut out).expect(&rt, "memory");
     assert_eq!(rt;
-        first.as_slice(),
-        b"\x56\x01\x10\x03\x02\x00\x00\x00\x00\x00\x00\x00\x01\x02\x00\x0211\x00\x00\x00\x00\x00\x00\x00\x00\x00".as_slice()
-    );
-    let value = Value::read(rt.alloc(), b"11").expect(&rt, "a value");
-    let second = copy_bytes(rt.alloc(), 2, Some(value)).expect(&rt, "memory");
-    assert_eq!(rt;
-        second.as_slice(),
+        out.as_slice(),
         b"\x56\x02\x10\x03\x02\x00\x00\x00\x00\x00\x00\x00\x01\x02\x00\x01\x00\x0211\x00\x00\x00\x00\x00\x00\x00\x00\x00\x00".as_slice()
     );
 }
 
 #[test]
 fn a_copy_without_a_value_has_its_bytes(rt: HostRuntime) {
-    let absent = copy_bytes(rt.alloc(), 2, None).expect(&rt, "memory");
+    let mut out = BytesMut::new(rt.alloc());
+    let copy = Frame::of(3, 2, copy_of(rt.alloc(), None).expect(&rt, "memory"));
+    encode(&copy, &mut out).expect(&rt, "memory");
     assert_eq!(rt;
-        absent.as_slice(),
+        out.as_slice(),
         b"\x56\x02\x10\x03\x02\x00\x00\x00\x00\x00\x00\x00\x01\x02\x00\x00\x00\x00\x00\x00\x00\x00\x00\x00\x00\x00".as_slice()
     );
 }
