@@ -48,7 +48,7 @@ fn read_marked(alloc: Global, cursor: &mut Cursor) -> Result<Option<Value>, Line
 }
 
 /// Appends a content, which the version can say.
-#[tactic(auto, using(vp_text::proofs::Printing::printing))]
+#[tactic(auto, using(vp_bytes::proofs::Writing::writing))]
 pub fn put_content<B: BufMut>(
     out: &mut B,
     version: Version,
@@ -64,7 +64,7 @@ pub fn put_content<B: BufMut>(
 }
 
 /// Appends the content that is no value. The first version has none, and no byte for it.
-#[tactic(auto, using(vp_text::proofs::Printing::printing))]
+#[tactic(auto, using(vp_bytes::proofs::Writing::writing))]
 pub fn put_absent<B: BufMut>(out: &mut B, version: Version) -> Result<(), NoMemory>
     ensures { Appends result (B.written out.old) (content_bytes version None) (B.written out.new) }
 {
@@ -72,7 +72,7 @@ pub fn put_absent<B: BufMut>(out: &mut B, version: Version) -> Result<(), NoMemo
 }
 
 /// Appends the content that is this value.
-#[tactic(auto, using(vp_text::proofs::Printing::printing))]
+#[tactic(auto, using(vp_bytes::proofs::Writing::writing))]
 pub fn put_present<B: BufMut>(out: &mut B, version: Version, value: &Value) -> Result<(), NoMemory>
     requires { IsValueIn version value.now }
     ensures { Appends result (B.written out.old) (content_bytes version (Some value.now)) (B.written out.new) }
@@ -82,7 +82,7 @@ pub fn put_present<B: BufMut>(out: &mut B, version: Version, value: &Value) -> R
 }
 
 /// Appends the byte that says what follows, where the version has one.
-#[tactic(auto, using(vp_text::proofs::Printing::printing))]
+#[tactic(auto, using(vp_bytes::proofs::Writing::writing))]
 pub fn put_mark<B: BufMut>(out: &mut B, version: Version, mark: u8) -> Result<(), NoMemory>
     ensures { Appends result (B.written out.old) (mark_bytes version mark) (B.written out.new) }
 {
