@@ -26,12 +26,18 @@ pub fn read_content(
     ensures { Tries (λ a. a) line_left result cursor.new (content_at version cursor.old) }
 {
     match version {
-        Version::First => {
-            let value = read_value(alloc, cursor, version)?;
-            Ok(Some(value))
-        }
+        Version::First => read_present(alloc, cursor),
         Version::Second => read_marked(alloc, cursor),
     }
+}
+
+/// Reads a value.
+#[tactic(auto, unfolding(crate::specs::Contents::content_at))]
+fn read_present(alloc: Global, cursor: &mut Cursor) -> Result<Option<Value>, LineFault>
+    ensures { Tries (λ a. a) line_left result cursor.new (content_at versions.First cursor.old) }
+{
+    let value = read_value(alloc, cursor, Version::First)?;
+    Ok(Some(value))
 }
 
 /// Reads 1 and a value, or 0 for none.
