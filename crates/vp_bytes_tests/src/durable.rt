@@ -3,8 +3,8 @@
 use std::alloc::Global;
 use std::process::Abort;
 use vp_base::{
-    Change, Copies, CopyOf, Decisions, InDoubt, LogRecord, Put, RecId, SiteId, Sites, Stored, Table,
-    TxnId, Value, ViewId, Writes,
+    Change, Copies, CopyOf, Decisions, InDoubt, LogRecord, Put, RecId, SiteId, Sites, Stored,
+    Table, TxnId, Value, ViewId, Writes,
 };
 use vp_records::{DecisionTable, Durable};
 
@@ -41,13 +41,7 @@ fn durable(rt: &impl Abort, alloc: Global) -> Durable {
     Durable::empty(copies)
 }
 
-fn changed(
-    rt: &impl Abort,
-    alloc: Global,
-    rec: u8,
-    put: Put,
-    table: Option<Table>,
-) -> Writes {
+fn changed(rt: &impl Abort, alloc: Global, rec: u8, put: Put, table: Option<Table>) -> Writes {
     let mut writes = Writes::new(alloc);
     writes
         .push((RecId::new(rec), Change { put, table }))

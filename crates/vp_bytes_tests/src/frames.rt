@@ -1,5 +1,9 @@
 //! The bytes of frames.
 
+ghost use Rattle.std.specs.Prelude.{◌≡◌, IfOk, None};
+ghost use Rattle.vp_base.specs.declared.message.Message.TheVariants as message;
+ghost use Rattle.vp_wire.specs.declared.frame.Body.TheVariants as body;
+
 use bytes::BytesMut;
 use std::alloc::Global;
 use vp_base::{Answer, Boxed, Call, CopyOf, Message, NoMemory, RecId, Stored, Value, ViewId};
@@ -8,12 +12,7 @@ use vp_wire::{Body, Frame, WireFault, decode, encode};
 #[test]
 fn a_tick_has_its_bytes(rt: HostRuntime) {
     let mut out = BytesMut::new(rt.alloc());
-    let tick = Frame {
-        version: 2,
-        from: 0,
-        to: 1,
-        body: Body::Tick,
-    };
+    let tick = Frame::of(0, 1, Body::Tick);
     encode(&tick, &mut out).expect(&rt, "memory");
     assert_eq!(rt; out.as_slice(), b"\x56\x02\x22\x00\x01".as_slice());
 }
@@ -21,12 +20,7 @@ fn a_tick_has_its_bytes(rt: HostRuntime) {
 #[test]
 fn a_begin_has_its_bytes(rt: HostRuntime) {
     let mut out = BytesMut::new(rt.alloc());
-    let begin = Frame {
-        version: 2,
-        from: 0,
-        to: 1,
-        body: Body::Call(Call::Begin),
-    };
+    let begin = Frame::of(0, 1, Body::Call(Call::Begin));
     encode(&begin, &mut out).expect(&rt, "memory");
     assert_eq!(rt; out.as_slice(), b"\x56\x02\x20\x00\x01\x01".as_slice());
 }
@@ -34,12 +28,7 @@ fn a_begin_has_its_bytes(rt: HostRuntime) {
 /// The bytes of the answer that this number is spent.
 fn encoded(alloc: Global, number: u64) -> Result<BytesMut, NoMemory> {
     let mut out = BytesMut::new(alloc);
-    let spent = Frame {
-        version: 2,
-        from: 16,
-        to: 0,
-        body: Body::Reply(Answer::Spent { number }),
-    };
+    let spent = Frame::of(16, 0, Body::Reply(Answer::Spent { number }));
     encode(&spent, &mut out)?;
     Ok(out)
 }
@@ -52,53 +41,60 @@ fn numbers_stand_with_their_highest_byte_first(rt: HostRuntime) {
     );
 }
 
-/// The bytes of a copy of record 0 in a frame of the version, with this content.
-fn copy_bytes(
-    alloc: Global,
-    version: u8,
-    value: Option<Value>,
-) -> Result<BytesMut, NoMemory> {
-    let mut out = BytesMut::new(alloc);
+/// The message with a copy of record 0, which has this content and the opening date.
+fn copy_of(alloc: Global, value: Option<Value>) -> Result<Body, NoMemory>
+    ensures { IfOk result (λ b. b ≡ body.Message (message.RefreshAnswer
+        (record { number = 1; site = 2 }) 0
+        (record { value = value; table = None; date = record { number = 0; site = 0 } }))) }
+{
     let stored = Stored {
         value,
         table: None,
         date: ViewId { number: 0, site: 0 },
     };
+    Ok(Body::Message(Message::RefreshAnswer {
+        view: ViewId { number: 1, site: 2 },
+        rec: RecId::new(0),
+        stored: Boxed::new(alloc, stored)?,
+    }))
+}
+
+#[test]
+fn a_copy_of_the_first_version_has_its_bytes(rt: HostRuntime) {
+    let value = Value::read(rt.alloc(), b"11").expect(&rt, "a value");
+    let mut out = BytesMut::new(rt.alloc());
     let copy = Frame {
-        version,
+        version: 1,
         from: 3,
         to: 2,
-        body: Body::Message(Message::RefreshAnswer {
-            view: ViewId { number: 1, site: 2 },
-            rec: RecId::new(0),
-            stored: Boxed::new(alloc, stored)?,
-        }),
+        body: copy_of(rt.alloc(), Some(value)).expect(&rt, "memory"),
     };
-    encode(&copy, &mut out)?;
-    Ok(out)
+    encode(&copy, &mut out).expect(&rt, "memory");
+    assert_eq!(rt;
+        out.as_slice(),
+        b"\x56\x01\x10\x03\x02\x00\x00\x00\x00\x00\x00\x00\x01\x02\x00\x0211\x00\x00\x00\x00\x00\x00\x00\x00\x00".as_slice()
+    );
 }
 
 #[test]
 fn a_copy_has_its_bytes(rt: HostRuntime) {
     let value = Value::read(rt.alloc(), b"11").expect(&rt, "a value");
-    let first = copy_bytes(rt.alloc(), 1, Some(value)).expect(&rt, "memory");
+    let mut out = BytesMut::new(rt.alloc());
+    let copy = Frame::of(3, 2, copy_of(rt.alloc(), Some(value)).expect(&rt, "memory"));
+    encode(&copy, &mut out).expect(&rt, "memory");
     assert_eq!(rt;
-        first.as_slice(),
-        b"\x56\x01\x10\x03\x02\x00\x00\x00\x00\x00\x00\x00\x01\x02\x00\x0211\x00\x00\x00\x00\x00\x00\x00\x00\x00".as_slice()
-    );
-    let value = Value::read(rt.alloc(), b"11").expect(&rt, "a value");
-    let second = copy_bytes(rt.alloc(), 2, Some(value)).expect(&rt, "memory");
-    assert_eq!(rt;
-        second.as_slice(),
+        out.as_slice(),
         b"\x56\x02\x10\x03\x02\x00\x00\x00\x00\x00\x00\x00\x01\x02\x00\x01\x00\x0211\x00\x00\x00\x00\x00\x00\x00\x00\x00\x00".as_slice()
     );
 }
 
 #[test]
 fn a_copy_without_a_value_has_its_bytes(rt: HostRuntime) {
-    let absent = copy_bytes(rt.alloc(), 2, None).expect(&rt, "memory");
+    let mut out = BytesMut::new(rt.alloc());
+    let copy = Frame::of(3, 2, copy_of(rt.alloc(), None).expect(&rt, "memory"));
+    encode(&copy, &mut out).expect(&rt, "memory");
     assert_eq!(rt;
-        absent.as_slice(),
+        out.as_slice(),
         b"\x56\x02\x10\x03\x02\x00\x00\x00\x00\x00\x00\x00\x01\x02\x00\x00\x00\x00\x00\x00\x00\x00\x00\x00\x00\x00".as_slice()
     );
 }
@@ -270,12 +266,9 @@ fn what_was_encoded_is_decoded(rt: HostRuntime) {
 
 #[test]
 fn a_copy_is_the_same_frame(rt: HostRuntime) {
-    let tick = Frame {
-        version: 2,
-        from: 0,
-        to: 1,
-        body: Body::Tick,
-    };
+    let tick = Frame::of(0, 1, Body::Tick);
     let copy = tick.copy_of().expect(&rt, "memory");
-    assert!(rt; copy.version == 2 && copy.from == 0 && copy.to == 1 && matches!(copy.body, Body::Tick));
+    assert!(rt;
+        copy.version == 2 && copy.from == 0 && copy.to == 1 && matches!(copy.body, Body::Tick)
+    );
 }

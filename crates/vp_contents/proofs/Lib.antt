@@ -6,3 +6,4 @@ pub mod TablesExact
 pub mod ChangesExact
 pub mod CopiesExact
 pub mod DoubtsExact
+pub mod Later

@@ -74,11 +74,7 @@ fn read_write(
 
 /// Reads a change: in the first version a value, in the second a put and a table or none.
 #[tactic(auto, unfolding(crate::specs::Changes::change_at))]
-fn read_change(
-    alloc: Global,
-    cursor: &mut Cursor,
-    version: Version,
-) -> Result<Change, LineFault>
+fn read_change(alloc: Global, cursor: &mut Cursor, version: Version) -> Result<Change, LineFault>
     ensures { Tries (λ c. c) line_left result cursor.new (change_at version cursor.old) }
 {
     match version {
@@ -136,7 +132,7 @@ fn read_after_mark(alloc: Global, cursor: &mut Cursor, mark: u8) -> Result<Chang
 }
 
 /// Appends the count of the changes and then each record with its change.
-#[tactic(auto, using(vp_text::proofs::Printing::printing))]
+#[tactic(auto, using(vp_bytes::proofs::Writing::writing))]
 pub fn put_writes<B: BufMut>(
     out: &mut B,
     version: Version,
@@ -153,7 +149,7 @@ pub fn put_writes<B: BufMut>(
 }
 
 /// Appends a record and its change.
-#[tactic(auto, using(vp_text::proofs::Printing::printing))]
+#[tactic(auto, using(vp_bytes::proofs::Writing::writing))]
 fn put_write<B: BufMut>(
     out: &mut B,
     version: Version,
@@ -168,7 +164,7 @@ fn put_write<B: BufMut>(
 }
 
 /// Appends a change: its put, and its table or none.
-#[tactic(auto, using(vp_text::proofs::Printing::printing))]
+#[tactic(auto, using(vp_bytes::proofs::Writing::writing))]
 fn put_change<B: BufMut>(out: &mut B, version: Version, change: &Change) -> Result<(), NoMemory>
     requires { IsChange version change.now }
     ensures { Appends result (B.written out.old) (change_bytes version change.now) (B.written out.new) }
@@ -178,7 +174,7 @@ fn put_change<B: BufMut>(out: &mut B, version: Version, change: &Change) -> Resu
 }
 
 /// Appends what a change makes of the content.
-#[tactic(auto, using(vp_text::proofs::Printing::printing))]
+#[tactic(auto, using(vp_bytes::proofs::Writing::writing))]
 fn put_put<B: BufMut>(out: &mut B, version: Version, put: &Put) -> Result<(), NoMemory>
     requires { IsPut version put.now }
     ensures { Appends result (B.written out.old) (put_bytes version put.now) (B.written out.new) }

@@ -26,12 +26,18 @@ pub fn read_content(
     ensures { Tries (λ a. a) line_left result cursor.new (content_at version cursor.old) }
 {
     match version {
-        Version::First => {
-            let value = read_value(alloc, cursor, version)?;
-            Ok(Some(value))
-        }
+        Version::First => read_present(alloc, cursor),
         Version::Second => read_marked(alloc, cursor),
     }
+}
+
+/// Reads a value.
+#[tactic(auto, unfolding(crate::specs::Contents::content_at))]
+fn read_present(alloc: Global, cursor: &mut Cursor) -> Result<Option<Value>, LineFault>
+    ensures { Tries (λ a. a) line_left result cursor.new (content_at versions.First cursor.old) }
+{
+    let value = read_value(alloc, cursor, Version::First)?;
+    Ok(Some(value))
 }
 
 /// Reads 1 and a value, or 0 for none.
@@ -48,7 +54,7 @@ fn read_marked(alloc: Global, cursor: &mut Cursor) -> Result<Option<Value>, Line
 }
 
 /// Appends a content, which the version can say.
-#[tactic(auto, using(vp_text::proofs::Printing::printing))]
+#[tactic(auto, using(vp_bytes::proofs::Writing::writing))]
 pub fn put_content<B: BufMut>(
     out: &mut B,
     version: Version,
@@ -64,7 +70,7 @@ pub fn put_content<B: BufMut>(
 }
 
 /// Appends the content that is no value. The first version has none, and no byte for it.
-#[tactic(auto, using(vp_text::proofs::Printing::printing))]
+#[tactic(auto, using(vp_bytes::proofs::Writing::writing))]
 pub fn put_absent<B: BufMut>(out: &mut B, version: Version) -> Result<(), NoMemory>
     ensures { Appends result (B.written out.old) (content_bytes version None) (B.written out.new) }
 {
@@ -72,7 +78,7 @@ pub fn put_absent<B: BufMut>(out: &mut B, version: Version) -> Result<(), NoMemo
 }
 
 /// Appends the content that is this value.
-#[tactic(auto, using(vp_text::proofs::Printing::printing))]
+#[tactic(auto, using(vp_bytes::proofs::Writing::writing))]
 pub fn put_present<B: BufMut>(out: &mut B, version: Version, value: &Value) -> Result<(), NoMemory>
     requires { IsValueIn version value.now }
     ensures { Appends result (B.written out.old) (content_bytes version (Some value.now)) (B.written out.new) }
@@ -82,7 +88,7 @@ pub fn put_present<B: BufMut>(out: &mut B, version: Version, value: &Value) -> R
 }
 
 /// Appends the byte that says what follows, where the version has one.
-#[tactic(auto, using(vp_text::proofs::Printing::printing))]
+#[tactic(auto, using(vp_bytes::proofs::Writing::writing))]
 pub fn put_mark<B: BufMut>(out: &mut B, version: Version, mark: u8) -> Result<(), NoMemory>
     ensures { Appends result (B.written out.old) (mark_bytes version mark) (B.written out.new) }
 {

@@ -87,7 +87,7 @@ pub fn read_stored(
 }
 
 /// Appends the count of the copies and then the copies.
-#[tactic(auto, using(vp_text::proofs::Printing::printing))]
+#[tactic(auto, using(vp_bytes::proofs::Writing::writing))]
 pub fn put_copies<B: BufMut>(
     out: &mut B,
     version: Version,
@@ -104,7 +104,7 @@ pub fn put_copies<B: BufMut>(
 }
 
 /// Appends a record and its copy, which the version can say.
-#[tactic(auto, using(vp_text::proofs::Printing::printing))]
+#[tactic(auto, using(vp_bytes::proofs::Writing::writing))]
 pub fn put_copy<B: BufMut>(
     out: &mut B,
     version: Version,
@@ -119,7 +119,7 @@ pub fn put_copy<B: BufMut>(
 }
 
 /// Appends the content of a copy, its table or none, and its date.
-#[tactic(auto, using(vp_text::proofs::Printing::printing))]
+#[tactic(auto, using(vp_bytes::proofs::Writing::writing))]
 fn put_stored<B: BufMut>(out: &mut B, version: Version, stored: &Stored) -> Result<(), NoMemory>
     requires { IsStored version stored.now }
     ensures { Appends result (B.written out.old) (stored_bytes version stored.now) (B.written out.new) }

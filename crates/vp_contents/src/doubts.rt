@@ -76,7 +76,7 @@ fn read_doubt(
 }
 
 /// Appends the count of the transactions in doubt and then each of them.
-#[tactic(auto, using(vp_text::proofs::Printing::printing))]
+#[tactic(auto, using(vp_bytes::proofs::Writing::writing))]
 pub fn put_doubts<B: BufMut>(
     out: &mut B,
     version: Version,
@@ -93,7 +93,7 @@ pub fn put_doubts<B: BufMut>(
 }
 
 /// Appends a transaction in doubt, with its view and its changes.
-#[tactic(auto, using(vp_text::proofs::Printing::printing))]
+#[tactic(auto, using(vp_bytes::proofs::Writing::writing))]
 pub fn put_doubt<B: BufMut>(
     out: &mut B,
     version: Version,

@@ -46,11 +46,7 @@ fn read_some_weights(alloc: Global, cursor: &mut Cursor, count: u8) -> Result<Ta
 
 /// Reads a site from `least` on that leaves room for the others after it, and its weight.
 #[tactic(auto, unfolding(crate::specs::Tables::weight_at))]
-fn read_weight(
-    cursor: &mut Cursor,
-    least: u8,
-    following: u8,
-) -> Result<(SiteId, u16), Unexpected>
+fn read_weight(cursor: &mut Cursor, least: u8, following: u8) -> Result<(SiteId, u16), Unexpected>
     requires least { 1 ≤ least }
     requires room { least + following ≤ 16 }
     ensures read { Reads (λ w. w) (λ e. e.left) result cursor.new (weight_at following least cursor.old) }
@@ -90,7 +86,7 @@ fn read_marked_table(alloc: Global, cursor: &mut Cursor) -> Result<Option<Table>
 }
 
 /// Appends the count of the weights and then the weights.
-#[tactic(auto, using(vp_text::proofs::Printing::printing))]
+#[tactic(auto, using(vp_bytes::proofs::Writing::writing))]
 pub fn put_table<B: BufMut>(out: &mut B, table: &[(SiteId, u16)]) -> Result<(), NoMemory>
     requires { length table.now ≤ 16 }
     ensures { Appends result (B.written out.old) (table_bytes table.now) (B.written out.new) }
@@ -103,7 +99,7 @@ pub fn put_table<B: BufMut>(out: &mut B, table: &[(SiteId, u16)]) -> Result<(), 
 }
 
 /// Appends a site and its weight.
-#[tactic(auto, using(vp_text::proofs::Printing::printing))]
+#[tactic(auto, using(vp_bytes::proofs::Writing::writing))]
 fn put_weight<B: BufMut>(out: &mut B, site: SiteId, weight: u16) -> Result<(), NoMemory>
     ensures { Appends result (B.written out.old) (weight_bytes (site, weight)) (B.written out.new) }
 {
@@ -112,7 +108,7 @@ fn put_weight<B: BufMut>(out: &mut B, site: SiteId, weight: u16) -> Result<(), N
 }
 
 /// Appends a table, or none where it is left out. The version can say it.
-#[tactic(auto, using(vp_text::proofs::Printing::printing))]
+#[tactic(auto, using(vp_bytes::proofs::Writing::writing))]
 pub fn put_maybe_table<B: BufMut>(
     out: &mut B,
     version: Version,

@@ -34,4 +34,4 @@ kind_found kinds.CopyOfValue = refl
 kind_found kinds.CheckpointOfValues = refl
 
 pub kind_codes : Codes kind_code record_kind
-kind_codes = record { only = found_only kind_code record_kinds ((refl, (refl, (refl, (refl, (refl, (refl, (refl, (refl, (refl, (refl, (refl, (refl, tt))))))))))))); some = kinds.Start; there = refl }
+kind_codes = record { only = found_only kind_code record_kinds (refl, (refl, (refl, (refl, (refl, (refl, (refl, (refl, (refl, (refl, (refl, (refl, tt)))))))))))); some = kinds.Start; there = refl }

@@ -2,13 +2,13 @@
 
 ghost use Rattle.std.specs.Prelude.{◌≡◌, ◌++◌, ◌∷◌, []};
 ghost use Rattle.vp_text.specs.Printing.{Appends};
-ghost use Rattle.vp_bytes.specs.Fields.{IsSites, number_bytes, txn_bytes, view_bytes};
+ghost use Rattle.vp_bytes.specs.Fields.{IsSites, txn_bytes};
 ghost use Rattle.vp_bytes.specs.Decisions.{IsDecisions};
 ghost use Rattle.vp_contents.specs.Changes.{IsWrites};
 ghost use Rattle.vp_contents.specs.Copies.{IsCopies};
 ghost use Rattle.vp_contents.specs.Doubts.{IsDoubts};
 ghost use Rattle.vp_records.specs.Batches.{IsBatch, batch_bytes};
-ghost use Rattle.vp_records.specs.Records.{IsLogRecord, commit_bytes, record_bytes, record_code, record_fields, saved_bytes};
+ghost use Rattle.vp_records.specs.Records.{IsLogRecord, checkpoint_bytes, commit_bytes, record_bytes, record_code, record_fields, saved_bytes};
 
 use vp_base::{
     Batch, Decision, Doubt, LogRecord, NoMemory, RecId, SiteId, Stored, TxnId, ViewId, Writes,
@@ -83,16 +83,16 @@ fn put_fields(out: &mut Vec<u8>, entry: &LogRecord) -> Result<(), NoMemory>
             copies,
             doubts,
             decisions,
-        } => {
-            put_head(out, *generation, *life, promise)?;
-            put_saved(
-                out,
-                Version::Second,
-                copies.as_slice(),
-                doubts.as_slice(),
-                decisions.as_slice(),
-            )
-        }
+        } => put_checkpoint(
+            out,
+            Version::Second,
+            *generation,
+            *life,
+            promise,
+            copies.as_slice(),
+            doubts.as_slice(),
+            decisions.as_slice(),
+        ),
         LogRecord::YesOfValues { txn, view, writes } => {
             put_doubt(out, Version::First, txn, view, writes)
         }
@@ -110,16 +110,16 @@ fn put_fields(out: &mut Vec<u8>, entry: &LogRecord) -> Result<(), NoMemory>
             copies,
             doubts,
             decisions,
-        } => {
-            put_head(out, *generation, *life, promise)?;
-            put_saved(
-                out,
-                Version::First,
-                copies.as_slice(),
-                doubts.as_slice(),
-                decisions.as_slice(),
-            )
-        }
+        } => put_checkpoint(
+            out,
+            Version::First,
+            *generation,
+            *life,
+            promise,
+            copies.as_slice(),
+            doubts.as_slice(),
+            decisions.as_slice(),
+        ),
     }
 }
 
@@ -149,20 +149,29 @@ fn put_acked(out: &mut Vec<u8>, txn: &TxnId, site: SiteId) -> Result<(), NoMemor
     put_byte(out, site.get())
 }
 
-/// Appends what a checkpoint has before its lists.
+/// Appends the fields of a checkpoint.
 #[tactic(auto, using(vp_bytes::proofs::Writing::writing))]
-fn put_head(
+fn put_checkpoint(
     out: &mut Vec<u8>,
+    version: Version,
     generation: u64,
     life: u32,
     promise: &ViewId,
+    copies: &[(RecId, Stored)],
+    doubts: &[Doubt],
+    decisions: &[Decision],
 ) -> Result<(), NoMemory>
+    requires copies { IsCopies version copies.now }
+    requires doubts { IsDoubts version doubts.now }
+    requires decisions { IsDecisions decisions.now }
     ensures { Appends result out.old.items
-        (number_bytes 8 generation ++ (number_bytes 4 life ++ view_bytes promise.now)) out.new.items }
+        (checkpoint_bytes version generation life promise.now copies.now doubts.now decisions.now)
+        out.new.items }
 {
     put_u64(out, generation)?;
     put_u32(out, life)?;
-    put_view(out, promise)
+    put_view(out, promise)?;
+    put_saved(out, version, copies, doubts, decisions)
 }
 
 /// Appends what a checkpoint has after its promise.

@@ -22,7 +22,7 @@ IsObstacleBytes version = Spelled obstacle_bytes (IsObstacle version)
 
 -- the weights of a bar
 abbrev Weights : ℕ × ℕ → List ℕ → Type 0
-Weights = Spelled (pair_bytes (λ number. number_bytes 4 number) (λ number. number_bytes 4 number)) (PairAllowed (λ number. number < 2 ^ 32) (λ number. number < 2 ^ 32))
+Weights = Spelled (pair_bytes (λ (number : ℕ). number_bytes 4 number) (λ (number : ℕ). number_bytes 4 number)) (PairAllowed (λ (number : ℕ). number < 2 ^ 32) (λ (number : ℕ). number < 2 ^ 32))
 
 -- what follows the mark, by whether that is 1, and whether it is 2
 abbrev Following : Bool → Bool → Obstacle → List ℕ → Type 0

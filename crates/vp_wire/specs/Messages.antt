@@ -24,8 +24,8 @@ unfoldable pub obstacle_at : Version → List ℕ → Result (Obstacle × List �
 obstacle_at version bytes = do
   mark ← byte_at (within 1 (last_mark version)) bytes
   cond (mark.0 == 1) (owner_at mark.1 >>= λ x. Ok (obstacle.Held x.0, x.1))
-    (cond (mark.0 == 2) (maybe_view_at mark.1 >>= λ x. Ok (obstacle.OtherView x.0, x.1))
-    (u32_at mark.1 >>= λ inside. u32_at inside.1 >>= λ total. Ok (obstacle.Barred inside.0 total.0, total.1)))
+      (cond (mark.0 == 2) (maybe_view_at mark.1 >>= λ x. Ok (obstacle.OtherView x.0, x.1))
+      (u32_at mark.1 >>= λ inside. u32_at inside.1 >>= λ total. Ok (obstacle.Barred inside.0 total.0, total.1)))
 
 unfoldable pub message_at : Version → MessageKind → List ℕ → Result (Message × List ℕ) ℕ
 message_at version kinds.Invite bytes = do

@@ -26,17 +26,15 @@ pub fn put_answer(out: &mut BytesMut, version: Version, answer: &Answer) -> Resu
 }
 
 #[tactic(auto, using(vp_bytes::proofs::Writing::writing))]
-fn put_answer_fields(
-    out: &mut BytesMut,
-    version: Version,
-    answer: &Answer,
-) -> Result<(), NoMemory>
+fn put_answer_fields(out: &mut BytesMut, version: Version, answer: &Answer) -> Result<(), NoMemory>
     requires { IsAnswer version answer.now }
     ensures { Appends result out.old.items (answer_fields version answer.now) out.new.items }
 {
     match answer {
         Answer::Begun { txn, view } => put_begun(out, txn, view),
-        Answer::Value { txn, number, value } => put_numbered_value(out, version, txn, *number, value),
+        Answer::Value { txn, number, value } => put_numbered_value(
+            out, version, txn, *number, value,
+        ),
         Answer::Written { txn, number } => put_numbered(out, txn, *number),
         Answer::Committed { txn, number } => put_numbered(out, txn, *number),
         Answer::Aborted { txn, number } => put_numbered(out, txn, *number),

@@ -113,11 +113,7 @@ fn read_body(
 }
 
 #[tactic(auto, unfolding(crate::specs::Frames::coded_call_at))]
-fn read_coded_call(
-    alloc: Global,
-    cursor: &mut Cursor,
-    version: Version,
-) -> Result<Body, LineFault>
+fn read_coded_call(alloc: Global, cursor: &mut Cursor, version: Version) -> Result<Body, LineFault>
     ensures { Tries (λ b. b) line_left result cursor.new (coded_call_at version cursor.old) }
 {
     let kind = read_call_kind(cursor, version)?;

@@ -1,5 +1,8 @@
 //! Frames: what is in the datagrams of sites and clients.
 
+ghost use Rattle.std.specs.Prelude.{◌≡◌};
+ghost use Rattle.vp_wire.specs.Grammar.{frame_of};
+
 use vp_base::{Answer, Call, CopyOf, Message, NoMemory};
 
 /// What is in a datagram. Sites have numbers from 1 to 16, and a client is 0: a message goes from site to site, a reply from a site
@@ -28,6 +31,23 @@ pub enum Body {
     ProbeNow,
     /// The node is to stop.
     Stop,
+}
+
+/// The version of the frames that nodes and clients send.
+pub const SENT: u8 = 2;
+
+impl Frame {
+    /// A frame as it is sent.
+    pub fn of(from: u8, to: u8, body: Body) -> Frame
+        ensures { result ≡ frame_of from to body }
+    {
+        Frame {
+            version: SENT,
+            from,
+            to,
+            body,
+        }
+    }
 }
 
 impl CopyOf for Frame {

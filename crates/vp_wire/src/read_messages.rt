@@ -180,11 +180,7 @@ fn read_refuse(cursor: &mut Cursor, version: Version) -> Result<Message, LineFau
 }
 
 #[tactic(auto, unfolding(crate::specs::Messages::message_at))]
-fn read_prepare(
-    alloc: Global,
-    cursor: &mut Cursor,
-    version: Version,
-) -> Result<Message, LineFault>
+fn read_prepare(alloc: Global, cursor: &mut Cursor, version: Version) -> Result<Message, LineFault>
     ensures { Tries (λ m. m) line_left result cursor.new (message_at version kinds.Prepare cursor.old) }
 {
     let (txn, view, number) = read_request(cursor)?;

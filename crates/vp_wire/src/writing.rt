@@ -14,21 +14,18 @@ ghost use Rattle.vp_wire.specs.declared.frame.Body.TheVariants as body;
 
 use crate::answers::put_answer;
 use crate::calls::put_call;
-use crate::frame::{Body, Frame};
+use crate::frame::{Body, Frame, SENT};
 use crate::kind::{FrameKind, MessageKind};
 use bytes::{BufMut, BytesMut};
 use vp_base::{
-    Answer, Boxed, CallNo, Change, Message, NoMemory, Obstacle, RecId, SiteId, Stored, TxnId, Value,
-    ViewId,
+    Answer, Boxed, CallNo, Change, Message, NoMemory, Obstacle, RecId, SiteId, Stored, TxnId,
+    Value, ViewId,
 };
 use vp_bytes::{
-    put_byte, put_maybe_view, put_numbered, put_outcome, put_owner, put_recs, put_request, put_sites,
-    put_txn, put_u32, put_view,
+    put_byte, put_maybe_view, put_numbered, put_outcome, put_owner, put_recs, put_request,
+    put_sites, put_txn, put_u32, put_view,
 };
 use vp_contents::{Version, put_absent, put_copy, put_present, put_writes};
-
-/// The version of the frames that nodes and clients send.
-const SENT: u8 = 2;
 
 /// Appends the frame in the only encoding that it has in its version. After want of memory a beginning of it has been appended, and nothing else changed.
 #[tactic(auto, using(vp_bytes::proofs::Writing::writing))]

@@ -5,6 +5,9 @@ use Rattle.vp_contents.specs.Changes.{writes_bytes}
 use Rattle.vp_bytes.proofs.Writing.{following, begun_part}
 use Rattle.vp_contents.proofs.doubts.put_doubt.Goals as goal
 
+pub put_writes-requires : goal.put_writes-requires
+put_writes-requires g c = rw c.as_slice.ensures c.requires
+
 pub returns-in_err-put_txn : goal.returns-in_err-put_txn
 returns-in_err-put_txn g c =
     let a = c.args in

@@ -12,9 +12,9 @@ loop-left-preserved c =
     let left : c.loop-left.left ≡ suc (c.loop-left.left - 1) = omega (arith, c.loop-left-test.true) in
     let so_far = subst (λ (n : ℕ). with_front c.loop-left.table (run_at (λ weight. weight.0) weight_at n c.loop-left.least c.loop-left.cursor) ≡ total) left c.loop-left.invariant.3 in
     let step = run_goes (λ weight. weight.0) weight_at c.loop-left.table (c.loop-left.left - 1) c.loop-left.least c.loop-left.cursor c.in_ok-weight.weight c.read_weight.new.cursor total c.in_ok-weight.ensures.read so_far in
-    let least : suc c.in_ok-weight.weight.0 ≡ c.get.result + 1 = omega (arith, c.get.ensures.value) in
+    let least : suc c.in_ok-weight.weight.0 ≡ c.get-least.result + 1 = omega (arith, c.get-least.ensures.value) in
     let items : c.loop-left.table ++ c.in_ok-weight.weight ∷ [] ≡ c.push.new.self = sym c.in_ok-push.ensures.ok in
-    (omega arith, omega (arith, c.loop-left.invariant.1), omega (arith, c.in_ok-weight.ensures.range, c.loop-left-test.true, c.loop-left.invariant.2, c.get.ensures.value), subst (λ (xs : List (ℕ × ℕ)). with_front xs (run_at (λ weight. weight.0) weight_at (c.loop-left.left - 1) (c.get.result + 1) c.read_weight.new.cursor) ≡ total) items (subst (λ (k : ℕ). with_front (c.loop-left.table ++ c.in_ok-weight.weight ∷ []) (run_at (λ weight. weight.0) weight_at (c.loop-left.left - 1) k c.read_weight.new.cursor) ≡ total) least step))
+    (omega arith, omega (arith, c.loop-left.invariant.1), omega (arith, c.in_ok-weight.ensures.range, c.loop-left-test.true, c.loop-left.invariant.2, c.get-least.ensures.value), subst (λ (xs : List (ℕ × ℕ)). with_front xs (run_at (λ weight. weight.0) weight_at (c.loop-left.left - 1) (c.get-least.result + 1) c.read_weight.new.cursor) ≡ total) items (subst (λ (k : ℕ). with_front (c.loop-left.table ++ c.in_ok-weight.weight ∷ []) (run_at (λ weight. weight.0) weight_at (c.loop-left.left - 1) k c.read_weight.new.cursor) ≡ total) least step))
 
 pub returns : goal.returns
 returns c =
