@@ -6,7 +6,7 @@ usage: machines.py PROGRAM [SEED [COUNT [REFERENCE]]]
 COUNT transfers, 120 if nothing is said, are done by a process of `operate/call` on each machine, between six accounts with a copy at each site. Each
 machine has its node, with its log in a temporary folder (TMPDIR says where), and `operate/beat --only` for it. All the while, each four to eight seconds,
 the link of a machine is taken down for one to four seconds, at its own end or at the switch's, or its node is killed (kill -9) and started again. Then
-all is joined, and all machines read the same balances, with the sum of the start. Their recordings are merged by the reference, replayed and serial, and
+all is joined, and all machines read the same balances, with the sum of the start. Their recordings are merged, replayed and serial, and
 have just the transfers that were told (see `transfers_under_beat.py`). And these are looked at: a datagram from a site's port that comes from another
 machine than that site's is not taken, nor is one from a machine that isn't listed, nor one that says that it comes from 127.0.0.1.
 

@@ -58,11 +58,11 @@ def has_unprinted_turn(reference, catalog, life):
     return True
 
 
-def merged(merge, catalogue, lives):
-    """The status and the output of the merge of the recordings that begin."""
+def merged(program, catalogue, lives):
+    """The status and the output of the program's merge of the recordings that begin."""
     blocks = [f"node {life.site}\n" + "".join(line + "\n" for line in life.lines()) for life in lives if life.lines()]
     text = catalogue + b"recordings\n" + "".join(blocks).encode()
-    done = subprocess.run(merge, input=text, capture_output=True, timeout=600)
+    done = subprocess.run([*program, "merge"], input=text, capture_output=True, timeout=600)
     return done.returncode, done.stdout
 
 

@@ -26,6 +26,7 @@ SAID = [
     (TRUST, "compare_batches.py", "{inputs:,} inputs | {found}"),
     (TRUST, "compare_recover.py", "{inputs:,} inputs | {found}"),
     (TRUST, "compare_logs.py", "{inputs:,} schedules with {logs:,} logs | {found}"),
+    (TRUST, "compare_merge.py", "{inputs:,} recorded runs | {found}"),
     (TRUST, "compare_check.py", "{inputs:,} histories | {found}"),
     (TRUST, "compare_generate.py", "{inputs:,} seeds | {found}"),
     (TRUST, "compare_stops.py", "{stops:,} stops in {inputs:,} schedules; of {looked_at:,} of them {appends:,} were in the append of a batch,"
@@ -53,6 +54,7 @@ SAID = [
     (README, "compare_replay.py", "{inputs:,} inputs with {commits:,} commits: {found}; {nodes:,} through nodes |"),
     (README, "compare_generate.py", "{inputs:,} inputs with {commits:,} commits: {found} |"),
     (README, "compare_logs.py", "{inputs:,} inputs with {logs:,} logs: {found}; of {looked_at:,} logs {checkpoints:,} have a checkpoint |"),
+    (README, "compare_merge.py", "{inputs:,} runs: {found}; {merged:,} are merged into {events:,} events, {unsent:,} `unsent`, {unlike:,} `differs`, {bad:,} bad |"),
     (README, "compare_stops.py", "{stops:,} stops in {inputs:,} schedules: {found}; of {looked_at:,} of them {appends:,} were in the append of a batch,"
      " which {left:,} left in the log |"),
     (README, "refuse_memory.py", "{inputs:,} runs, each as it must be; {cut:,} were cut short with status 3, {done:,} came to their end all the same |"),

@@ -14,8 +14,8 @@ DIFFERS = 15  # the status of a merge
 
 
 def reference_in(folder):
-    """The modules of the reference implementation, and the words of its merge."""
-    return SimpleNamespace(**dict(zip(MODULES, modules(folder, *MODULES))), merge_words=[f"{folder}/vporacle", "merge"])
+    """The modules of the reference implementation."""
+    return SimpleNamespace(**dict(zip(MODULES, modules(folder, *MODULES))))
 
 
 def script(name, *words, after=()):
@@ -79,7 +79,7 @@ class Told:
         where a kill came between a turn's sync and its print; and how many unknown transfers were committed."""
         catalog = reference.catalog.read(text)
         unprinted = sum(has_unprinted_turn(reference, catalog, life) for life in lives if life.lines())
-        status, schedule = merged(reference.merge_words, text, lives)
+        status, schedule = merged([program], text, lives)
         if status == DIFFERS and unprinted:
             return False, 0
         insist(status == 0, "recordings that don't merge", schedule[-100:])

@@ -3,7 +3,7 @@
 
 usage: torment.py PROGRAM [SEED [COUNT [REFERENCE]]]
 
-PROGRAM has the commands `node`, `replay` and `check`; REFERENCE is the folder of the reference implementation. Transactions are begun
+PROGRAM has the commands `node`, `merge`, `replay` and `check`; REFERENCE is the folder of the reference implementation. Transactions are begun
 until there are COUNT of them, in rounds of 150. The round of a seed draws three to five sites and 24 accounts, each with copies at
 three sites or more, and starts a process for each site, with its log in a temporary folder (TMPDIR says where). Four clients on ports
 of their own do transfers at any site: read two accounts, write two, commit. All the while nodes are ticked and probed; after each 20 to
@@ -14,7 +14,7 @@ in a hundred and repeats three. Then all are started and joined in one view, and
 - In the last view all sites read the same balances, and their sum is the one at the start.
 - Each life of a node alone is a life of the reference's node: with the log that it found and the datagrams that it got, that node hands
   over the same frames and leaves the same batches. Where a kill came between a turn's sync and its print, the log has that turn more.
-- The reference merges all recordings into a schedule. It may answer `differs` in a round with a turn that was synced and not printed,
+- PROGRAM merges all recordings into a schedule. It may answer `differs` in a round with a turn that was synced and not printed,
   and in no other; such rounds are counted apart, and what follows is asked of the others.
 - PROGRAM replays that schedule, and its trace has each `out` line: step by step the messages and replies are those that the site's
   turns recorded, in order (each frame is compared by its text in the trace, which tells all of its fields).
@@ -225,7 +225,7 @@ class Torment:
         catalog = self.reference.catalog.read(self.catalogue)
         lives = [life for node in self.nodes.values() for life in node.lives]
         self.counts["unprinted"] = sum(has_unprinted_turn(self.reference, catalog, life) for life in lives if life.lines())
-        status, schedule = merged(self.reference.merge_words, self.catalogue, lives)
+        status, schedule = merged(self.program, self.catalogue, lives)
         if status == DIFFERS and self.counts["unprinted"]:
             self.counts["rounds that differ"] += 1
             return
@@ -276,7 +276,7 @@ def report(counts, seeds):
 
 def main():
     program, seed, count, folder = arguments(4000)
-    reference = SimpleNamespace(**dict(zip(MODULES, modules(folder, *MODULES))), merge_words=[f"{folder}/vporacle", "merge"])
+    reference = SimpleNamespace(**dict(zip(MODULES, modules(folder, *MODULES))))
     counts = collections.Counter()
     for round_seed in itertools.count(seed):
         torment = Torment([program], reference, round_seed, min(ROUND, count - counts["Begun"]))

@@ -11,7 +11,7 @@ These are checked:
 
 - Every site reads the same balances, with the sum of the start.
 - Where no outcome is unknown, they are what the transfers that were told `committed` make of the start.
-- The reference merges all recordings into a schedule. It may answer `differs` in a round in which a kill came between a turn's sync and its print, and
+- PROGRAM merges all recordings into a schedule. It may answer `differs` in a round in which a kill came between a turn's sync and its print, and
   in no other; such rounds are counted apart. Of the others PROGRAM replays the schedule, its check finds it serial with the balances that were read,
   each transfer that was told `committed` is in its history, and no other is there but some with an unknown outcome.
 

@@ -24,5 +24,5 @@ blank_site id = site id []
 abbrev pub in_doubt : ℕ × DurableState
 in_doubt = site 2 (log_record.Start 1 ∷ yes opening ∷ [])
 
-abbrev pub applied : ℕ × DurableState
-applied = site 2 (log_record.Start 1 ∷ yes (view 1 1) ∷ log_record.Outcome (txn 1 1 1) true ∷ [])
+abbrev pub applied_site : ℕ × DurableState
+applied_site = site 2 (log_record.Start 1 ∷ yes (view 1 1) ∷ log_record.Outcome (txn 1 1 1) true ∷ [])

@@ -27,6 +27,6 @@ pub fn a_site_in_doubt()
 
 /// One site has applied a write that another has not: its copy is the newer one.
 pub fn a_site_that_has_applied()
-    ensures { report_text worked.both (audit_of worked.both (worked.blank_site 1 ∷ worked.applied ∷ [])) ≡
+    ensures { report_text worked.both (audit_of worked.both (worked.blank_site 1 ∷ worked.applied_site ∷ [])) ≡
         codes "newest x 11 1@1 at 2\ncan x yes\n" }
 {}

@@ -6,7 +6,7 @@ use Rattle.vp_base.specs.Identifiers.{IsTxn}
 use Rattle.vp_base.specs.Order.{txn_before}
 use Rattle.vp_base.specs.declared.ids.TxnId.{TxnId}
 use Rattle.vp_bytes.specs.Fields.{Spelled, txn_bytes}
-use Rattle.vp_bytes.specs.Ranges.{IsTxnBetween, IsTxnBetweenBytes, rank, ranked, last_rank, ascending_txn_at}
+use Rattle.vp_bytes.specs.Ranges.{IsTxnBetween, IsTxnBetweenBytes, rank, txn_of_rank, last_rank, ascending_txn_at}
 use Rattle.vp_bytes.proofs.Ascending.{Item, Ascends}
 use Rattle.vp_bytes.proofs.Free.{IsFree, free_as, made_free}
 use Rattle.vp_bytes.proofs.Identifiers.{txn_exact, txn_free}
@@ -14,8 +14,8 @@ use Rattle.vp_bytes.proofs.Pairs.{pair_bytes, PairAllowed, then_field, pair_free
 use Rattle.vp_bytes.proofs.Ranks.{before_rank, rank_before, rank_last, ranks_range, ranks_between, between_ranks}
 use Rattle.vp_bytes.proofs.TxnsBetween.{txn_between_exact, txn_between_free}
 
-pub ascending_txn_exact : (n least : ℕ) → least + n ≤ last_rank → Exact (IsTxnBetweenBytes (ranked least) (ranked (last_rank - n))) (ascending_txn_at n least)
-ascending_txn_exact n least room = txn_between_exact (ranked least) (ranked (last_rank - n)) (ranks_range n least room)
+pub ascending_txn_exact : (n least : ℕ) → least + n ≤ last_rank → Exact (IsTxnBetweenBytes (txn_of_rank least) (txn_of_rank (last_rank - n))) (ascending_txn_at n least)
+ascending_txn_exact n least room = txn_between_exact (txn_of_rank least) (txn_of_rank (last_rank - n)) (ranks_range n least room)
 
 module _ {X B : Type 0} (txn : X → TxnId) (rest : X → B) (make : TxnId → B → X) (bytes : B → List ℕ) (Rest : B → Type 0) (Allowed : X → Type 0) (read : TxnId → List ℕ → Result (X × List ℕ) ℕ) where
   -- What must hold of the items: each is its transaction and then the rest, which is read exactly.
@@ -45,7 +45,7 @@ module _ {X B : Type 0} (txn : X → TxnId) (rest : X → B) (make : TxnId → B
   ItemOf = Item item_key last_rank item_bytes Allowed TxnBefore item_at
 
   abbrev Parts : ℕ → ℕ → X → List ℕ → Type 0
-  Parts n least = Made (Spelled (pair_bytes txn_bytes bytes) (PairAllowed (IsTxnBetween (ranked least) (ranked (last_rank - n))) Rest)) (λ pair. make pair.0 pair.1)
+  Parts n least = Made (Spelled (pair_bytes txn_bytes bytes) (PairAllowed (IsTxnBetween (txn_of_rank least) (txn_of_rank (last_rank - n))) Rest)) (λ pair. make pair.0 pair.1)
 
   parts_to : Begun → (n least : ℕ) → least + n ≤ last_rank → (x : X) (t : List ℕ) → Parts n least x t → ItemOf n least x t
   parts_to w n least room x t h =
@@ -67,7 +67,7 @@ module _ {X B : Type 0} (txn : X → TxnId) (rest : X → B) (make : TxnId → B
   item_exact : Begun → (n least : ℕ) → least + suc n ≤ suc last_rank → Exact (ItemOf n least) (item_at n least)
   item_exact w n least room =
       let fits : least + n ≤ last_rank = omega (arith, room) in
-      exact_as (parts_to w n least fits) (parts_from w n least fits) (then_field make (txn_between_free (ranked least) (ranked (last_rank - n))) (ascending_txn_exact n least fits) w.exact)
+      exact_as (parts_to w n least fits) (parts_from w n least fits) (then_field make (txn_between_free (txn_of_rank least) (txn_of_rank (last_rank - n))) (ascending_txn_exact n least fits) w.exact)
 
   pair_from : Begun → (x : X) (t : List ℕ) → Spelled item_bytes Allowed x t → Made (Spelled (pair_bytes txn_bytes bytes) (PairAllowed IsTxn Rest)) (λ pair. make pair.0 pair.1) x t
   pair_from w x t h = record { from = (txn x, rest x); spelled = record { is = h.is; allowed = w.to x h.allowed }; is = w.made x }

@@ -74,8 +74,8 @@ unfoldable pub rank : TxnId → ℕ
 rank txn = ((txn.site - 1) * most_u32 + (txn.life - 1)) * most_u32 + (txn.seq - 1)
 
 -- the transaction before which n others come
-unfoldable pub ranked : ℕ → TxnId
-ranked n = txn_of (n / most_u32 / most_u32 + 1) (n / most_u32 % most_u32 + 1) (n % most_u32 + 1)
+unfoldable pub txn_of_rank : ℕ → TxnId
+txn_of_rank n = txn_of (n / most_u32 / most_u32 + 1) (n / most_u32 % most_u32 + 1) (n % most_u32 + 1)
 
 -- how many transactions come before the last one
 abbrev pub last_rank : ℕ
@@ -88,4 +88,4 @@ next_rank (Some txn) = suc (rank txn)
 
 -- a transaction that has this rank or more and leaves room for n others above it
 abbrev pub ascending_txn_at : ℕ → ℕ → List ℕ → Result (TxnId × List ℕ) ℕ
-ascending_txn_at n least bytes = txn_between_at (ranked least) (ranked (last_rank - n)) bytes
+ascending_txn_at n least bytes = txn_between_at (txn_of_rank least) (txn_of_rank (last_rank - n)) bytes

@@ -3,7 +3,7 @@
 ghost use Rattle.std.specs.Prelude.{◌≡◌, ◌≤◌, ◌<◌, ◌+◌, ◌-◌, suc, false, IfOk, IfSome};
 ghost use Rattle.vp_text.specs.Reading.{Reads};
 ghost use Rattle.vp_base.specs.Identifiers.{IsTxn};
-ghost use Rattle.vp_bytes.specs.Ranges.{ascending_txn_at, IsTxnBetween, IsTxnRange, last_rank, least_life, least_seq, most_life, most_seq, next_rank, rank, ranked, txn_between_at};
+ghost use Rattle.vp_bytes.specs.Ranges.{ascending_txn_at, IsTxnBetween, IsTxnRange, last_rank, least_life, least_seq, most_life, most_seq, next_rank, rank, txn_of_rank, txn_between_at};
 
 use crate::ranges::read_u32_within;
 use crate::reading::read_byte;
@@ -88,7 +88,7 @@ pub fn read_ascending_txn(
 fn txn_above(last: Option<TxnId>) -> TxnId
     requires last { IfSome last IsTxn }
     requires room { next_rank last ≤ last_rank }
-    ensures { result ≡ ranked (next_rank last) }
+    ensures { result ≡ txn_of_rank (next_rank last) }
 {
     match last {
         None => TxnId {
@@ -104,7 +104,7 @@ fn txn_above(last: Option<TxnId>) -> TxnId
 fn next_txn(txn: TxnId) -> TxnId
     requires txn { IsTxn txn }
     requires room { rank txn < last_rank }
-    ensures { result ≡ ranked (suc (rank txn)) }
+    ensures { result ≡ txn_of_rank (suc (rank txn)) }
 {
     if txn.seq < u32::MAX {
         TxnId {
@@ -129,7 +129,7 @@ fn next_txn(txn: TxnId) -> TxnId
 
 /// The highest transaction that leaves room for `following` others after it.
 fn txn_below(following: u64) -> TxnId
-    ensures { result ≡ ranked (last_rank - following) }
+    ensures { result ≡ txn_of_rank (last_rank - following) }
 {
     let most = u64::from(u32::MAX);
     let lives = following / most;

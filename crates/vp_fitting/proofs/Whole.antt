@@ -337,15 +337,15 @@ module _ (limits : Limits) (catalogue : Catalogue) (recordings : List Recording)
           let there = agrees_last catalogue events in
           let r = given-more catalogue s (deeds_in limits catalogue recordings before s) more in
           let same : given_by s (moments_of (over catalogue events)) ≡ given_in limits catalogue recordings before s ++ r.0 =
-          sym (there.given_is s events_in) ∙ ap (λ (deeds : List Deed). (alone catalogue s deeds).given) (all.fits.each s (contains sites s events_in) ∙ e)
-          ∙ r.1 ∙ ap (λ (given : List (List (List ℕ))). given ++ r.0) (here.given_is s events_in)
+          sym (there.given_is s listed) ∙ ap (λ (deeds : List Deed). (alone catalogue s deeds).given) (all.fits.each s (contains sites s listed) ∙ e)
+          ∙ r.1 ∙ ap (λ (given : List (List (List ℕ))). given ++ r.0) (here.given_is s listed)
           in
-          (r.0, subst (AreTold s (dues_of s recordings)) same (all.told s (contains sites s events_in)))
+          (r.0, subst (AreTold s (dues_of s recordings)) same (all.told s (contains sites s listed)))
 
     not_unlike : (events : List Event) → MatchesAll (over catalogue events) recordings → (m : Merging) (c : Choice) (final : Done) → Has sites c.site → is_told c.site c.due final.made ≡ false → Came m c final → ⊥
-    not_unlike events all m c final events_in untold (Came.gave mid given at is it) =
+    not_unlike events all m c final listed untold (Came.gave mid given at is it) =
         let more = asked_from c.site c.due.life c.rest in
-        let g = gave_first events all c.site events_in final.events more
+        let g = gave_first events all c.site listed final.events more
         (sym (asked_now recordings c.site (deeds_in limits catalogue recordings mid.events c.site) (given_in limits catalogue recordings mid.events c.site) c.due c.rest at.follows)
         ∙ ap (λ (a : Arrival). deeds_in limits catalogue recordings mid.events c.site ++ asked_then a more) is
         ∙ sym (append_assoc (deeds_in limits catalogue recordings mid.events c.site) (Deed.takes given ∷ []) more)
@@ -354,8 +354,8 @@ module _ (limits : Limits) (catalogue : Catalogue) (recordings : List Recording)
         gives_other recordings c.site (deeds_in limits catalogue recordings mid.events c.site) (given_in limits catalogue recordings mid.events c.site) c.due c.rest given final.made g.0 is
         (subst (λ (a : Arrival). (is_own a && tells c.due.short (outs_of c.due) final.made) ≡ false) is untold) at.follows
         (subst (AreTold c.site (dues_of c.site recordings)) (ap (λ (given : List (List (List ℕ))). given ++ g.0) it.made_is ∙ append_assoc (given_in limits catalogue recordings mid.events c.site) (final.made ∷ []) g.0) g.1)
-    not_unlike events all m c final events_in untold (Came.stood a at is other made) =
-        let g = gave_first events all c.site events_in final.events (asked_from c.site c.due.life (c.due ∷ c.rest)) (sym at.follows.asked) in
+    not_unlike events all m c final listed untold (Came.stood a at is other made) =
+        let g = gave_first events all c.site listed final.events (asked_from c.site c.due.life (c.due ∷ c.rest)) (sym at.follows.asked) in
         by a is other (subst (λ (a : Arrival). (is_own a && tells c.due.short (outs_of c.due) final.made) ≡ false) is untold) g.0 g.1
       where
         by : (a : Arrival) → asks c.site c.due.turn.frame ≡ a → IsOther a → (is_own a && tells c.due.short (outs_of c.due) final.made) ≡ false → (rest : List (List (List ℕ))) → AreTold c.site (dues_of c.site recordings) (given_in limits catalogue recordings final.events c.site ++ rest) → ⊥

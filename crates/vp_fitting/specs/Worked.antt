@@ -23,12 +23,12 @@ life site number turns = record { site = site; life = number; turns = turns; end
 abbrev pub frame_of_call : Call → Frame
 frame_of_call words = frame_of 0 1 (body.Call words)
 
-abbrev pub begun : Frame
-begun = frame_of 1 0 (body.Reply (answer.Begun (txn 1) opening))
+abbrev pub begun_frame : Frame
+begun_frame = frame_of 1 0 (body.Reply (answer.Begun (txn 1) opening))
 
 -- a lone site begins a transaction
 abbrev pub begin : List Recording
-begin = life 1 1 (turn_of (frame_of_call call.Begin) (begun ∷ []) ∷ []) ∷ []
+begin = life 1 1 (turn_of (frame_of_call call.Begin) (begun_frame ∷ []) ∷ []) ∷ []
 
 -- the same without its answer, in a life whose end is told
 abbrev pub without_answer : List Recording

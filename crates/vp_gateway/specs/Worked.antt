@@ -22,11 +22,11 @@ txn = record { site = 1; life = 1; seq = 1 }
 abbrev pub begin : LineRequest
 begin = asked.Call call.Begin
 
-abbrev pub read : LineRequest
-read = asked.Call (call.Read txn 1 (codes "x"))
+abbrev pub call_of_read : LineRequest
+call_of_read = asked.Call (call.Read txn 1 (codes "x"))
 
 abbrev pub all : List LineRequest
-all = begin ∷ read ∷ asked.Bad 1 ∷ []
+all = begin ∷ call_of_read ∷ asked.Bad 1 ∷ []
 
 -- what is asked once each of these pieces has come after the bytes before
 abbrev pub asked_after : List ℕ → List (List ℕ) → List (List LineRequest)

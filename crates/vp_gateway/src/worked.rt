@@ -14,9 +14,9 @@ pub fn lines_of_a_session()
 /// Wherever the session is cut, a line is answered once its newline has come.
 pub fn sessions_in_pieces()
     ensures within { worked.asked_after [] (codes "beg" ∷ codes "in\n1.1.1 1 re" ∷ codes "ad x\nfoo" ∷ codes "\n" ∷ [])
-        ≡ [] ∷ (worked.begin ∷ []) ∷ (worked.begin ∷ worked.read ∷ []) ∷ worked.all ∷ [] }
+        ≡ [] ∷ (worked.begin ∷ []) ∷ (worked.begin ∷ worked.call_of_read ∷ []) ∷ worked.all ∷ [] }
     ensures at_newlines { worked.asked_after [] (codes "begin" ∷ codes "\n1.1.1 1 read x\n" ∷ codes "foo\n" ∷ [])
-        ≡ [] ∷ (worked.begin ∷ worked.read ∷ []) ∷ worked.all ∷ [] }
+        ≡ [] ∷ (worked.begin ∷ worked.call_of_read ∷ []) ∷ worked.all ∷ [] }
 {}
 
 /// The place at which a line is no call: no call goes on so, or has such a number; something follows a call; or nothing is there.

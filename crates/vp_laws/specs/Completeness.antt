@@ -1,5 +1,5 @@
 -- What a site never leaves undone: a transaction whose last vote comes is committed, and a copy that may be read is read.
-use Rattle.std.specs.Prelude.{Option, ◌≡◌, ℕ, ◌+◌, ◌<◌, true, List, [], ◌∷◌, length, Some, None}
+use Rattle.std.specs.Prelude.{◌≡◌, ℕ, ◌+◌, ◌<◌, true, List, [], ◌∷◌, length, Some, None}
 use Rattle.std.specs.List.{Contains}
 use Rattle.vp_model.specs.Types.{Pending, Live, Stored}
 use Rattle.vp_model.specs.Types.answer

@@ -7,7 +7,7 @@ use Rattle.std.specs.List.Sorted.{IsStrictlyIncreasing}
 use Rattle.std.proofs.lemmas.List.{get_or_default, get_or-map, length-map}
 use Rattle.std.proofs.lemmas.List.Edits.{map_over_more}
 use Rattle.vp_model.specs.Types.{Owner, Lock}
-use Rattle.vp_locks.specs.Places.{present, lock_at, passes, places, revise_slot, if_kept}
+use Rattle.vp_locks.specs.Places.{present_locks, lock_at, passes, places, revise_slot, if_kept}
 
 -- the locks at places after the first one
 later_locks : (s : Option Lock) (slots : List (Option Lock)) (ks : List ℕ) → filter_map (lock_at (s ∷ slots)) (map suc ks) ≡ filter_map (lock_at slots) ks
@@ -15,12 +15,12 @@ later_locks s slots [] = refl
 later_locks s slots (k ∷ ks) = ap (cons_option (lock_at slots k)) (later_locks s slots ks)
 
 -- the locks at the places of a test are those that pass it, in order
-pub found : (test : Lock → Bool) (slots : List (Option Lock)) → filter_map (lock_at slots) (places test slots) ≡ filter test (present slots)
+pub found : (test : Lock → Bool) (slots : List (Option Lock)) → filter_map (lock_at slots) (places test slots) ≡ filter test (present_locks slots)
 found test [] = refl
 found test (None ∷ slots) = later_locks None slots (places test slots) ∙ found test slots
 found test (Some l ∷ slots) =
     let later = later_locks (Some l) slots (places test slots) ∙ found test slots in
-    elim (test l) as (λ b. filter_map (lock_at (Some l ∷ slots)) (if b then 0 ∷ map suc (places test slots) else map suc (places test slots)) ≡ (if b then l ∷ filter test (present slots) else filter test (present slots)))
+    elim (test l) as (λ b. filter_map (lock_at (Some l ∷ slots)) (if b then 0 ∷ map suc (places test slots) else map suc (places test slots)) ≡ (if b then l ∷ filter test (present_locks slots) else filter test (present_locks slots)))
     [ true ↦ ap (λ ls. l ∷ ls) later | false ↦ later ]
 
 map-append : (xs ys : List ℕ) → map suc (xs ++ ys) ≡ map suc xs ++ map suc ys
@@ -35,16 +35,16 @@ places_more test (t ∷ slots) s =
     let joined = map-append (places test slots) (length slots ∷ []) in
     grind (arith, rest, joined)
 
-pub present_more : (slots : List (Option Lock)) (s : Option Lock) → present (slots ++ s ∷ []) ≡ present slots ++ cons_option s []
+pub present_more : (slots : List (Option Lock)) (s : Option Lock) → present_locks (slots ++ s ∷ []) ≡ present_locks slots ++ cons_option s []
 present_more [] s = refl
 present_more (None ∷ slots) s = present_more slots s
 present_more (Some l ∷ slots) s = ap (λ ls. l ∷ ls) (present_more slots s)
 
 -- the locks up to the next slot
-pub present_next : (xs : List (Option Lock)) (i : ℕ) (x : Option Lock) → i < length xs → x ≡ get_or xs i x → present (take (i + 1) xs) ≡ present (take i xs) ++ cons_option x []
+pub present_next : (xs : List (Option Lock)) (i : ℕ) (x : Option Lock) → i < length xs → x ≡ get_or xs i x → present_locks (take (i + 1) xs) ≡ present_locks (take i xs) ++ cons_option x []
 present_next xs i x within at =
     let next : i + 1 ≡ suc i = omega arith in
-    ap (λ n. present (take n xs)) next ∙ ap present (take-suc xs i x within) ∙ present_more (take i xs) (get_or xs i x) ∙ ap (λ s. present (take i xs) ++ cons_option s []) (sym at)
+    ap (λ n. present_locks (take n xs)) next ∙ ap present_locks (take-suc xs i x within) ∙ present_more (take i xs) (get_or xs i x) ∙ ap (λ s. present_locks (take i xs) ++ cons_option s []) (sym at)
 
 -- a filter of the places after the first one
 filter_later : (p : ℕ → Bool) (ks : List ℕ) → filter p (map suc ks) ≡ map suc (filter (λ k. p (suc k)) ks)
@@ -164,7 +164,7 @@ module _ (f : Lock → Option Lock) where
 
 module _ (test : Lock → Bool) where
   module _ (g : Lock → Lock) where
-    pub present_changed : (slots : List (Option Lock)) → present (map (revised_where test (λ lock. Some (g lock))) slots) ≡ map (λ lock. if test lock then g lock else lock) (present slots)
+    pub present_changed : (slots : List (Option Lock)) → present_locks (map (revised_where test (λ lock. Some (g lock))) slots) ≡ map (λ lock. if test lock then g lock else lock) (present_locks slots)
     present_changed [] = refl
     present_changed (None ∷ slots) = present_changed slots
     present_changed (Some l ∷ slots) = let rest = present_changed slots in grind (arith, rest)
@@ -176,7 +176,7 @@ module _ (test : Lock → Bool) where
     places_changed t u same (Some l ∷ slots) = let rest = places_changed t u same slots in grind (arith, rest, same l)
 
   module _ (keeps : Lock → Bool) where
-    pub present_kept : (slots : List (Option Lock)) → present (map (revised_where test (if_kept keeps)) slots) ≡ filter (λ lock. not (test lock) || keeps lock) (present slots)
+    pub present_kept : (slots : List (Option Lock)) → present_locks (map (revised_where test (if_kept keeps)) slots) ≡ filter (λ lock. not (test lock) || keeps lock) (present_locks slots)
     present_kept [] = refl
     present_kept (None ∷ slots) = present_kept slots
     present_kept (Some l ∷ slots) = let rest = present_kept slots in grind (arith, rest)
@@ -226,7 +226,7 @@ abbrev pub if_kept_there : (Lock → Bool) → Option Lock → Option Lock
 if_kept_there keeps s = option_map_or (if_kept keeps) s None
 
 module _ (keeps : Lock → Bool) where
-  pub present_all : (slots : List (Option Lock)) → present (map (if_kept_there keeps) slots) ≡ filter keeps (present slots)
+  pub present_all : (slots : List (Option Lock)) → present_locks (map (if_kept_there keeps) slots) ≡ filter keeps (present_locks slots)
   present_all [] = refl
   present_all (None ∷ slots) = present_all slots
   present_all (Some l ∷ slots) = let rest = present_all slots in grind (arith, rest)

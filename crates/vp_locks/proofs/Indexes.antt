@@ -11,14 +11,14 @@ use Rattle.vp_model.specs.Types.{Owner, Lock}
 use Rattle.vp_base.specs.declared.entry.Owner.TheVariants.{Txn, Refresh}
 use Rattle.vp_model.specs.Locks.{raised, lesser, conflicting, holds}
 use Rattle.vp_model.specs.Words.{same_owner}
-use Rattle.vp_locks.specs.Places.{present, lock_at, passes, places, revise_slot, if_kept}
+use Rattle.vp_locks.specs.Places.{present_locks, lock_at, passes, places, revise_slot, if_kept}
 use Rattle.vp_locks.specs.declared.places.RecPlaces.{RecPlaces}
 use Rattle.vp_locks.specs.Index.{places_of, Changes, IsIndex, IsRecIndex, IsOwnerIndex, OwnerKey, owner_key, key_eq, on_rec, exclusive_on, owned_by}
 use Rattle.vp_locks.proofs.InSlots.{found, places_more, places_rise, places_both, places_without, places_apart, places_changed, places_kept, places_untouched, present_changed, present_kept, revised_each, revised_where}
 
 module _ {K A S : Type 0} (eq : K → K → Bool) (fits : Lock → K → Bool) (old : IndexMap K (Vec ℕ A) S) (slots : List (Option Lock)) (index : IsIndex eq fits old slots) where
   -- the locks at the places of a key; and the places ascend
-  pub locks_of : (key : K) → filter_map (lock_at slots) (places_of eq old key) ≡ filter (λ lock. fits lock key) (present slots)
+  pub locks_of : (key : K) → filter_map (lock_at slots) (places_of eq old key) ≡ filter (λ lock. fits lock key) (present_locks slots)
   locks_of key = ap (filter_map (lock_at slots)) (index key) ∙ found (λ lock. fits lock key) slots
 
   pub rises : (key : K) → IsStrictlyIncreasing (places_of eq old key)
@@ -102,23 +102,23 @@ module _ (owner : Owner) where
 
   module _ (p : RecPlaces) (slots : List (Option Lock)) (index : IsRecIndex p slots) (rec : ℕ) where
     -- all locks of the record conflict with an exclusive lock, and the exclusive ones conflict with a shared lock
-    pub forbids_exclusive : filter (λ lock. not (same_owner lock.owner owner)) (filter_map (lock_at slots) (places_of nat_eq p.all.lists rec)) ≡ conflicting rec true owner (present slots)
+    pub forbids_exclusive : filter (λ lock. not (same_owner lock.owner owner)) (filter_map (lock_at slots) (places_of nat_eq p.all.lists rec)) ≡ conflicting rec true owner (present_locks slots)
     forbids_exclusive =
         ap (filter (λ (lock : Lock). not (same_owner lock.owner owner))) (locks_of nat_eq on_rec p.all.lists slots index.0 rec)
-        ∙ filter_both (λ lock. on_rec lock rec) (λ lock. not (same_owner lock.owner owner)) (λ lock. (lock.rec == rec) && (true || lock.exclusive) && not (same_owner lock.owner owner)) (λ lock. grind (arith, nat_tests)) (present slots)
+        ∙ filter_both (λ lock. on_rec lock rec) (λ lock. not (same_owner lock.owner owner)) (λ lock. (lock.rec == rec) && (true || lock.exclusive) && not (same_owner lock.owner owner)) (λ lock. grind (arith, nat_tests)) (present_locks slots)
 
-    pub forbids_shared : filter (λ lock. not (same_owner lock.owner owner)) (filter_map (lock_at slots) (places_of nat_eq p.exclusive.lists rec)) ≡ conflicting rec false owner (present slots)
+    pub forbids_shared : filter (λ lock. not (same_owner lock.owner owner)) (filter_map (lock_at slots) (places_of nat_eq p.exclusive.lists rec)) ≡ conflicting rec false owner (present_locks slots)
     forbids_shared =
         ap (filter (λ (lock : Lock). not (same_owner lock.owner owner))) (locks_of nat_eq exclusive_on p.exclusive.lists slots index.1 rec)
-        ∙ filter_both (λ lock. exclusive_on lock rec) (λ lock. not (same_owner lock.owner owner)) (λ lock. (lock.rec == rec) && (false || lock.exclusive) && not (same_owner lock.owner owner)) (λ lock. grind (arith, nat_tests)) (present slots)
+        ∙ filter_both (λ lock. exclusive_on lock rec) (λ lock. not (same_owner lock.owner owner)) (λ lock. (lock.rec == rec) && (false || lock.exclusive) && not (same_owner lock.owner owner)) (λ lock. grind (arith, nat_tests)) (present_locks slots)
 
   -- a lock that the owner has on the record is in the record's list and in the owner's
   pub held_of : {K A S : Type 0} (eq : K → K → Bool) (fits : Lock → K → Bool) (lists : IndexMap K (Vec ℕ A) S) (slots : List (Option Lock)) → IsIndex eq fits lists slots
       → (rec : ℕ) (exclusive : Bool) (key : K) → ((lock : Lock) → ((lock.rec == rec) && (not exclusive || lock.exclusive) && same_owner lock.owner owner) ≡ true → fits lock key ≡ true)
-      → holds rec exclusive owner (filter_map (lock_at slots) (places_of eq lists key)) ≡ holds rec exclusive owner (present slots)
+      → holds rec exclusive owner (filter_map (lock_at slots) (places_of eq lists key)) ≡ holds rec exclusive owner (present_locks slots)
   held_of eq fits lists slots index rec exclusive key implies =
       ap (holds rec exclusive owner) (locks_of eq fits lists slots index key)
-      ∙ any-filter_same (λ (lock : Lock). (lock.rec == rec) && (not exclusive || lock.exclusive) && same_owner lock.owner owner) (λ lock. fits lock key) true implies (present slots)
+      ∙ any-filter_same (λ (lock : Lock). (lock.rec == rec) && (not exclusive || lock.exclusive) && same_owner lock.owner owner) (λ lock. fits lock key) true implies (present_locks slots)
 
   module _ (rec : ℕ) (exclusive : Bool) (lock : Lock) (is : ((lock.rec == rec) && (not exclusive || lock.exclusive) && same_owner lock.owner owner) ≡ true) where
     pub fits_rec : on_rec lock rec ≡ true
@@ -133,8 +133,8 @@ module _ {A S : Type 0} (lists : IndexMap OwnerKey (Vec ℕ A) S) (slots : List 
   owner_revised f = ap (fold (revise_slot f) slots) (index (owner_key owner)) ∙ revised_each f (λ lock. owned_by lock (owner_key owner)) slots
 
   -- the owner's locks that aren't kept are released
-  pub owner_swept : (keeps : Lock → Bool) → present (map (revised_where (λ lock. owned_by lock (owner_key owner)) (if_kept keeps)) slots) ≡ filter (λ lock. not (same_owner lock.owner owner) || keeps lock) (present slots)
-  owner_swept keeps = present_kept (λ lock. owned_by lock (owner_key owner)) keeps slots ∙ (λ i. filter (λ (lock : Lock). not (key_same lock.owner owner i) || keeps lock) (present slots))
+  pub owner_swept : (keeps : Lock → Bool) → present_locks (map (revised_where (λ lock. owned_by lock (owner_key owner)) (if_kept keeps)) slots) ≡ filter (λ lock. not (same_owner lock.owner owner) || keeps lock) (present_locks slots)
+  owner_swept keeps = present_kept (λ lock. owned_by lock (owner_key owner)) keeps slots ∙ (λ i. filter (λ (lock : Lock). not (key_same lock.owner owner i) || keeps lock) (present_locks slots))
 
 -- the owner's locks on a record are made exclusive
 module _ (rec : ℕ) (owner : Owner) where
@@ -157,8 +157,8 @@ module _ (rec : ℕ) (owner : Owner) where
   exclusive_here : (q : ℕ) → nat_eq rec q ≡ true → (lock : Lock) → exclusive_on (if on_rec lock rec then raised rec true owner lock else lock) q ≡ (on_rec lock rec && (lock.exclusive || same_owner lock.owner owner))
   exclusive_here q same lock = grind (arith, nat_tests, same)
 
-  pub all_raised : (slots : List (Option Lock)) → present (map (revised_where (λ lock. on_rec lock rec) (λ lock. Some (raised rec true owner lock))) slots) ≡ map (raised rec true owner) (present slots)
-  all_raised slots = present_changed (λ lock. on_rec lock rec) (raised rec true owner) slots ∙ (λ i. map (λ (lock : Lock). raised_on lock i) (present slots))
+  pub all_raised : (slots : List (Option Lock)) → present_locks (map (revised_where (λ lock. on_rec lock rec) (λ lock. Some (raised rec true owner lock))) slots) ≡ map (raised rec true owner) (present_locks slots)
+  all_raised slots = present_changed (λ lock. on_rec lock rec) (raised rec true owner) slots ∙ (λ i. map (λ (lock : Lock). raised_on lock i) (present_locks slots))
 
   module _ (old : RecPlaces) (slots : List (Option Lock)) (index : IsRecIndex old slots) where
     pub rec_revised : (f : Lock → Option Lock) → fold (revise_slot f) slots (places_of nat_eq old.all.lists rec) ≡ map (revised_where (λ lock. on_rec lock rec) f) slots

@@ -5,8 +5,8 @@ use Rattle.std.specs.Option.{option_map_or}
 use Rattle.vp_base.specs.declared.site.Lock.{Lock}
 
 -- the locks in the slots, in order
-abbrev pub present : List (Option Lock) → List Lock
-present slots = filter_map (λ s. s) slots
+abbrev pub present_locks : List (Option Lock) → List Lock
+present_locks slots = filter_map (λ s. s) slots
 
 -- the lock at a place
 abbrev pub lock_at : List (Option Lock) → ℕ → Option Lock

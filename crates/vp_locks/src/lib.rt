@@ -152,13 +152,13 @@ impl Model for Locks {
     ghost use Rattle.std.specs.Prelude.{List};
     ghost use Rattle.vp_base.specs.declared.site.Lock.{Lock};
     ghost use Rattle.vp_locks.specs.Index.{AreListed, IsOwnerIndex, IsRecIndex};
-    ghost use Rattle.vp_locks.specs.Places.{present};
+    ghost use Rattle.vp_locks.specs.Places.{present_locks};
 
     ghost Value = { List Lock };
 
-    ghost view = { λ a. present a.slots.items };
+    ghost view = { λ a. present_locks a.slots.items };
 
-    ghost invariant = { λ a. IsRecIndex a.by_rec a.slots.items × IsOwnerIndex a.by_owner.lists a.slots.items × AreListed a.recs.lists (present a.slots.items) };
+    ghost invariant = { λ a. IsRecIndex a.by_rec a.slots.items × IsOwnerIndex a.by_owner.lists a.slots.items × AreListed a.recs.lists (present_locks a.slots.items) };
 }
 
 impl CopyOf for Locks {

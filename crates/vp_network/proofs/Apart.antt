@@ -11,7 +11,7 @@ use Rattle.vp_laws.proofs.Lists.Numbers.{eq_self}
 use Rattle.vp_outside.specs.declared.datagram.Datagram.{Datagram}
 use Rattle.vp_runs.specs.Arrivals.{arrival}
 use Rattle.vp_runs.specs.Turns.{turn_on}
-use Rattle.vp_network.specs.Cluster.{Process, ClusterState, Happening, process_of, change_process, running, known, start_process, turn_process, end_process, dead, whole_turn, broken_turn, whose, after}
+use Rattle.vp_network.specs.Cluster.{Process, ClusterState, Happening, process_of, change_process, running, known_catalogue, start_process, turn_process, end_process, dead, whole_turn, broken_turn, whose, after}
 use Rattle.vp_network.specs.Apart.{own, ProcessesAreApart}
 use Rattle.vp_network.proofs.Linked.{process-same, process-other}
 use Rattle.vp_network.proofs.Held.{keeps_id}
@@ -55,20 +55,20 @@ module _ (all : Catalogue) (id : ℕ) where
     handed = sym (append-nil c.handed);
   }
   makes (Happening.Comes k d) c = record {
-    process = λ e. subst (λ n. process_of id (for_some (running n c) (whole_turn (known all n c) n d) c).processes ≡ made (Happening.Comes k d) (process_of id c.processes)) (sym e) (go (running id c));
+    process = λ e. subst (λ n. process_of id (for_some (running n c) (whole_turn (known_catalogue all n c) n d) c).processes ≡ made (Happening.Comes k d) (process_of id c.processes)) (sym e) (go (running id c));
     other = λ n. off n (running k c);
     handed = hand (running k c);
   }
     where
-      go : (o : Option SiteState) → process_of id (for_some o (whole_turn (known all id c) id d) c).processes ≡ option_map_or (λ x. option_map (turn_process x (turn_on (known all id c) x (arrival (known all id c) x.id d))) (process_of id c.processes)) o (process_of id c.processes)
+      go : (o : Option SiteState) → process_of id (for_some o (whole_turn (known_catalogue all id c) id d) c).processes ≡ option_map_or (λ x. option_map (turn_process x (turn_on (known_catalogue all id c) x (arrival (known_catalogue all id c) x.id d))) (process_of id c.processes)) o (process_of id c.processes)
       go None = refl
-      go (Some x) = process-same id (turn_process x (turn_on (known all id c) x (arrival (known all id c) x.id d))) c.processes (λ p. refl)
+      go (Some x) = process-same id (turn_process x (turn_on (known_catalogue all id c) x (arrival (known_catalogue all id c) x.id d))) c.processes (λ p. refl)
 
-      off : k ≢ id → (o : Option SiteState) → process_of id (for_some o (whole_turn (known all k c) k d) c).processes ≡ process_of id c.processes
+      off : k ≢ id → (o : Option SiteState) → process_of id (for_some o (whole_turn (known_catalogue all k c) k d) c).processes ≡ process_of id c.processes
       off n None = refl
-      off n (Some x) = other_of k (turn_process x (turn_on (known all k c) x (arrival (known all k c) x.id d))) (λ p. refl) c.processes n
+      off n (Some x) = other_of k (turn_process x (turn_on (known_catalogue all k c) x (arrival (known_catalogue all k c) x.id d))) (λ p. refl) c.processes n
 
-      hand : (o : Option SiteState) → (for_some o (whole_turn (known all k c) k d) c).handed ≡ c.handed ++ option_map_or (λ x. (turn_on (known all k c) x (arrival (known all k c) x.id d)).datagrams) o []
+      hand : (o : Option SiteState) → (for_some o (whole_turn (known_catalogue all k c) k d) c).handed ≡ c.handed ++ option_map_or (λ x. (turn_on (known_catalogue all k c) x (arrival (known_catalogue all k c) x.id d)).datagrams) o []
       hand None = sym (append-nil c.handed)
       hand (Some x) = refl
   makes (Happening.Dies k left) c = record {
@@ -89,20 +89,20 @@ module _ (all : Catalogue) (id : ℕ) where
       hand None = sym (append-nil c.handed)
       hand (Some x) = sym (append-nil c.handed)
   makes (Happening.Breaks k d left sent) c = record {
-    process = λ e. subst (λ n. process_of id (for_some (running n c) (broken_turn (known all n c) n d left sent) c).processes ≡ made (Happening.Breaks k d left sent) (process_of id c.processes)) (sym e) (go (running id c));
+    process = λ e. subst (λ n. process_of id (for_some (running n c) (broken_turn (known_catalogue all n c) n d left sent) c).processes ≡ made (Happening.Breaks k d left sent) (process_of id c.processes)) (sym e) (go (running id c));
     other = λ n. off n (running k c);
     handed = hand (running k c);
   }
     where
-      go : (o : Option SiteState) → process_of id (for_some o (broken_turn (known all id c) id d left sent) c).processes ≡ option_map_or (λ x. option_map (end_process left) (process_of id c.processes)) o (process_of id c.processes)
+      go : (o : Option SiteState) → process_of id (for_some o (broken_turn (known_catalogue all id c) id d left sent) c).processes ≡ option_map_or (λ x. option_map (end_process left) (process_of id c.processes)) o (process_of id c.processes)
       go None = refl
       go (Some x) = process-same id (end_process left) c.processes (λ p. refl)
 
-      off : k ≢ id → (o : Option SiteState) → process_of id (for_some o (broken_turn (known all k c) k d left sent) c).processes ≡ process_of id c.processes
+      off : k ≢ id → (o : Option SiteState) → process_of id (for_some o (broken_turn (known_catalogue all k c) k d left sent) c).processes ≡ process_of id c.processes
       off n None = refl
       off n (Some x) = other_of k (end_process left) (λ p. refl) c.processes n
 
-      hand : (o : Option SiteState) → (for_some o (broken_turn (known all k c) k d left sent) c).handed ≡ c.handed ++ option_map_or (λ x. take sent (turn_on (known all k c) x (arrival (known all k c) x.id d)).datagrams) o []
+      hand : (o : Option SiteState) → (for_some o (broken_turn (known_catalogue all k c) k d left sent) c).handed ≡ c.handed ++ option_map_or (λ x. take sent (turn_on (known_catalogue all k c) x (arrival (known_catalogue all k c) x.id d)).datagrams) o []
       hand None = sym (append-nil c.handed)
       hand (Some x) = refl
 

@@ -15,7 +15,7 @@ use Rattle.vp_runs.specs.Arrivals.{arrival}
 use Rattle.vp_runs.specs.Keeping.{durable_in}
 use Rattle.vp_runs.specs.Turns.{turn_on}
 use Rattle.vp_runs.specs.Runs.{NodeState, NodeRun, with_turn, start_of, after_turn, one_turn, node_run}
-use Rattle.vp_network.specs.Cluster.{Process, ClusterState, Happening, new_cluster, cluster, process_of, running, known, end_process, dead, broken_turn, whose, after, MayAlone, May, MayAll}
+use Rattle.vp_network.specs.Cluster.{Process, ClusterState, Happening, new_cluster, cluster, process_of, running, known_catalogue, end_process, dead, broken_turn, whose, after, MayAlone, May, MayAll}
 use Rattle.vp_network.specs.Lives.{happenings_of_life, Lives}
 use Rattle.vp_network.specs.Ends.{RunsBreak, RunsEnd, LivesFollow}
 use Rattle.vp_network.specs.Together.{MayAllAlone}
@@ -172,10 +172,10 @@ unfolding after
 breaks catalogue c d id p sites run last left sent l folds =
     let here : Catalogue = record catalogue { sites = sites } in
     let up : running id d ≡ Some run.node.site = ap (option_and_then (λ (p : Process). p.up)) l.process_is in
-    let known_is : known catalogue id d ≡ here = ap (λ (o : Option Process). record catalogue { sites = option_map_or (λ (p : Process). p.sites) o [] }) l.process_is in
-    let broke : for_some (running id d) (broken_turn (known catalogue id d) id last left sent) d ≡ broken_turn here id last left sent run.node.site d =
-    ap (λ (o : Option SiteState). for_some o (broken_turn (known catalogue id d) id last left sent) d) up ∙ ap (λ (k : Catalogue). broken_turn k id last left sent run.node.site d) known_is in (
-      subst (λ (o : Option SiteState). IfSome o (λ site. durable_in catalogue id left ≡ durable_of (turn_on (known catalogue id d) site (arrival (known catalogue id d) site.id last)).site)) (sym up)
+    let known_is : known_catalogue catalogue id d ≡ here = ap (λ (o : Option Process). record catalogue { sites = option_map_or (λ (p : Process). p.sites) o [] }) l.process_is in
+    let broke : for_some (running id d) (broken_turn (known_catalogue catalogue id d) id last left sent) d ≡ broken_turn here id last left sent run.node.site d =
+    ap (λ (o : Option SiteState). for_some o (broken_turn (known_catalogue catalogue id d) id last left sent) d) up ∙ ap (λ (k : Catalogue). broken_turn k id last left sent run.node.site d) known_is in (
+      subst (λ (o : Option SiteState). IfSome o (λ site. durable_in catalogue id left ≡ durable_of (turn_on (known_catalogue catalogue id d) site (arrival (known_catalogue catalogue id d) site.id last)).site)) (sym up)
           (subst (λ (k : Catalogue). durable_in catalogue id left ≡ durable_of (turn_on k run.node.site (arrival k run.node.site.id last)).site) (sym known_is) folds),
       ap (λ (e : ClusterState). process_of id e.processes) broke ∙ process-same id (end_process left) d.processes (λ p. refl) ∙ ap (option_map (end_process left)) l.process_is,
       ap (λ (e : ClusterState). e.handed) broke,

@@ -13,7 +13,7 @@ use Rattle.vp_laws.proofs.Lists.Numbers.{eq_self}
 use Rattle.vp_outside.specs.declared.datagram.Datagram.{Datagram}
 use Rattle.vp_runs.specs.Arrivals.{arrival}
 use Rattle.vp_runs.specs.Turns.{turn_on}
-use Rattle.vp_network.specs.Cluster.{Process, ClusterState, Happening, new_cluster, process_of, known, whose, datagram_of, after, cluster, IsLeft, MayAlone, IsHonest, ComesHonestly, MayAll}
+use Rattle.vp_network.specs.Cluster.{Process, ClusterState, Happening, new_cluster, process_of, known_catalogue, whose, datagram_of, after, cluster, IsLeft, MayAlone, IsHonest, ComesHonestly, MayAll}
 use Rattle.vp_network.specs.Apart.{own}
 use Rattle.vp_network.specs.Together.{Timed, AreInOrder, happenings_of, before, MayAllAlone, IsHandedBefore, ComeAfter, ProcessesMakeClusters}
 use Rattle.vp_network.proofs.Apart.{given, makes, processes_are_apart}
@@ -36,7 +36,7 @@ module _ (catalogue : Catalogue) where
       → ComesHonestly catalogue P h e → ComesHonestly catalogue Q h c
   comes P Q more h c e same honest = go (datagram_of h) (subst (λ (o : Option Process). IfSome (datagram_of h) (λ d. IsHonest (knows o) P (whose h) d)) (sym same) honest)
     where
-      go : (o : Option Datagram) → IfSome o (λ d. IsHonest (known catalogue (whose h) c) P (whose h) d) → IfSome o (λ d. IsHonest (known catalogue (whose h) c) Q (whose h) d)
+      go : (o : Option Datagram) → IfSome o (λ d. IsHonest (known_catalogue catalogue (whose h) c) P (whose h) d) → IfSome o (λ d. IsHonest (known_catalogue catalogue (whose h) c) Q (whose h) d)
       go None honest = tt
       go (Some d) honest = λ from message is. let it = honest from message is in (it.0, more it.0 it.1, it.2)
 

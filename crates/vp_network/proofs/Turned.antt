@@ -23,7 +23,7 @@ use Rattle.vp_runs.proofs.Checkpoints.{steps_fold}
 use Rattle.vp_ports.specs.Ports.{AreAlike}
 use Rattle.vp_ports.proofs.Catalogues.{steps_are_same}
 use Rattle.std.specs.Option.{option_map_or}
-use Rattle.vp_network.specs.Cluster.{Process, known, ClusterState, Happening, process_of, change_process, running, end_process, dead, turn_process, act, acts_on, with_turn, whole_turn, broken_turn, after, IsHonest, IsLeft, May, MayAll}
+use Rattle.vp_network.specs.Cluster.{Process, known_catalogue, ClusterState, Happening, process_of, change_process, running, end_process, dead, turn_process, act, acts_on, with_turn, whole_turn, broken_turn, after, IsHonest, IsLeft, May, MayAll}
 use Rattle.vp_network.proofs.Extending.{run_over}
 use Rattle.vp_network.proofs.Coming.{gives}
 use Rattle.vp_network.proofs.Linked.{process-same, changed_twice, changed_alike, Placed, Runs, runs}
@@ -31,7 +31,7 @@ use Rattle.vp_network.proofs.Acted.{stands, linked_acted}
 use Rattle.vp_network.proofs.Given.{does}
 use Rattle.vp_network.proofs.Held.{Held, with_processes, take_has, take_none, world_is, more, same, one_placed, kill, starts}
 
-module _ (catalogue : Catalogue) (k : IsCatalogue catalogue) (id : ℕ) (c : ClusterState) (h : Held catalogue c) (d : Datagram) (honest : IsHonest (known catalogue id c) (Contains c.handed) id d) (x : SiteState) (up : running id c ≡ Some x) where
+module _ (catalogue : Catalogue) (k : IsCatalogue catalogue) (id : ℕ) (c : ClusterState) (h : Held catalogue c) (d : Datagram) (honest : IsHonest (known_catalogue catalogue id c) (Contains c.handed) id d) (x : SiteState) (up : running id c ≡ Some x) where
   abbrev run : Run
   run = run_over catalogue h.events
 
@@ -42,7 +42,7 @@ module _ (catalogue : Catalogue) (k : IsCatalogue catalogue) (id : ℕ) (c : Clu
   world = world_is catalogue k c h
 
   abbrev here : Catalogue
-  here = known catalogue id c
+  here = known_catalogue catalogue id c
 
   alike : AreAlike catalogue here
   alike = record { sites = sym r.alike ∙ ap (λ (o : Option Process). keys (option_map_or (λ (p : Process). p.sites) o [])) (sym r.at); records = refl }
@@ -145,12 +145,12 @@ happens_on catalogue k (Happening.Dies id left) c h may = go (running id c) refl
     go (Some x) e is_left = kill catalogue id c h left x e is_left
 happens_on catalogue k (Happening.Comes id d) c h may = go (running id c) refl
   where
-    go : (o : Option SiteState) → running id c ≡ o → Held catalogue (for_some o (whole_turn (known catalogue id c) id d) c)
+    go : (o : Option SiteState) → running id c ≡ o → Held catalogue (for_some o (whole_turn (known_catalogue catalogue id c) id d) c)
     go None e = h
     go (Some x) e = whole catalogue k id c h d may.1 x e
 happens_on catalogue k (Happening.Breaks id d left sent) c h may = go (running id c) refl may.0
   where
-    go : (o : Option SiteState) → running id c ≡ o → IfSome o (λ site. IsLeft catalogue id left (turn_on (known catalogue id c) site (arrival (known catalogue id c) site.id d)).site) → Held catalogue (for_some o (broken_turn (known catalogue id c) id d left sent) c)
+    go : (o : Option SiteState) → running id c ≡ o → IfSome o (λ site. IsLeft catalogue id left (turn_on (known_catalogue catalogue id c) site (arrival (known_catalogue catalogue id c) site.id d)).site) → Held catalogue (for_some o (broken_turn (known_catalogue catalogue id c) id d left sent) c)
     go None e is_left = h
     go (Some x) e is_left = breaks catalogue k id c h d may.1 x e left sent is_left
 

@@ -58,8 +58,8 @@ abbrev pub running : ℕ → ClusterState → Option SiteState
 running id c = option_and_then (λ p. p.up) (process_of id c.processes)
 
 -- the catalogue as the process knows it
-abbrev pub known : Catalogue → ℕ → ClusterState → Catalogue
-known catalogue id c = record catalogue { sites = option_map_or (λ (p : Process). p.sites) (process_of id c.processes) [] }
+abbrev pub known_catalogue : Catalogue → ℕ → ClusterState → Catalogue
+known_catalogue catalogue id c = record catalogue { sites = option_map_or (λ (p : Process). p.sites) (process_of id c.processes) [] }
 
 -- ---- what happens
 
@@ -125,9 +125,9 @@ dead id left site c = record c { processes = change_process id (end_process left
 -- nothing comes to a process that doesn't run
 unfoldable pub after : Catalogue → Happening → ClusterState → ClusterState
 after catalogue (Happening.Starts id sites) c = record c { processes = change_process id (start_process catalogue sites) c.processes }
-after catalogue (Happening.Comes id d) c = c |> for_some (running id c) (whole_turn (known catalogue id c) id d)
+after catalogue (Happening.Comes id d) c = c |> for_some (running id c) (whole_turn (known_catalogue catalogue id c) id d)
 after catalogue (Happening.Dies id left) c = c |> for_some (running id c) (dead id left)
-after catalogue (Happening.Breaks id d left sent) c = c |> for_some (running id c) (broken_turn (known catalogue id c) id d left sent)
+after catalogue (Happening.Breaks id d left sent) c = c |> for_some (running id c) (broken_turn (known_catalogue catalogue id c) id d left sent)
 
 unfoldable pub cluster : Catalogue → List Happening → ClusterState
 cluster catalogue happenings = for_each happenings (after catalogue) (new_cluster catalogue)
@@ -159,7 +159,7 @@ MayAlone catalogue (Happening.Starts id sites) c = keys sites ≡ sites_of catal
 MayAlone catalogue (Happening.Comes id d) c = ⊤
 MayAlone catalogue (Happening.Dies id left) c = IfSome (running id c) (λ site. IsLeft catalogue id left site)
 MayAlone catalogue (Happening.Breaks id d left sent) c =
-    IfSome (running id c) (λ site. IsLeft catalogue id left (turn_on (known catalogue id c) site (arrival (known catalogue id c) site.id d)).site)
+    IfSome (running id c) (λ site. IsLeft catalogue id left (turn_on (known_catalogue catalogue id c) site (arrival (known_catalogue catalogue id c) site.id d)).site)
 
 -- Peers are honest: what a process reads as a message of a site has the bytes of a datagram that was handed over, by any process, to any
 -- port, and however often it came before. All else may come, from any port.
@@ -169,7 +169,7 @@ IsHonest catalogue IsHanded id d =
 
 -- the datagram that comes is honest, if one comes
 abbrev pub ComesHonestly : Catalogue → (Datagram → Type 0) → Happening → ClusterState → Type 0
-ComesHonestly catalogue IsHanded h c = IfSome (datagram_of h) (λ d. IsHonest (known catalogue (whose h) c) IsHanded (whose h) d)
+ComesHonestly catalogue IsHanded h c = IfSome (datagram_of h) (λ d. IsHonest (known_catalogue catalogue (whose h) c) IsHanded (whose h) d)
 
 abbrev pub May : Catalogue → Happening → ClusterState → Type 0
 May catalogue h c = MayAlone catalogue h c × ComesHonestly catalogue (Contains c.handed) h c

@@ -55,8 +55,8 @@ killed_run =
     ended : List (List LogRecord)
     ended = (log_record.Start 1 ∷ []) ∷ (log_record.Yes (txn 1) opening writes ∷ []) ∷ (log_record.Outcome (txn 1) true ∷ []) ∷ []
 
-abbrev pub committed : List Commit
-committed = record { txn = txn 1; view = opening; ops = op.Write 0 (Some (codes "11")) ∷ []; tables = [] } ∷ []
+abbrev pub run_commits : List Commit
+run_commits = record { txn = txn 1; view = opening; ops = op.Write 0 (Some (codes "11")) ∷ []; tables = [] } ∷ []
 
 -- ---- forged messages
 
@@ -91,8 +91,8 @@ next_life = record { site = 1; life = 2; seq = 1 }
 
 -- The log of site 1 is left without its decision, which was answered; it starts again, forms a view, finds its own copy as new as the
 -- other one, and a client reads x there.
-abbrev pub forgotten : List Happening
-forgotten =
+abbrev pub forgotten_run : List Happening
+forgotten_run =
     Happening.Comes 1 (from_two (message.Vote (txn 1)))
     ∷ Happening.Comes 2 (from_one (message.Outcome (txn 1) true))
     ∷ Happening.Dies 1 ((log_record.Start 1 ∷ []) ∷ [])

@@ -35,7 +35,7 @@ pub record CountsCall (old new : FaultPlan) (failed : Type 0) : Type 0 where
   pub same_plan : new.failing ≡ old.failing
   pub counted : new.calls ≡ count_after old.calls 1
   pub nearer : new.until_stop ≡ one_nearer old.until_stop
-  pub planned : fail_call ↔ FailsNext old
+  pub planned : failed ↔ FailsNext old
 
 -- A call was counted as done or as failed, or not at all where it lacked memory. A call that is to fail isn't done.
 pub record GoesByPlan {T : Type 0} (old new : FaultPlan) (result : Result T OutFault) : Type 0 where

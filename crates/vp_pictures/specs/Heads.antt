@@ -6,7 +6,7 @@ use Rattle.vp_model.specs.Words.{◌|>◌, for_each, opening, value_at}
 use Rattle.vp_model.specs.Catalogue.{Catalogue, RecordEntry, sites_of}
 use Rattle.vp_pictures.specs.Places.{column}
 use Rattle.vp_pictures.specs.Sheets.{next_line, add_text_line, add_text}
-use Rattle.vp_pictures.specs.Words.{view_words, weight_words}
+use Rattle.vp_pictures.specs.Words.{legend, view_words, weight_words}
 use Rattle.vp_pictures.specs.declared.shape.Ink.TheVariants as ink
 use Rattle.vp_pictures.specs.declared.sheet.Sheet.{Sheet}
 
@@ -38,4 +38,5 @@ head catalogue s =
     |> for_each catalogue.sites (site_head catalogue)
     |> next_line
     |> for_each catalogue.records (record_head catalogue)
+    |> add_text_line 56 ink.Faint legend
     |> with_opening catalogue

@@ -30,8 +30,16 @@ stub_text catalogue came m = option_map_or shape_text (stub_of catalogue came m)
 -- as wide as its texts, as high as its lines
 unfoldable pub size_text : Sheet → List ℕ
 size_text s =
-    attribute (codes "<svg xmlns=\"http://www.w3.org/2000/svg\" version=\"1.1\" width=\"") s.wide
+    attribute (codes "<svg xmlns=\"http://www.w3.org/2000/svg\" xmlns:xlink=\"http://www.w3.org/1999/xlink\" version=\"1.1\" width=\"") s.wide
     ++ (attribute (codes " height=\"") (top s.lines + 12) ++ codes ">\n")
+
+-- the white edges of all texts, which are below them, and the beginning of the texts
+abbrev pub edges : List ℕ
+edges = codes "<use class=\"b\" xlink:href=\"#texts\"/>\n<g id=\"texts\">\n"
+
+-- the texts on top of their edges, and the end
+abbrev pub texts_text : Sheet → List ℕ
+texts_text s = edges ++ (flat_map shape_text s.texts ++ codes "</g>\n</svg>\n")
 
 -- the bars below, then the arrows and the stubs, and the texts on top
 abbrev pub picture_text : Catalogue → Sheet → List ℕ
@@ -39,4 +47,5 @@ picture_text catalogue s =
     size_text s
     ++ (style
     ++ (flat_map shape_text s.bars
-    ++ (flat_map shape_text s.arrows ++ (flat_map (stub_text catalogue s.came) s.marks ++ (flat_map shape_text s.texts ++ codes "</svg>\n")))))
+    ++ (flat_map shape_text s.arrows
+    ++ (flat_map (stub_text catalogue s.came) s.marks ++ texts_text s))))

@@ -3,10 +3,10 @@ use Rattle.std.specs.Prelude.{ℕ, ◌+◌, ◌-◌, ◌*◌, ◌==◌, nat_lt, 
 use Rattle.std.specs.List.{position}
 use Rattle.vp_model.specs.Catalogue.{Catalogue, sites_of}
 
--- the first of 16 lifelines is 60 from the left, each other one 240 to the right of the one before it
+-- the first of 16 lifelines is 60 from the left, each other one 280 to the right of the one before it
 abbrev pub column_at : Option ℕ → ℕ
 column_at None = 60
-column_at (Some place) = if nat_lt place 16 then 60 + 240 * place else 60
+column_at (Some place) = if nat_lt place 16 then 60 + 280 * place else 60
 
 abbrev pub column : Catalogue → ℕ → ℕ
 column catalogue site = column_at (position (λ s. s == site) (sites_of catalogue))

@@ -46,6 +46,7 @@ shape_text (shape.Line kind x1 y1 x2 y2) =
     ++ (ink_word kind
     ++ (attribute (codes "\" x1=\"") x1
     ++ (attribute (codes " y1=\"") y1 ++ (attribute (codes " x2=\"") x2 ++ (attribute (codes " y2=\"") y2 ++ codes "/>\n")))))
-shape_text (shape.Bar colour x y height) =
+shape_text (shape.Bar colour x y width height) =
     attribute (codes "<rect class=\"v") colour
-    ++ (attribute (codes " x=\"") x ++ (attribute (codes " y=\"") y ++ (attribute (codes " width=\"8\" height=\"") height ++ codes "/>\n")))
+    ++ (attribute (codes " x=\"") x
+    ++ (attribute (codes " y=\"") y ++ (attribute (codes " width=\"") width ++ (attribute (codes " height=\"") height ++ codes "/>\n"))))

@@ -35,10 +35,14 @@ life_of catalogue y end site look =
 
 abbrev pub bar_in : ℕ → ℕ → ℕ → Option ViewId → Option Shape
 bar_in x y end None = None
-bar_in x y end (Some view) = Some (shape.Bar (colour view) (x - 4) y (end - y))
+bar_in x y end (Some view) = Some (shape.Bar (colour view) (x - 4) y 8 (end - y))
 
 abbrev pub bar_of : Catalogue → ℕ → ℕ → ℕ → Look → Option Shape
 bar_of catalogue y end site look = bar_in (column catalogue site) y end look.held
+
+-- the lock of a copy under refresh: a thin bar at the left of that of the view, by the place of its record
+abbrev pub lock_of : Catalogue → ℕ → ℕ → ℕ → ℕ → Shape
+lock_of catalogue y end site rec = shape.Bar 12 (column catalogue site - 8 - 4 * (rec % 8)) y 3 (end - y)
 
 -- the line between two sites that are cut or healed
 abbrev pub cut_of : Catalogue → ℕ → Event → Option Shape
@@ -122,8 +126,13 @@ said_message catalogue x sent s =
 abbrev pub said_reply : ℕ → Reply → Sheet → Sheet
 said_reply x reply s = add_text_line x (if refuses reply.answer then ink.Refusal else ink.Reply) (answer_text reply.answer) s
 
+-- a life that begins is written as a view is, and what did nothing in a colour of its own
+abbrev pub idle_kind : Shown → Ink
+idle_kind (shown.Life life) = ink.View
+idle_kind _ = ink.Idle
+
 abbrev pub said_idle : ℕ → Shown → Sheet → Sheet
-said_idle x what s = add_text_line x ink.Idle (idle_words what) s
+said_idle x what s = add_text_line x (idle_kind what) (idle_words what) s
 
 -- the effects of the step: its commits, its messages and its replies; or why it did nothing
 unfoldable pub said_shown : Catalogue → ℕ → Shown → Sheet → Sheet
@@ -139,8 +148,18 @@ said_view catalogue x (Some view) s = add_text_line x ink.View (view_words catal
 
 -- ---- the step
 
+abbrev pub with_bar : Option Shape → Sheet → Sheet
+with_bar bar s = record s { bars = s.bars ++ option_to_list bar }
+
+abbrev pub with_lock : Catalogue → ℕ → ℕ → ℕ → ℕ → Sheet → Sheet
+with_lock catalogue y end site rec s = with_bar (Some (lock_of catalogue y end site rec)) s
+
 abbrev pub with_look : Catalogue → ℕ → ℕ → ℕ × Look → Sheet → Sheet
-with_look catalogue y end pair s = record s { bars = (s.bars ++ option_to_list (life_of catalogue y end pair.0 pair.1)) ++ option_to_list (bar_of catalogue y end pair.0 pair.1) }
+with_look catalogue y end pair s =
+    s
+    |> with_bar (life_of catalogue y end pair.0 pair.1)
+    |> with_bar (bar_of catalogue y end pair.0 pair.1)
+    |> for_each pair.1.refreshing (with_lock catalogue y end pair.0)
 
 abbrev pub with_looks : Catalogue → ℕ → List (ℕ × Look) → Sheet → Sheet
 with_looks catalogue y looks s = for_each looks (with_look catalogue y (top s.lines)) s

@@ -7,12 +7,12 @@ use Rattle.vp_model.specs.Types.shown
 use Rattle.vp_model.specs.Catalogue.{Catalogue, RecordEntry, accessible}
 use Rattle.vp_model.specs.Texts.Fields.{view_text, txn_text}
 
--- a message that comes, and one that is sent
+-- a message that comes, and one that is sent: its number, and its text
 abbrev pub arrival_words : ℕ → List ℕ → List ℕ
-arrival_words k message = decimal k ++ 32 ∷ message
+arrival_words k message = codes "#" ++ (decimal k ++ 32 ∷ message)
 
 abbrev pub sent_words : ℕ → ℕ → List ℕ → List ℕ
-sent_words k to message = decimal k ++ (codes " to " ++ (decimal to ++ (codes ": " ++ message)))
+sent_words k to message = codes "#" ++ (decimal k ++ (codes " to " ++ (decimal to ++ (codes ": " ++ message))))
 
 abbrev pub commit_words : Commit → List ℕ
 commit_words commit = codes "commit " ++ (txn_text commit.txn ++ 32 ∷ view_text commit.view)
@@ -47,6 +47,10 @@ view_words catalogue view =
     ++ (flat_map member_words view.members
     ++ (codes ": may use " ++ (decimal (usable catalogue view) ++ (codes " of " ++ (decimal (length catalogue.records) ++ codes " records")))))))
 
+-- what the bars and the stubs of a picture are
+abbrev pub legend : List ℕ
+legend = codes "bar: the view that is held; thin bar: a copy locked for its refresh; stub: a message that never comes"
+
 -- a site's copy of a record, with its weight
 abbrev pub weight_words : RecordEntry → ℕ → List ℕ
-weight_words entry weight = entry.name ++ (codes ": " ++ (decimal weight ++ (codes " of " ++ decimal (sum_by (λ (w : ℕ × ℕ). w.1) entry.weights))))
+weight_words entry weight = entry.name ++ (codes ": weight " ++ (decimal weight ++ (codes " of " ++ decimal (sum_by (λ (w : ℕ × ℕ). w.1) entry.weights))))

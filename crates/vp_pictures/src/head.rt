@@ -5,12 +5,15 @@ ghost use Rattle.std.specs.List.{flat_map};
 ghost use Rattle.vp_model.specs.Words.{for_each};
 ghost use Rattle.vp_pictures.specs.Heads.{head, with_opening, record_head, site_head, weight_head};
 ghost use Rattle.vp_pictures.specs.Style.{style};
-ghost use Rattle.vp_pictures.specs.Pictures.{picture_text, size_text, stub, stub_of, stub_text};
+ghost use Rattle.vp_pictures.specs.Sheets.{add_text_line};
+ghost use Rattle.vp_pictures.specs.Words.{legend};
+ghost use Rattle.vp_pictures.specs.declared.shape.Ink.TheVariants as ink;
+ghost use Rattle.vp_pictures.specs.Pictures.{picture_text, size_text, stub, stub_of, stub_text, texts_text};
 
 use crate::places::{column, edge, stub_end, top};
 use crate::shape::{Ink, Shape, print_attribute, print_shape, print_shapes};
 use crate::sheet::{Mark, Sheet};
-use crate::words::{numbered, view_words, weight_words};
+use crate::words::{copied, numbered, view_words, weight_words};
 use vp_base::{CopyOf, NoMemory, SiteId, View, ViewId};
 use vp_catalog::{Catalog, CatalogRecord};
 
@@ -19,19 +22,19 @@ const OPENING: ViewId = ViewId { number: 0, site: 0 };
 
 /// The style of all texts.
 const TEXTS: &[u8] =
-    b"<style type=\"text/css\">\ntext{font:12px monospace;fill:#222;paint-order:stroke;stroke:#fff;stroke-width:3px}\n";
+    b"<style type=\"text/css\">\ntext{font:12px monospace;fill:#222}.b{stroke:#fff;stroke-width:4px;stroke-linejoin:round}\n";
 
 /// The style of each kind of text.
 const INKS: &[u8] =
-    b".h{font-weight:bold;font-size:14px}.n{fill:#999}.k{font-weight:bold;fill:#000}.m{fill:#666}.r{fill:#05c}.f{fill:#c00;font-weight:bold}.w{fill:#060}.d{fill:#c00}\n";
+    b".h{font-weight:bold;font-size:14px}.n{fill:#999}.k{font-weight:bold;fill:#000}.m{fill:#666}.r{fill:#05c}.f{fill:#c00;font-weight:bold}.w{fill:#060}.d{fill:#b50}\n";
 
 /// The style of lines.
 const LINES: &[u8] =
-    b"line{stroke:#999}.a{stroke:#777;marker-end:url(#arrow)}.x{stroke:#c00;marker-end:url(#cross)}.s{stroke:#777;marker-end:url(#stop)}\n.c{stroke:#c00;stroke-dasharray:6 3}.j{stroke:#080;stroke-dasharray:6 3}\n";
+    b"line{stroke:#999}.a{stroke:#777;marker-end:url(#arrow)}.x{stroke:#b50;marker-end:url(#cross)}.s{stroke:#777;marker-end:url(#stop)}\n.c{stroke:#b50;stroke-dasharray:6 3}.j{stroke:#080;stroke-dasharray:6 3}\n";
 
-/// The colours of views.
+/// The colours of views, and that of locks.
 const COLOURS: &[u8] =
-    b".v0{fill:#bbb}.v1{fill:#8cf}.v2{fill:#fc6}.v3{fill:#9d9}.v4{fill:#f99}.v5{fill:#c9f}.v6{fill:#fe6}.v7{fill:#6dd}.v8{fill:#db8}.v9{fill:#f9d}.v10{fill:#aac}.v11{fill:#be6}\n";
+    b".v0{fill:#bbb}.v1{fill:#8cf}.v2{fill:#fc6}.v3{fill:#9d9}.v4{fill:#f99}.v5{fill:#c9f}.v6{fill:#fe6}.v7{fill:#6dd}.v8{fill:#db8}.v9{fill:#f9d}.v10{fill:#aac}.v11{fill:#be6}.v12{fill:#c0c}\n";
 
 /// The head of an arrow.
 const ARROW: &[u8] =
@@ -39,7 +42,7 @@ const ARROW: &[u8] =
 
 /// The ends of an arrow that is lost, and of a stub.
 const ENDS: &[u8] =
-    b"<marker id=\"cross\" markerWidth=\"10\" markerHeight=\"10\" refX=\"5\" refY=\"5\" orient=\"auto\"><path d=\"M1,1 L9,9 M1,9 L9,1\" stroke=\"#c00\" stroke-width=\"2\"/></marker>\n<marker id=\"stop\" markerWidth=\"4\" markerHeight=\"10\" refX=\"2\" refY=\"5\" orient=\"auto\"><path d=\"M2,0 L2,10\" stroke=\"#777\" stroke-width=\"2\"/></marker>\n";
+    b"<marker id=\"cross\" markerWidth=\"10\" markerHeight=\"10\" refX=\"5\" refY=\"5\" orient=\"auto\"><path d=\"M1,1 L9,9 M1,9 L9,1\" stroke=\"#b50\" stroke-width=\"2\"/></marker>\n<marker id=\"stop\" markerWidth=\"4\" markerHeight=\"10\" refX=\"2\" refY=\"5\" orient=\"auto\"><path d=\"M2,0 L2,10\" stroke=\"#777\" stroke-width=\"2\"/></marker>\n";
 
 /// The page.
 const PAGE: &[u8] = b"</defs>\n<rect width=\"100%\" height=\"100%\" fill=\"#fff\"/>\n";
@@ -88,7 +91,19 @@ impl Sheet {
         for placed in catalog.records() {
             self.head_record(catalog, placed)?;
         }
+        self.explain()?;
         self.open(catalog)
+    }
+
+    /// Writes what the bars and the stubs are.
+    fn explain(&mut self) -> Result<(), NoMemory>
+        ensures { OnOk result (self.new ≡ add_text_line 56 ink.Faint legend self.old) }
+    {
+        let text = copied(
+            self.texts.allocator(),
+            b"bar: the view that is held; thin bar: a copy locked for its refresh; stub: a message that never comes",
+        )?;
+        self.say(56, Ink::Faint, text)
     }
 
     fn head_site(&mut self, catalog: &Catalog, pair: &(SiteId, u16)) -> Result<(), NoMemory>
@@ -179,12 +194,22 @@ impl Sheet {
         ensures { OnOk result (out.new.items ≡ out.old.items ++ size_text self.now) }
     {
         print_attribute(
-            b"<svg xmlns=\"http://www.w3.org/2000/svg\" version=\"1.1\" width=\"",
+            b"<svg xmlns=\"http://www.w3.org/2000/svg\" xmlns:xlink=\"http://www.w3.org/1999/xlink\" version=\"1.1\" width=\"",
             self.wide,
             out,
         )?;
         print_attribute(b" height=\"", top(self.lines) + 12, out)?;
         out.extend_from_slice(b">\n")?;
+        Ok(())
+    }
+
+    /// Appends the texts with their white edges, and the end of the picture.
+    fn print_texts(&self, out: &mut Vec<u8>) -> Result<(), NoMemory>
+        ensures { OnOk result (out.new.items ≡ out.old.items ++ texts_text self.now) }
+    {
+        out.extend_from_slice(b"<use class=\"b\" xlink:href=\"#texts\"/>\n<g id=\"texts\">\n")?;
+        print_shapes(self.texts.as_slice(), out)?;
+        out.extend_from_slice(b"</g>\n</svg>\n")?;
         Ok(())
     }
 
@@ -197,8 +222,6 @@ impl Sheet {
         print_shapes(self.bars.as_slice(), out)?;
         print_shapes(self.arrows.as_slice(), out)?;
         self.print_stubs(catalog, out)?;
-        print_shapes(self.texts.as_slice(), out)?;
-        out.extend_from_slice(b"</svg>\n")?;
-        Ok(())
+        self.print_texts(out)
     }
 }

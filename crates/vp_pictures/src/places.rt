@@ -13,16 +13,16 @@ fn place_of(sites: &[SiteId], site: SiteId) -> Option<usize>
     sites.iter().position(|s| s.get() == site.get())
 }
 
-/// The left position of the lifeline of a site: that of the first site is 60, each other one is 240 to the right of the one before it.
+/// The left position of the lifeline of a site: that of the first site is 60, each other one is 280 to the right of the one before it.
 pub fn column(catalog: &Catalog, site: SiteId) -> u64
     ensures place { result ≡ column catalog.now site }
     ensures least { 60 ≤ result }
-    ensures most { result ≤ 3660 }
+    ensures most { result ≤ 4260 }
 {
     match place_of(catalog.sites().as_slice(), site) {
         None => 60,
         Some(place) => if place < 16 {
-            60 + 240 * place as u64
+            60 + 280 * place as u64
         } else {
             60
         },
@@ -40,7 +40,7 @@ pub fn top(line: u32) -> u64
 /// The edge of a lifeline on the side of another one.
 pub fn edge(own: u64, other: u64) -> u64
     requires least { 60 ≤ own }
-    requires most { own ≤ 3660 }
+    requires most { own ≤ 4260 }
     ensures { result ≡ edge own other }
 {
     if own < other { own + 5 } else { own - 5 }
@@ -49,7 +49,7 @@ pub fn edge(own: u64, other: u64) -> u64
 /// The end of a stub that goes from one lifeline towards another one.
 pub fn stub_end(own: u64, other: u64) -> u64
     requires least { 60 ≤ own }
-    requires most { own ≤ 3660 }
+    requires most { own ≤ 4260 }
     ensures { result ≡ stub_end own other }
 {
     if own < other { own + 29 } else { own - 29 }

@@ -27,7 +27,7 @@ pub enum Ink {
     Heal,
 }
 
-/// A text with its left end, a line from one point to another, or a bar in one of twelve colours.
+/// A text with its left end, a line from one point to another, or a bar in a colour: one of twelve for views, and one for locks.
 #[derive(Drop)]
 pub enum Shape {
     Text {
@@ -47,6 +47,7 @@ pub enum Shape {
         colour: u64,
         x: u64,
         y: u64,
+        width: u64,
         height: u64,
     },
 }
@@ -146,12 +147,14 @@ pub fn print_shape(shape: &Shape, out: &mut Vec<u8>) -> Result<(), NoMemory>
             colour,
             x,
             y,
+            width,
             height,
         } => {
             print_attribute(b"<rect class=\"v", *colour, out)?;
             print_attribute(b" x=\"", *x, out)?;
             print_attribute(b" y=\"", *y, out)?;
-            print_attribute(b" width=\"8\" height=\"", *height, out)?;
+            print_attribute(b" width=\"", *width, out)?;
+            print_attribute(b" height=\"", *height, out)?;
             out.extend_from_slice(b"/>\n")?;
             Ok(())
         }

@@ -6,7 +6,7 @@ ghost use Rattle.vp_pictures.specs.Sheets.{mark_at, next_line, add_text_line, si
 use crate::places::top;
 use crate::shape::{Ink, Shape};
 use std::alloc::Global;
-use vp_base::{Event, NoMemory, Seq, SiteId, ViewId, Word};
+use vp_base::{Event, NoMemory, RecId, Seq, SiteId, ViewId, Word};
 
 /// The most bytes of a text.
 const MOST_BYTES: usize = 1_000_000;
@@ -18,11 +18,12 @@ pub struct Part {
     pub to: u32,
 }
 
-/// How a site is drawn at a time: whether it is up, and the view that it holds.
-#[derive(Clone, Copy, Drop, PartialEq, Eq)]
+/// How a site is drawn at a time: whether it is up, the view that it holds, and the records whose copies it refreshes.
+#[derive(Drop)]
 pub struct Look {
     pub up: bool,
     pub held: Option<ViewId>,
+    pub refreshing: Seq<RecId>,
 }
 
 /// A message that was sent: its number, the line on which it is drawn (or the next line, if it isn't drawn), from where to where it goes,

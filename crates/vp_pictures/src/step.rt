@@ -4,7 +4,7 @@ ghost use Rattle.std.specs.Prelude.{◌≡◌, ◌≤◌, ◌^◌, ◌<◌, Bool
 ghost use Rattle.vp_model.specs.Words.{for_each};
 ghost use Rattle.vp_pictures.specs.Sheets.{mark_at};
 ghost use Rattle.vp_pictures.specs.Places.{top};
-ghost use Rattle.vp_pictures.specs.Steps.{arrow_kind, arrow_of, bar_of, colour, cut_of, delivery, drawn, event_x, hide_messages, hidden_message, is_drawn, life_of, refuses, said_commit, said_event, said_idle, said_message, said_reply, said_shown, said_view, stepped, with_arrow, with_look, words_of_event};
+ghost use Rattle.vp_pictures.specs.Steps.{arrow_kind, arrow_of, bar_of, colour, cut_of, delivery, drawn, event_x, hide_messages, hidden_message, idle_kind, is_drawn, life_of, lock_of, refuses, said_commit, said_event, said_idle, said_message, said_reply, said_shown, said_view, stepped, with_arrow, with_lock, with_look, words_of_event};
 
 use crate::places::{column, edge, top};
 use crate::shape::{Ink, Shape};
@@ -15,9 +15,12 @@ use crate::words::{
 };
 use std::alloc::Global;
 use vp_base::{
-    Answer, Commit, Event, Line, NoMemory, Reply, Sent, Shown, SiteId, View, ViewId, Word,
+    Answer, Commit, Event, Line, NoMemory, RecId, Reply, Sent, Shown, SiteId, View, ViewId, Word,
 };
 use vp_catalog::Catalog;
+
+/// The index of the colour of locks, after those of views.
+const LOCKS: u64 = 12;
 
 /// The index of the colour of a view, below 12.
 fn colour(view: &ViewId) -> u64
@@ -54,6 +57,16 @@ fn arrow_kind(shown: &Shown) -> Ink
     }
 }
 
+/// The kind of the text of a step that does nothing, or that begins a life.
+fn idle_kind(shown: &Shown) -> Ink
+    ensures { result ≡ idle_kind shown.now }
+{
+    match shown {
+        Shown::Life { .. } => Ink::View,
+        _ => Ink::Idle,
+    }
+}
+
 /// The lifeline of a site, if it is up.
 fn life_of(catalog: &Catalog, y: u64, end: u64, site: SiteId, look: &Look) -> Option<Shape>
     ensures { result ≡ life_of catalog.now y end site look.now }
@@ -82,8 +95,23 @@ fn bar_of(catalog: &Catalog, y: u64, end: u64, site: SiteId, look: &Look) -> Opt
             colour: colour(view),
             x: column(catalog, site) - 4,
             y,
+            width: 8,
             height: end.saturating_sub(y),
         }),
+    }
+}
+
+/// The thin bar of a copy under refresh, beside that of the view.
+fn lock_of(catalog: &Catalog, y: u64, end: u64, site: SiteId, rec: RecId) -> Shape
+    ensures { result ≡ lock_of catalog.now y end site rec }
+{
+    let height = end.saturating_sub(y);
+    Shape::Bar {
+        colour: LOCKS,
+        x: column(catalog, site) - 8 - 4 * (u64::from(rec.get()) % 8),
+        y,
+        width: 3,
+        height,
     }
 }
 
@@ -243,7 +271,7 @@ impl Sheet {
     /// The left end of the texts of an event.
     fn event_x(&self, catalog: &Catalog, event: &Event) -> u64
         ensures place { result ≡ event_x catalog.now event.now self.now }
-        ensures most { result ≤ 4000 }
+        ensures most { result ≤ 4300 }
     {
         match self.site(event) {
             None => 76,
@@ -254,7 +282,7 @@ impl Sheet {
     /// Writes an event, and the number of its line at the left; a delivery is written as the message that comes.
     #[tactic(auto, unfolding(crate::specs::Steps::said_event))]
     fn say_event(&mut self, x: u64, number: u32, event: &Event) -> Result<(), NoMemory>
-        requires { x ≤ 4000 }
+        requires { x ≤ 4300 }
         ensures { OnOk result (self.new ≡ said_event x number event.now self.old) }
     {
         let count = numbered(self.alloc(), b"", u64::from(number))?;
@@ -277,7 +305,7 @@ impl Sheet {
 
     #[tactic(auto, unfolding(crate::specs::Steps::said_shown))]
     fn say_shown(&mut self, catalog: &Catalog, x: u64, shown: &Shown) -> Result<(), NoMemory>
-        requires { x ≤ 4000 }
+        requires { x ≤ 4300 }
         ensures { OnOk result (self.new ≡ said_shown catalog.now x shown.now self.old) }
     {
         match shown {
@@ -297,15 +325,15 @@ impl Sheet {
     }
 
     fn say_idle(&mut self, x: u64, shown: &Shown) -> Result<(), NoMemory>
-        requires { x ≤ 4000 }
+        requires { x ≤ 4300 }
         ensures { OnOk result (self.new ≡ said_idle x shown.now self.old) }
     {
         let text = idle_words(self.alloc(), shown)?;
-        self.say(x, Ink::Idle, text)
+        self.say(x, idle_kind(shown), text)
     }
 
     fn say_commits(&mut self, x: u64, commits: &[Commit]) -> Result<(), NoMemory>
-        requires { x ≤ 4000 }
+        requires { x ≤ 4300 }
         ensures { OnOk result (self.new ≡ for_each commits.now (said_commit x) self.old) }
     {
         for commit in commits {
@@ -315,7 +343,7 @@ impl Sheet {
     }
 
     fn say_commit(&mut self, x: u64, commit: &Commit) -> Result<(), NoMemory>
-        requires { x ≤ 4000 }
+        requires { x ≤ 4300 }
         ensures { OnOk result (self.new ≡ said_commit x commit.now self.old) }
     {
         let text = commit_words(self.alloc(), commit)?;
@@ -323,7 +351,7 @@ impl Sheet {
     }
 
     fn say_messages(&mut self, catalog: &Catalog, x: u64, messages: &[Sent]) -> Result<(), NoMemory>
-        requires { x ≤ 4000 }
+        requires { x ≤ 4300 }
         ensures { OnOk result (self.new ≡ for_each messages.now (said_message catalog.now x) self.old) }
     {
         for sent in messages {
@@ -334,7 +362,7 @@ impl Sheet {
 
     /// Writes a message where it is sent, from where its arrows or its stub begin.
     fn say_message(&mut self, catalog: &Catalog, x: u64, sent: &Sent) -> Result<(), NoMemory>
-        requires { x ≤ 4000 }
+        requires { x ≤ 4300 }
         ensures { OnOk result (self.new ≡ said_message catalog.now x sent.now self.old) }
     {
         let text = message_words(self.alloc(), catalog, &sent.message)?;
@@ -353,7 +381,7 @@ impl Sheet {
     }
 
     fn say_replies(&mut self, x: u64, replies: &[Reply]) -> Result<(), NoMemory>
-        requires { x ≤ 4000 }
+        requires { x ≤ 4300 }
         ensures { OnOk result (self.new ≡ for_each replies.now (said_reply x) self.old) }
     {
         for reply in replies {
@@ -363,7 +391,7 @@ impl Sheet {
     }
 
     fn say_reply(&mut self, x: u64, reply: &Reply) -> Result<(), NoMemory>
-        requires { x ≤ 4000 }
+        requires { x ≤ 4300 }
         ensures { OnOk result (self.new ≡ said_reply x reply.now self.old) }
     {
         let text = answer_words(self.alloc(), &reply.answer)?;
@@ -378,7 +406,7 @@ impl Sheet {
     /// Writes the view that a site holds from here on.
     #[tactic(auto, unfolding(crate::specs::Steps::said_view))]
     fn say_view(&mut self, catalog: &Catalog, x: u64, joined: &Option<View>) -> Result<(), NoMemory>
-        requires { x ≤ 4000 }
+        requires { x ≤ 4300 }
         ensures { OnOk result (self.new ≡ said_view catalog.now x joined.now self.old) }
     {
         match joined {
@@ -417,6 +445,24 @@ impl Sheet {
         ensures { OnOk result (self.new ≡ with_look catalog.now y end pair.now self.old) }
     {
         self.draw_bar(life_of(catalog, y, end, pair.0, &pair.1))?;
-        self.draw_bar(bar_of(catalog, y, end, pair.0, &pair.1))
+        self.draw_bar(bar_of(catalog, y, end, pair.0, &pair.1))?;
+        self.draw_locks(catalog, y, end, pair.0, pair.1.refreshing.as_slice())
+    }
+
+    /// Draws the lock of each copy under refresh.
+    fn draw_locks(
+        &mut self,
+        catalog: &Catalog,
+        y: u64,
+        end: u64,
+        site: SiteId,
+        recs: &[RecId],
+    ) -> Result<(), NoMemory>
+        ensures { OnOk result (self.new ≡ for_each recs.now (with_lock catalog.now y end site) self.old) }
+    {
+        for rec in recs {
+            self.draw_bar(Some(lock_of(catalog, y, end, site, *rec)))?;
+        }
+        Ok(())
     }
 }

@@ -43,7 +43,7 @@ pub fn event_words(alloc: Global, event: &Event) -> Result<Word, NoMemory>
 pub fn arrival_words(alloc: Global, k: u32, message: &[u8]) -> Result<Word, NoMemory>
     ensures { IfOk result (λ w. w ≡ arrival_words k message.now) }
 {
-    let mut text = Vec::new(alloc);
+    let mut text = Vec::from_slice(alloc, b"#")?;
     print_number(&mut text, u64::from(k))?;
     text.push(b' ')?;
     text.extend_from_slice(message)?;
@@ -63,7 +63,7 @@ pub fn message_words(alloc: Global, catalog: &Catalog, message: &Message) -> Res
 pub fn sent_words(alloc: Global, k: u64, to: SiteId, message: &[u8]) -> Result<Word, NoMemory>
     ensures { IfOk result (λ w. w ≡ sent_words k to message.now) }
 {
-    let mut text = Vec::new(alloc);
+    let mut text = Vec::from_slice(alloc, b"#")?;
     print_number(&mut text, k)?;
     text.extend_from_slice(b" to ")?;
     to.print(&mut text)?;
@@ -162,7 +162,7 @@ pub fn weight_words(alloc: Global, placed: &CatalogRecord, weight: u32) -> Resul
 {
     let mut text = Vec::new(alloc);
     placed.name().print(&mut text)?;
-    text.extend_from_slice(b": ")?;
+    text.extend_from_slice(b": weight ")?;
     print_number(&mut text, u64::from(weight))?;
     text.extend_from_slice(b" of ")?;
     print_number(&mut text, u64::from(placed.total()))?;

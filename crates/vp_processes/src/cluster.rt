@@ -41,6 +41,9 @@ const CALLS: [(&str, &str, &str); 5] = [
     ("2", "2.1.1 1 read x", "value 2.1.1 1 11\n"),
 ];
 
+/// What a replay of the calls prints last.
+const HISTORY: &[u8] = b"\nhistory\nstart x 10\ncommit 1.1.1 0@0 w x 11\nend 1\n";
+
 /// The catalogue of three sites with a copy of x each, at these ports.
 fn three_sites(rt: HostRuntime, ports: &[u16; 4]) -> io::Result<String> {
     let [one, two, three, _] = ports;
@@ -82,6 +85,8 @@ pub struct Cluster {
     catalogue: String,
     /// The clients' port.
     port: u16,
+    /// The recordings of the nodes that were stopped, each after its site.
+    recordings: String,
 }
 
 impl Drop for Cluster {
@@ -90,6 +95,7 @@ impl Drop for Cluster {
             program: _,
             catalogue: _,
             port: _,
+            recordings: _,
         } = self;
     }
 }
@@ -101,6 +107,7 @@ impl Cluster {
             program,
             catalogue,
             port: ports[3],
+            recordings: String::new(program.rt.alloc()),
         })
     }
 
@@ -111,7 +118,13 @@ impl Cluster {
 
     /// Runs a process with these words: its status, and what it prints.
     fn run(&self, words: &[&str]) -> io::Result<(Option<u8>, Vec<u8>)> {
-        self.program.end(SAID, self.start(SAID, words)?)
+        self.run_on(words, &self.catalogue)
+    }
+
+    /// The same with another input.
+    fn run_on(&self, words: &[&str], input: &str) -> io::Result<(Option<u8>, Vec<u8>)> {
+        self.program
+            .end(SAID, self.program.start(SAID, words, input)?)
     }
 
     /// Runs a client of a call at a site: its status, and what it prints.
@@ -173,11 +186,21 @@ impl Cluster {
         Ok(status == Some(0) && own(&printed).is_empty())
     }
 
-    /// Whether a node prints an end, and ends well.
-    fn ends(&self, said: &str, node: &mut Child) -> io::Result<bool> {
+    /// What a node prints after its first line; none if it doesn't print an end, or doesn't end well.
+    fn last_lines(&self, said: &str, node: &mut Child) -> io::Result<Option<Vec<u8>>> {
         let rest = rest(self.program.rt, node)?;
         node.wait()?;
-        Ok(self.program.said(said)? == Some(0) && own(&rest).ends_with(b"\nend\n"))
+        let ends_well = self.program.said(said)? == Some(0) && own(&rest).ends_with(b"\nend\n");
+        Ok(if ends_well { Some(rest) } else { None })
+    }
+
+    /// Keeps the recording of a node in its first life, without the first line.
+    fn keep(&mut self, site: &str, lines: &[u8]) -> io::Result<()> {
+        let Ok(lines) = str::from_utf8(own(lines)) else {
+            return Err(io::Error::from(io::ErrorKind::InvalidData));
+        };
+        let block = format!(in self.program.rt.alloc(); "node {site}\nstart 1\n{lines}")?;
+        Ok(self.recordings.push_str(&block)?)
     }
 
     /// Makes the calls, and returns the site and the call of the first that isn't answered as it should be.
@@ -191,7 +214,8 @@ impl Cluster {
     }
 
     /// Stops the nodes, and returns the site of the first one that gets no stop or, once all got it, doesn't end well.
-    pub fn first_lasting(&self, nodes: &mut [Child]) -> io::Result<Option<&'static str>> {
+    /// The recordings of the others are kept.
+    pub fn first_lasting(&mut self, nodes: &mut [Child]) -> io::Result<Option<&'static str>> {
         for (site, _, _) in &SITES {
             if !self.tells(site)? {
                 return Ok(Some(site));
@@ -202,9 +226,29 @@ impl Cluster {
             let Some(node) = nodes.next() else {
                 return Ok(Some(site));
             };
-            if !self.ends(said, node)? {
+            let Some(lines) = self.last_lines(said, node)? else {
                 return Ok(Some(site));
-            }
+            };
+            self.keep(site, &lines)?;
+        }
+        Ok(None)
+    }
+
+    /// What goes wrong first when the recordings that were kept are merged, and the schedule is replayed.
+    pub fn first_unmerged(&self) -> io::Result<Option<&'static str>> {
+        let alloc = self.program.rt.alloc();
+        let recordings = &self.recordings;
+        let input = format!(in alloc; "{}recordings\n{recordings}", self.catalogue)?;
+        let (status, printed) = self.run_on(&["merge"], &input)?;
+        let Ok(schedule) = str::from_utf8(own(&printed)) else {
+            return Ok(Some("the schedule"));
+        };
+        if status != Some(0) {
+            return Ok(Some("the merge"));
+        }
+        let (status, printed) = self.run_on(&["replay"], schedule)?;
+        if status != Some(0) || !own(&printed).ends_with(HISTORY) {
+            return Ok(Some("the replay"));
         }
         Ok(None)
     }
@@ -249,7 +293,7 @@ impl Cluster {
         if !self.answers("1", "begin", "noview 0@0\n")? {
             return Ok(Some("a call"));
         }
-        if !self.tells("1")? || !self.ends(SITES[0].2, &mut node)? {
+        if !self.tells("1")? || self.last_lines(SITES[0].2, &mut node)?.is_none() {
             return Ok(Some("the end"));
         }
         Ok(None)

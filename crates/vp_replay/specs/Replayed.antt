@@ -1,5 +1,5 @@
 -- What the replay of a schedule prints.
-use Rattle.std.specs.Prelude.{◌≡◌, ◌⊎◌, ℕ, List, ◌++◌, Some, None, Ok, Err}
+use Rattle.std.specs.Prelude.{◌≡◌, ℕ, List, ◌++◌, Some, None}
 use Rattle.std.specs.List.{Contains}
 use Rattle.vp_model.specs.Types.{Counted}
 use Rattle.vp_model.specs.World.{Schedule, Moment, run_of, moments_of, journal_of}
@@ -9,10 +9,8 @@ use Rattle.vp_model.specs.Texts.Trace.{trace_text}
 use Rattle.vp_model.specs.Texts.History.{history_text}
 use Rattle.vp_laws.specs.Agreement.{ViewsAgree, ViewsGoOn}
 use Rattle.vp_laws.specs.Decisions.{DecisionsAgree}
-use Rattle.vp_schedule.specs.Document.{Answered, IsOnly}
-use Rattle.vp_schedule.specs.declared.fault.ScheduleFault.{ScheduleFault}
-use Rattle.vp_schedule.specs.declared.fault.ScheduleFault.TheVariants as faults
-use Rattle.vp_status.specs.Refused.{bad_line_text, twice_text, limit_text}
+pub use Rattle.vp_refusals.specs.PlayAnswers.{IsPlayed, Tells, IsRefused, IsPlayAnswer}
+use Rattle.vp_status.specs.Refused.{limit_text}
 use Rattle.vp_status.specs.declared.status.Status.{Status}
 use Rattle.vp_status.specs.declared.status.Status.TheVariants as status
 use Rattle.vp_world.specs.declared.end.WorldEnd.{WorldEnd}
@@ -52,35 +50,6 @@ abbrev pub StopsAt : WorldEnd → List ℕ → Status → List ℕ → Type 0
 StopsAt (ends.Limit what limit) before status.Limit text = text ≡ before ++ limit_text limit
 StopsAt _ before _ text = ⊥
 
--- the bytes are the text of this schedule and of no other, and this is printed for it
-pub record IsPlayed (prints : Schedule → Status → List ℕ → Type 0) (bytes : List ℕ) (end : Status) (text : List ℕ) : Type 0 where
-  pub schedule : Schedule
-  pub spelled : Answered bytes (Ok schedule)
-  pub only : IsOnly bytes (Ok schedule)
-  pub gives : prints schedule end text
-
--- the status and the text of a fault
-abbrev pub Tells : ScheduleFault → Status → List ℕ → Type 0
-Tells (faults.BadLine line at) status.BadLine text = text ≡ bad_line_text line at
-Tells (faults.Twice line) status.BadLine text = text ≡ twice_text line
-Tells (faults.TooMany line limit) status.Limit text = text ≡ limit_text limit
-Tells _ _ text = ⊥
-
--- the bytes are no such text: this is their one fault, in the first line that has one
-pub record IsRefused (bytes : List ℕ) (end : Status) (text : List ℕ) : Type 0 where
-  pub fault : ScheduleFault
-  pub answered : Answered bytes (Err fault)
-  pub only : IsOnly bytes (Err fault)
-  pub told : Tells fault end text
-
--- The text that is defined at each status for the input of a command that plays a schedule, by what it prints for a schedule; no other
--- status is possible.
-abbrev pub IsPlayAnswer : (Schedule → Status → List ℕ → Type 0) → List ℕ → Status → List ℕ → Type 0
-IsPlayAnswer prints bytes status.Done text = IsPlayed prints bytes status.Done text
-IsPlayAnswer prints bytes status.BadLine text = IsRefused bytes status.BadLine text
-IsPlayAnswer prints bytes status.Limit text = IsPlayed prints bytes status.Limit text ⊎ IsRefused bytes status.Limit text
-IsPlayAnswer prints bytes _ text = ⊥
-
--- the same for `replay`
+-- the text that is defined for an input of `replay` at each status
 abbrev pub IsReplayAnswer : List ℕ → Status → List ℕ → Type 0
 IsReplayAnswer bytes end text = IsPlayAnswer Gives bytes end text

@@ -5,10 +5,11 @@ ghost use Rattle.std.specs.List.{flat_map};
 ghost use Rattle.vp_schedule.specs.Document.{IsSchedule};
 ghost use Rattle.vp_replay.specs.Logged.{IsLogsAnswer, Leaves, half_text, log_line};
 
-use crate::replay::{refuse, stop_at_limit};
+use crate::replay::stop_at_limit;
 use std::alloc::Global;
 use vp_base::{NoMemory, SiteId, Word};
 use vp_cluster::run;
+use vp_refusals::refuse;
 use vp_schedule::{Schedule, read};
 use vp_status::{RunOutput, Status};
 

@@ -4,15 +4,16 @@ ghost use Rattle.std.specs.Prelude.{◌≡◌, ◌++◌, IfOk, OnOk, map};
 ghost use Rattle.vp_model.specs.OneCopy.{order};
 ghost use Rattle.vp_model.specs.Texts.History.{history_lines};
 ghost use Rattle.vp_schedule.specs.Document.{IsSchedule};
-ghost use Rattle.vp_replay.specs.Replayed.{IsReplayAnswer, Gives, StopsAt, Tells};
+ghost use Rattle.vp_replay.specs.Replayed.{IsReplayAnswer, Gives, StopsAt};
 
 use std::alloc::Global;
 use vp_base::{Commits, NoMemory, Seq};
 use vp_catalog::Catalog;
 use vp_cluster::run;
 use vp_onecopy::{History, order, print_history};
-use vp_schedule::{Schedule, ScheduleFault, read};
-use vp_status::{RunOutput, Status, print_bad_line, print_limit, print_twice};
+use vp_refusals::refuse;
+use vp_schedule::{Schedule, read};
+use vp_status::{RunOutput, Status, print_limit};
 use vp_world::WorldEnd;
 
 /// Replays the schedule in the input: the status and the text that `replay` prints for it.
@@ -56,37 +57,6 @@ pub(crate) fn stop_at_limit(end: WorldEnd, mut text: Vec<u8>) -> Result<RunOutpu
             })
         }
         WorldEnd::NoMemory => Err(NoMemory),
-    }
-}
-
-/// Makes the status and the line for an input that is no schedule.
-pub fn refuse(alloc: Global, fault: ScheduleFault) -> Result<RunOutput, NoMemory>
-    ensures { IfOk result (λ defined. Tells fault defined.status defined.text.items) }
-{
-    let mut text = Vec::new(alloc);
-    match fault {
-        ScheduleFault::BadLine { line, at } => {
-            print_bad_line(line, at, &mut text)?;
-            Ok(RunOutput {
-                status: Status::BadLine,
-                text,
-            })
-        }
-        ScheduleFault::Twice { line } => {
-            print_twice(line, &mut text)?;
-            Ok(RunOutput {
-                status: Status::BadLine,
-                text,
-            })
-        }
-        ScheduleFault::TooMany { limit, .. } => {
-            print_limit(limit, &mut text)?;
-            Ok(RunOutput {
-                status: Status::Limit,
-                text,
-            })
-        }
-        ScheduleFault::NoMemory => Err(NoMemory),
     }
 }
 

@@ -6,7 +6,7 @@ use Rattle.std.specs.List.{AllByRecursion}
 use Rattle.vp_text.proofs.Items.{all_append}
 use Rattle.vp_model.specs.Types.{Event}
 use Rattle.vp_model.specs.World.{WorldState, Run, Moment, Schedule, start_world, start_run, run_from, run_of, moments_of}
-use Rattle.vp_runs.specs.Stopped.{stop_at, passed_numbers, pass_over, stopped_world, follow, raised, first_lost, lost, singles, run_in, run_after}
+use Rattle.vp_runs.specs.Stopped.{stop_at, passed_numbers, pass_over, stopped_world, follow, raise_number, first_lost, count_lost, singles, run_in, run_after}
 use Rattle.vp_runs.specs.StopLaws.{SameButDelivered, StoppedRunsAreSchedules}
 use Rattle.vp_runs.proofs.Delivered.{IsSingle, steps_to, steps_more, steps_same, run_is}
 use Rattle.vp_runs.proofs.Following.{Goes, schedule_goes, after_goes, followed, led_to, single_at, all_taken, all_events}
@@ -42,7 +42,7 @@ module _ (s : Schedule) (step : ℕ) (kept : Bool) (m : Moment) (site : ℕ) (at
   rest = run_after s (suc step) kept site m
 
   rest_goes : Goes s.catalogue (stopped_world s.catalogue kept site m) rest
-  rest_goes = after_goes s.catalogue 1 (map (raised (first_lost m) (lost kept m)) (follow s.events (take (suc step) (moments_of s)) m)) (stopped_world s.catalogue kept site m)
+  rest_goes = after_goes s.catalogue 1 (map (raise_number (first_lost m) (count_lost kept m)) (follow s.events (take (suc step) (moments_of s)) m)) (stopped_world s.catalogue kept site m)
 
   abbrev pub whole : List Event
   whole = front ++ (stop ++ singles rest.moments)

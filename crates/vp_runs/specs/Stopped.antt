@@ -31,8 +31,8 @@ abbrev pub stop_at : Bool → ℕ → Event → List Event
 stop_at kept site e = if kept then e ∷ event.Crash site ∷ [] else event.Crash site ∷ []
 
 -- how many messages of the step nobody gets, and the number of the first of them
-abbrev pub lost : Bool → Moment → ℕ
-lost kept m = if kept then length m.after.sent - length m.before.sent else 0
+abbrev pub count_lost : Bool → Moment → ℕ
+count_lost kept m = if kept then length m.after.sent - length m.before.sent else 0
 
 abbrev pub first_lost : Moment → ℕ
 first_lost m = length m.before.sent + 1
@@ -43,7 +43,7 @@ message_taken (event.Deliver k) = k ∷ []
 message_taken _ = []
 
 abbrev pub passed_numbers : Bool → Moment → List ℕ
-passed_numbers kept m = message_taken m.line.event ++ range_with_len (first_lost m) (lost kept m)
+passed_numbers kept m = message_taken m.line.event ++ range_with_len (first_lost m) (count_lost kept m)
 
 -- the world where these messages count as delivered too
 abbrev pub pass_over : List ℕ → WorldState → WorldState
@@ -71,9 +71,9 @@ follow events moments m =
     ++ drop m.number events
 
 -- a delivery keeps its message, though messages that nobody gets have numbers too
-abbrev pub raised : ℕ → ℕ → Event → Event
-raised first count (event.Deliver k) = event.Deliver (if nat_le first k then k + count else k)
-raised first count e = e
+abbrev pub raise_number : ℕ → ℕ → Event → Event
+raise_number first count (event.Deliver k) = event.Deliver (if nat_le first k then k + count else k)
+raise_number first count e = e
 
 -- the single steps of a run, as events
 abbrev pub singles : List Moment → List Event
@@ -84,7 +84,7 @@ singles moments = map (λ (m : Moment). m.line.event) moments
 -- the run after the stop
 abbrev pub run_after : Schedule → ℕ → Bool → ℕ → Moment → Run
 run_after s step kept site m =
-    run_from s.catalogue 1 (map (raised (first_lost m) (lost kept m)) (follow s.events (take step (moments_of s)) m)) (run_in (stopped_world s.catalogue kept site m))
+    run_from s.catalogue 1 (map (raise_number (first_lost m) (count_lost kept m)) (follow s.events (take step (moments_of s)) m)) (run_in (stopped_world s.catalogue kept site m))
 
 abbrev pub stopped_events : Schedule → ℕ → Bool → ℕ → Moment → List Event
 stopped_events s step kept site m =

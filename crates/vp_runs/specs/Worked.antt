@@ -59,8 +59,8 @@ commit =
     ∷ []
 
 -- the decision waits for the other site
-abbrev pub committed : List (List LogRecord)
-committed = (log_record.Start 1 ∷ []) ∷ (log_record.Commit (txn 1) opening ((0, value (codes "11")) ∷ []) (2 ∷ []) ∷ []) ∷ []
+abbrev pub committed_log : List (List LogRecord)
+committed_log = (log_record.Start 1 ∷ []) ∷ (log_record.Commit (txn 1) opening ((0, value (codes "11")) ∷ []) (2 ∷ []) ∷ []) ∷ []
 
 -- ---- an answer
 

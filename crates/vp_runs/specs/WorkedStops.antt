@@ -60,8 +60,8 @@ with_decision =
     ∷ event.Deliver 9
     ∷ []
 
-abbrev pub committed : List Commit
-committed = record { txn = txn 1; view = opening; ops = op.Write 0 (Some (codes "11")) ∷ []; tables = [] } ∷ []
+abbrev pub one_commit : List Commit
+one_commit = record { txn = txn 1; view = opening; ops = op.Write 0 (Some (codes "11")) ∷ []; tables = [] } ∷ []
 
 abbrev pub restart_schedule : Schedule
 restart_schedule = record { catalogue = both; events = event.Crash 1 ∷ event.Restart 1 ∷ [] }

@@ -25,7 +25,7 @@ pub fn what_is_passed_over()
 pub fn a_commit_of_two_sites()
     ensures ports { map (λ (d : Datagram). d.port) (node_run worked.both 1 [] worked.commit).datagrams ≡
         7100 ∷ 7002 ∷ 7100 ∷ 7002 ∷ 7002 ∷ 7100 ∷ [] }
-    ensures log { (node_run worked.both 1 [] worked.commit).node.batches ≡ worked.committed }
+    ensures log { (node_run worked.both 1 [] worked.commit).node.batches ≡ worked.committed_log }
 {}
 
 /// An answer of another transaction, with another number or from another port is ignored; one that names the transaction alone is taken.

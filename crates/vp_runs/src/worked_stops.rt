@@ -15,7 +15,7 @@ pub fn a_stop_before_the_decision()
 /// It stops once its decision is there: it crashes after the step, whose message nobody gets, and later numbers are one more.
 pub fn a_stop_after_the_decision()
     ensures events { option_map (λ s. s.events) (stopped 7 true worked.decided_schedule) ≡ Some worked.with_decision }
-    ensures journal { option_map journal_of (stopped 7 true worked.decided_schedule) ≡ Some worked.committed }
+    ensures journal { option_map journal_of (stopped 7 true worked.decided_schedule) ≡ Some worked.one_commit }
 {}
 
 /// There is nothing to stop in: before the first step, after the last one, in a step that forces no record, and in a restart.

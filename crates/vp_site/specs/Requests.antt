@@ -11,8 +11,8 @@ use Rattle.vp_model.specs.Messages.{holds_view, refuse_view, grant}
 use Rattle.vp_participant.specs.declared.requests.Request.{Request}
 
 -- the lock is granted with this answer, or the request is refused
-abbrev pub asked : Request → Bool → Message → ℕ → Stepped → Stepped
-asked r exclusive answer from o =
+abbrev pub answer_request : Request → Bool → Message → ℕ → Stepped → Stepped
+answer_request r exclusive answer from o =
     if not (holds_view o.site r.view)
     then refuse_view r.txn r.number from o
     else (if has_txn o.site.ended r.txn

@@ -11,7 +11,7 @@ ghost use Rattle.vp_model.specs.Site.{send, change_locks, change_participant};
 ghost use Rattle.vp_model.specs.Messages.{holds_view, with_part, refuse_view, on_read_request, on_write_request, on_prepare, end_doubt, with_ended, acknowledge, on_outcome};
 ghost use Rattle.vp_participant.specs.Doubts.{doubt_ended};
 ghost use Rattle.vp_participant.specs.Refusals.{lock_refusal, lock_refused};
-ghost use Rattle.vp_site.specs.Requests.{asked};
+ghost use Rattle.vp_site.specs.Requests.{answer_request};
 ghost use Rattle.vp_site.specs.Ballots.{with_ballot};
 
 use crate::stepped::Stepped;
@@ -61,7 +61,7 @@ impl Stepped {
         answer: Message,
         from: SiteId,
     ) -> Result<(), NoMemory>
-        ensures { OnOk result (self.new ≡ asked request.now exclusive answer from self.old) }
+        ensures { OnOk result (self.new ≡ answer_request request.now exclusive answer from self.old) }
     {
         let why = match self.lock(request, exclusive) {
             Ok(()) => return self.send(from, answer),

@@ -16,7 +16,7 @@ use vp_coordinator::Coordinator;
 use vp_locks::Locks;
 use vp_participant::Participant;
 use vp_records::Durable;
-use vp_refresh::Refresh;
+use vp_refresh::{Refresh, RefreshEntry};
 use vp_views::Views;
 
 /// A site that is up. Its state is boxed, so that few bytes are moved where a site is passed from call to call.
@@ -116,6 +116,13 @@ impl Site {
         ensures { result ≡ option_map (λ inviting. inviting.0) self.now.inviting }
     {
         self.state().views.inviting()
+    }
+
+    /// The copies under refresh, ascending by record; each is locked until its refresh ends.
+    pub fn refreshing(&self) -> &[RefreshEntry]
+        ensures { result.now ≡ self.now.refresh }
+    {
+        self.state().refresh.as_slice()
     }
 
     /// The newest live transaction that began here, if there is one.

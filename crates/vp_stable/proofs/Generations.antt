@@ -5,7 +5,7 @@ use Rattle.vp_base.specs.declared.entry.LogRecord.{LogRecord}
 use Rattle.vp_outside.specs.Disk.{Halves, half_of, InHalf}
 use Rattle.vp_records.specs.Batches.{batch_bytes}
 use Rattle.vp_records.proofs.Batches.{one_batch}
-use Rattle.vp_stable.specs.Log.{measured, open_batches, StandsFirst, IsLog, HasBatches}
+use Rattle.vp_stable.specs.Log.{sized_batch, open_batches, StandsFirst, IsLog, HasBatches}
 use Rattle.vp_stable.specs.Halves.{generation_in, generation_of, HasGeneration, higher, IsCurrent, HalvesAreOneLog, BadHalvesHaveNoBatches}
 use Rattle.vp_stable.proofs.Measured.{measured_same}
 use Rattle.vp_stable.proofs.Determined.{head, begins, batches_are_one, bad_logs_have_no_batches}
@@ -31,7 +31,7 @@ generations_are_one m n bytes (inr a) (inr b) = a.1 ∙ sym b.1
 -- at most 1 byte has no first batch
 pub short_generation : (bytes : List ℕ) → length bytes ≤ 1 → HasGeneration 0 bytes
 short_generation bytes short = inr (
-  λ batch first. omega (arith, short, ap length first.open_, ap length first.stands.is, length-append (measured batch) (first.stands.gate ∷ first.stands.rest)),
+  λ batch first. omega (arith, short, ap length first.open_, ap length first.stands.is, length-append (sized_batch batch) (first.stands.gate ∷ first.stands.rest)),
   refl,
 )
 
@@ -50,10 +50,10 @@ log_generation place (b ∷ bs) bytes log =
     inl (
       b,
       record {
-        place = length (measured b);
-        rest = measured b ++ (open_batches bs ++ log.gate ∷ log.rest);
-        open_ = log.is ∙ ap (λ (l : List ℕ). 1 ∷ l) (append_assoc (measured b) (open_batches bs) (log.gate ∷ log.rest));
-        stands = record { gate = next.gate; rest = next.rest; is = ap (λ (l : List ℕ). measured b ++ l) next.is; at = refl; can = log.can.0 };
+        place = length (sized_batch b);
+        rest = sized_batch b ++ (open_batches bs ++ log.gate ∷ log.rest);
+        open_ = log.is ∙ ap (λ (l : List ℕ). 1 ∷ l) (append_assoc (sized_batch b) (open_batches bs) (log.gate ∷ log.rest));
+        stands = record { gate = next.gate; rest = next.rest; is = ap (λ (l : List ℕ). sized_batch b ++ l) next.is; at = refl; can = log.can.0 };
       },
       refl,
     )

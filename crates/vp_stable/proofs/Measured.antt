@@ -5,30 +5,30 @@ use Rattle.byteorder.specs.Endian.{big_number, big_bytes}
 use Rattle.byteorder.specs.Numbers.{big_number-reads_back, length-bytes_high_first}
 use Rattle.vp_base.specs.declared.entry.LogRecord.{LogRecord}
 use Rattle.vp_records.specs.Batches.{batch_bytes, IsBatch}
-use Rattle.vp_stable.specs.Log.{CanStand, measured, StandsFirst}
+use Rattle.vp_stable.specs.Log.{CanStand, sized_batch, StandsFirst}
 
-pub length-measured : (batch : List LogRecord) → length (measured batch) ≡ 8 + length (batch_bytes batch)
-unfolding measured
+pub length-measured : (batch : List LogRecord) → length (sized_batch batch) ≡ 8 + length (batch_bytes batch)
+unfolding sized_batch
 length-measured batch =
     let n = length (batch_bytes batch) in
     omega (arith, length-append (big_bytes 8 n) (batch_bytes batch), length-bytes_high_first 8 n)
 
 -- the length is read
-pub read_length : (batch : List LogRecord) (rest : List ℕ) → CanStand batch → big_number 8 (measured batch ++ rest) ≡ length (batch_bytes batch)
-unfolding measured
+pub read_length : (batch : List LogRecord) (rest : List ℕ) → CanStand batch → big_number 8 (sized_batch batch ++ rest) ≡ length (batch_bytes batch)
+unfolding sized_batch
 read_length batch rest can =
     let n = length (batch_bytes batch) in
     ap (λ (l : List ℕ). big_number 8 l) (append_assoc (big_bytes 8 n) (batch_bytes batch) rest) ∙ big_number-reads_back 8 n (batch_bytes batch ++ rest) can.fits
 
 -- the batch follows it
-pub drop_length : (batch : List LogRecord) (rest : List ℕ) → drop 8 (measured batch ++ rest) ≡ batch_bytes batch ++ rest
-unfolding measured
+pub drop_length : (batch : List LogRecord) (rest : List ℕ) → drop 8 (sized_batch batch ++ rest) ≡ batch_bytes batch ++ rest
+unfolding sized_batch
 drop_length batch rest =
     let n = length (batch_bytes batch) in
     ap (λ (l : List ℕ). drop 8 l) (append_assoc (big_bytes 8 n) (batch_bytes batch) rest) ∙ drop_at (big_bytes 8 n) (batch_bytes batch ++ rest) 8 (length-bytes_high_first 8 n)
 
 -- two batches before the same bytes have the same bytes
-pub measured_same : (x y : List LogRecord) (r s : List ℕ) → CanStand x → CanStand y → measured x ++ r ≡ measured y ++ s → (batch_bytes x ≡ batch_bytes y) × (r ≡ s)
+pub measured_same : (x y : List LogRecord) (r s : List ℕ) → CanStand x → CanStand y → sized_batch x ++ r ≡ sized_batch y ++ s → (batch_bytes x ≡ batch_bytes y) × (r ≡ s)
 measured_same x y r s x_can y_can e =
     let n : length (batch_bytes x) ≡ length (batch_bytes y) = sym (read_length x r x_can) ∙ ap (λ (l : List ℕ). big_number 8 l) e ∙ read_length y s y_can in
     let d : batch_bytes x ++ r ≡ batch_bytes y ++ s = sym (drop_length x r) ∙ ap (λ (l : List ℕ). drop 8 l) e ∙ drop_length y s in (
@@ -41,7 +41,7 @@ measured_same x y r s x_can y_can e =
 -- how long the first batch is
 pub stands_within : (batch : List LogRecord) (next : ℕ) (bytes : List ℕ) → StandsFirst batch next bytes → (8 ≤ next) × (next < length bytes) × (big_number 8 bytes ≡ next - 8)
 stands_within batch next bytes stands =
-    let all = length-append (measured batch) (stands.gate ∷ stands.rest) in
+    let all = length-append (sized_batch batch) (stands.gate ∷ stands.rest) in
     let size = length-measured batch in
     let read : big_number 8 bytes ≡ length (batch_bytes batch) = ap (λ (l : List ℕ). big_number 8 l) stands.is ∙ read_length batch (stands.gate ∷ stands.rest) stands.can in (
       omega (arith, stands.at, size),
@@ -59,7 +59,7 @@ stands_records batch next bytes stands =
 -- a batch between a length and a gate is first
 pub made_first : (batch : List LogRecord) (next : ℕ) (bytes : List ℕ) → 8 ≤ next → next < length bytes → next < 2 ^ 64 → take 8 bytes ≡ big_bytes 8 (next - 8)
     → take (next - 8) (drop 8 bytes) ≡ batch_bytes batch → IsBatch batch → StandsFirst batch next bytes
-unfolding measured
+unfolding sized_batch
 made_first batch next bytes least within small number records allowed =
     let left = length-drop 8 bytes in
     let size : length (batch_bytes batch) ≡ next - 8 = ap length (sym records) ∙ length-take-le (next - 8) (drop 8 bytes) (omega (arith, least, within, left)) in
@@ -94,13 +94,13 @@ same_place batch place next bytes least small number stands =
 
 -- the length is written over 8 bytes that were kept free before the batch, and a closed gate follows
 pub piece_made : (batch : List LogRecord) (front out buf written items : List ℕ) (n len : ℕ) → length front ≡ 8 → out ≡ front ++ batch_bytes batch → buf ≡ out → length buf ≡ len → n ≡ len
-    → written ≡ big_bytes 8 (n - 8) ++ drop 8 buf → items ≡ take len (written ++ drop (length written) out) ++ 0 ∷ [] → items ≡ measured batch ++ 0 ∷ []
-unfolding measured
+    → written ≡ big_bytes 8 (n - 8) ++ drop 8 buf → items ≡ take len (written ++ drop (length written) out) ++ 0 ∷ [] → items ≡ sized_batch batch ++ 0 ∷ []
+unfolding sized_batch
 piece_made batch front out buf written items n len free out_is buf_is size count written_is items_is =
     let whole : buf ≡ front ++ batch_bytes batch = buf_is ∙ out_is in
     let tail : drop 8 buf ≡ batch_bytes batch = ap (λ (l : List ℕ). drop 8 l) whole ∙ drop_at front (batch_bytes batch) 8 free in
     let long = length-append front (batch_bytes batch) in
     let measure : n - 8 ≡ length (batch_bytes batch) = omega (arith, free, long, ap length whole, size, count) in
-    let made : written ≡ measured batch = written_is ∙ ap (λ (l : List ℕ). big_bytes 8 (n - 8) ++ l) tail ∙ ap (λ (k : ℕ). big_bytes 8 k ++ batch_bytes batch) measure in
+    let made : written ≡ sized_batch batch = written_is ∙ ap (λ (l : List ℕ). big_bytes 8 (n - 8) ++ l) tail ∙ ap (λ (k : ℕ). big_bytes 8 k ++ batch_bytes batch) measure in
     let filled : length written ≡ len = omega (arith, ap length made, length-measured batch, free, long, ap length whole, size) in
     items_is ∙ ap (λ (l : List ℕ). l ++ 0 ∷ []) (take_at written (drop (length written) out) len filled ∙ made)

@@ -3,22 +3,22 @@ use Rattle.std.proofs.Common.{◌≡◌, ℕ, ◌+◌, ◌<◌, List, [], ◌∷
 use Rattle.std.proofs.lemmas.List.{append-nil, take_at, drop_at, drop_more}
 use Rattle.std.specs.List.{AllByRecursion}
 use Rattle.vp_base.specs.declared.entry.LogRecord.{LogRecord}
-use Rattle.vp_stable.specs.Log.{CanStand, measured, open_batches}
+use Rattle.vp_stable.specs.Log.{CanStand, sized_batch, open_batches}
 use Rattle.vp_stable.specs.Halves.{second_gate}
 
 -- one more batch
-pub opened-push : (batches : List (List LogRecord)) (batch : List LogRecord) (rest : List ℕ) → open_batches (batches ++ batch ∷ []) ++ rest ≡ open_batches batches ++ 1 ∷ (measured batch ++ rest)
-opened-push [] batch rest = ap (λ (l : List ℕ). 1 ∷ (l ++ rest)) (append-nil (measured batch))
+pub opened-push : (batches : List (List LogRecord)) (batch : List LogRecord) (rest : List ℕ) → open_batches (batches ++ batch ∷ []) ++ rest ≡ open_batches batches ++ 1 ∷ (sized_batch batch ++ rest)
+opened-push [] batch rest = ap (λ (l : List ℕ). 1 ∷ (l ++ rest)) (append-nil (sized_batch batch))
 opened-push (b ∷ bs) batch rest =
-    ap (λ (l : List ℕ). 1 ∷ l) (append_assoc (measured b) (open_batches (bs ++ batch ∷ [])) rest
-    ∙ ap (λ (l : List ℕ). measured b ++ l) (opened-push bs batch rest)
-    ∙ sym (append_assoc (measured b) (open_batches bs) (1 ∷ (measured batch ++ rest))))
+    ap (λ (l : List ℕ). 1 ∷ l) (append_assoc (sized_batch b) (open_batches (bs ++ batch ∷ [])) rest
+    ∙ ap (λ (l : List ℕ). sized_batch b ++ l) (opened-push bs batch rest)
+    ∙ sym (append_assoc (sized_batch b) (open_batches bs) (1 ∷ (sized_batch batch ++ rest))))
 
-pub length-opened-push : (batches : List (List LogRecord)) (batch : List LogRecord) → length (open_batches (batches ++ batch ∷ [])) ≡ length (open_batches batches) + 1 + length (measured batch)
+pub length-opened-push : (batches : List (List LogRecord)) (batch : List LogRecord) → length (open_batches (batches ++ batch ∷ [])) ≡ length (open_batches batches) + 1 + length (sized_batch batch)
 length-opened-push batches batch =
-    let all : open_batches (batches ++ batch ∷ []) ≡ open_batches batches ++ 1 ∷ measured batch =
-    sym (append-nil (open_batches (batches ++ batch ∷ []))) ∙ opened-push batches batch [] ∙ ap (λ (l : List ℕ). open_batches batches ++ 1 ∷ l) (append-nil (measured batch)) in
-    omega (arith, ap length all, length-append (open_batches batches) (1 ∷ measured batch))
+    let all : open_batches (batches ++ batch ∷ []) ≡ open_batches batches ++ 1 ∷ sized_batch batch =
+    sym (append-nil (open_batches (batches ++ batch ∷ []))) ∙ opened-push batches batch [] ∙ ap (λ (l : List ℕ). open_batches batches ++ 1 ∷ l) (append-nil (sized_batch batch)) in
+    omega (arith, ap length all, length-append (open_batches batches) (1 ∷ sized_batch batch))
 
 pub all_push : (batches : List (List LogRecord)) (batch : List LogRecord) → AllByRecursion CanStand batches → CanStand batch → AllByRecursion CanStand (batches ++ batch ∷ [])
 all_push [] batch all one = (one, tt)
@@ -29,7 +29,7 @@ all_push (b ∷ bs) batch all one = (all.0, all_push bs batch all.1 one)
 -- it is after the first batch
 pub second_first : (batches : List (List LogRecord)) (batch : List LogRecord) → second_gate batches ≡ 0 → length (open_batches (batches ++ batch ∷ [])) ≡ second_gate (batches ++ batch ∷ [])
 second_first [] batch none = refl
-second_first (b ∷ bs) batch none = absurd (omega (arith, none, length-append (1 ∷ measured b) []))
+second_first (b ∷ bs) batch none = absurd (omega (arith, none, length-append (1 ∷ sized_batch b) []))
 
 -- it stays after the first batch
 pub second_stays : (batches : List (List LogRecord)) (batch : List LogRecord) → (second_gate batches ≡ 0 → ⊥) → second_gate batches ≡ second_gate (batches ++ batch ∷ [])

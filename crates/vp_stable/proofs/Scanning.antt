@@ -3,7 +3,7 @@ use Rattle.std.proofs.Common.{◌≡◌, ℕ, ◌+◌, ◌-◌, ◌<◌, ◌≤�
 use Rattle.std.proofs.lemmas.List.{drop_at, drop_more, take_rest}
 use Rattle.std.specs.List.{AllByRecursion}
 use Rattle.vp_base.specs.declared.entry.LogRecord.{LogRecord}
-use Rattle.vp_stable.specs.Log.{CanStand, measured, open_batches, StandsFirst, IsBadLog}
+use Rattle.vp_stable.specs.Log.{CanStand, sized_batch, open_batches, StandsFirst, IsBadLog}
 use Rattle.vp_stable.proofs.Opened.{opened-push, length-opened-push, all_push}
 
 -- The bytes before the place are these batches, each after an open gate.
@@ -32,7 +32,7 @@ module _ (batches : List (List LogRecord)) (at : ℕ) (bytes : List ℕ) (read :
   -- a batch follows it
   pub one_more : (batch : List LogRecord) (next : ℕ) → StandsFirst batch next (take (length bytes - (at + 1)) (drop (at + 1) bytes)) → IsRead (batches ++ batch ∷ []) (at + (1 + next)) bytes
   one_more batch next stands =
-      let following : drop (at + 1) bytes ≡ measured batch ++ stands.gate ∷ stands.rest = sym (take_rest bytes (at + 1)) ∙ stands.is in
+      let following : drop (at + 1) bytes ≡ sized_batch batch ++ stands.gate ∷ stands.rest = sym (take_rest bytes (at + 1)) ∙ stands.is in
       let front = open_batches (batches ++ batch ∷ []) in
       let back = stands.gate ∷ stands.rest in
       let whole : bytes ≡ front ++ back = from_gate ∙ ap (λ (l : List ℕ). open_batches batches ++ 1 ∷ l) following ∙ sym (opened-push batches batch back) in

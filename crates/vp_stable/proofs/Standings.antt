@@ -2,7 +2,7 @@
 use Rattle.std.proofs.Common.{◌≡◌, inl, inr, ⊎_elim, ℕ, Bool, true, false, ◌+◌, ◌≤◌, List, [], ◌∷◌, ◌++◌, length, refl, sym, ap, subst, arith, length-append}
 use Rattle.vp_base.specs.declared.entry.LogRecord.{LogRecord}
 use Rattle.vp_outside.specs.Disk.{Halves, half_of, InHalf}
-use Rattle.vp_stable.specs.Log.{measured, open_batches, IsLog}
+use Rattle.vp_stable.specs.Log.{sized_batch, open_batches, IsLog}
 use Rattle.vp_stable.specs.Halves.{generation_in, generation_of, HasGeneration, IsCurrent, Standing, StandsAt, GainsAt, MayGainAt}
 use Rattle.vp_stable.specs.Stops.{StaysPut, PutsWhere, GainsWhere}
 use Rattle.vp_stable.specs.Writing.{IsPiece, Puts, MayPut}
@@ -36,7 +36,7 @@ may_stay batch from log batches stands = inl (from.half, stands.current, inr (fr
 module _ (batch : List LogRecord) (piece : List ℕ) (is : IsPiece batch piece) (from : Standing) where
   -- the first batch ends where its piece does
   piece_ends : length (open_batches (batch ∷ [])) ≡ length piece
-  piece_ends = omega (arith, length-append (measured batch) [], length-append (measured batch) (0 ∷ []), ap length is.is)
+  piece_ends = omega (arith, length-append (sized_batch batch) [], length-append (sized_batch batch) (0 ∷ []), ap length is.is)
 
   current_still : (batches : List (List LogRecord)) (old new : Halves) → StandsAt from batches old → (place : ℕ) (now : List (List LogRecord)) → IsLog place now (half_of from.half new)
       → generation_of batches ≤ generation_of now → half_of (other_half from.half) new ≡ half_of (other_half from.half) old → IsCurrent from.half new
@@ -89,4 +89,4 @@ module _ (batch : List LogRecord) (piece : List ℕ) (is : IsPiece batch piece) 
       by [] stands =
           let log = changed.0 batch [] is stands.is_log in
           record { current = current_still [] old new stands (from.gate + length piece) (batch ∷ []) log (omega arith) changed.1; is_log = log; generation = refl; second = sym piece_ends }
-      by (b ∷ bs) stands = absurd (omega (arith, none, stands.second, length-append (1 ∷ measured b) []))
+      by (b ∷ bs) stands = absurd (omega (arith, none, stands.second, length-append (1 ∷ sized_batch b) []))

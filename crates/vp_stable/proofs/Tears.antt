@@ -5,7 +5,7 @@ use Rattle.std.proofs.lemmas.Bool.{cases_eq}
 use Rattle.std.specs.List.{AllByRecursion}
 use Rattle.vp_base.specs.declared.entry.LogRecord.{LogRecord}
 use Rattle.vp_outside.specs.Disk.{Written, Torn}
-use Rattle.vp_stable.specs.Log.{CanStand, measured, open_batches, IsLog}
+use Rattle.vp_stable.specs.Log.{CanStand, sized_batch, open_batches, IsLog}
 use Rattle.vp_stable.proofs.Opened.{opened-push, length-opened-push, all_push, length-around, take_before, take_through, drop_through, around}
 
 -- ---- any write
@@ -48,24 +48,24 @@ written_empty old new written = record { gate = 0; rest = drop 1 old; is = writt
 pub record IsStaged (batch : List LogRecord) (place : ℕ) (batches : List (List LogRecord)) (bytes : List ℕ) : Type 0 where
   pub gate : ℕ
   pub rest : List ℕ
-  pub is : bytes ≡ open_batches batches ++ gate ∷ (measured batch ++ 0 ∷ rest)
+  pub is : bytes ≡ open_batches batches ++ gate ∷ (sized_batch batch ++ 0 ∷ rest)
   pub at : place ≡ length (open_batches batches)
   pub can : AllByRecursion CanStand batches
 
 -- its gate decides whether it counts
 staged_reads : (batch : List LogRecord) (place : ℕ) (batches : List (List LogRecord)) (bytes : List ℕ) → CanStand batch → IsStaged batch place batches bytes
-    → IsLog place batches bytes ⊎ IsLog (place + length (measured batch ++ 0 ∷ [])) (batches ++ batch ∷ []) bytes
+    → IsLog place batches bytes ⊎ IsLog (place + length (sized_batch batch ++ 0 ∷ [])) (batches ++ batch ∷ []) bytes
 staged_reads batch place batches bytes can staged = elim (cases_eq staged.gate 1) [
   | inl is_open ↦
       inr (record {
         gate = 0;
         rest = staged.rest;
-        is = staged.is ∙ ap (λ (g : ℕ). open_batches batches ++ g ∷ (measured batch ++ 0 ∷ staged.rest)) is_open ∙ sym (opened-push batches batch (0 ∷ staged.rest));
+        is = staged.is ∙ ap (λ (g : ℕ). open_batches batches ++ g ∷ (sized_batch batch ++ 0 ∷ staged.rest)) is_open ∙ sym (opened-push batches batch (0 ∷ staged.rest));
         closed = λ e. absurd (omega (arith, e));
-        at = omega (arith, staged.at, length-append (measured batch) (0 ∷ []), length-opened-push batches batch);
+        at = omega (arith, staged.at, length-append (sized_batch batch) (0 ∷ []), length-opened-push batches batch);
         can = all_push batches batch staged.can can;
       })
-  | inr shut ↦ inl (record { gate = staged.gate; rest = measured batch ++ 0 ∷ staged.rest; is = staged.is; closed = shut; at = staged.at; can = staged.can })
+  | inr shut ↦ inl (record { gate = staged.gate; rest = sized_batch batch ++ 0 ∷ staged.rest; is = staged.is; closed = shut; at = staged.at; can = staged.can })
 ]
 
 module _ (place : ℕ) (batches : List (List LogRecord)) (old : List ℕ) (log : IsLog place batches old) where
@@ -89,9 +89,9 @@ module _ (place : ℕ) (batches : List (List LogRecord)) (old : List ℕ) (log :
         can = log.can;
       }
 
-  pub written_after : (batch : List LogRecord) (new : List ℕ) → Written (place + 1) (measured batch ++ 0 ∷ []) old new → IsStaged batch place batches new
+  pub written_after : (batch : List LogRecord) (new : List ℕ) → Written (place + 1) (sized_batch batch ++ 0 ∷ []) old new → IsStaged batch place batches new
   written_after batch new written =
-      let piece = measured batch ++ 0 ∷ [] in
+      let piece = sized_batch batch ++ 0 ∷ [] in
       let zeros : List ℕ = replicate (place + 1 - length old) 0 in
       let more = drop (place + 1 + length piece) old in
       let front : take (place + 1) (old ++ zeros) ≡ open_batches batches ++ log.gate ∷ [] = take-append-le (place + 1) old zeros (omega (arith, log_size)) ∙ log_front in
@@ -101,14 +101,14 @@ module _ (place : ℕ) (batches : List (List LogRecord)) (old : List ℕ) (log :
         is = written ∙ ap (λ (l : List ℕ). l ++ piece ++ more) front
             ∙ append_assoc (open_batches batches ++ log.gate ∷ []) piece more
             ∙ append_assoc (open_batches batches) (log.gate ∷ []) (piece ++ more)
-            ∙ ap (λ (l : List ℕ). open_batches batches ++ log.gate ∷ l) (append_assoc (measured batch) (0 ∷ []) more);
+            ∙ ap (λ (l : List ℕ). open_batches batches ++ log.gate ∷ l) (append_assoc (sized_batch batch) (0 ∷ []) more);
         at = log.at;
         can = log.can;
       }
 
 module _ (batch : List LogRecord) (can : CanStand batch) (place : ℕ) (batches : List (List LogRecord)) (old : List ℕ) (staged : IsStaged batch place batches old) where
   abbrev back : List ℕ
-  back = measured batch ++ 0 ∷ staged.rest
+  back = sized_batch batch ++ 0 ∷ staged.rest
 
   staged_size : length old ≡ place + 1 + length back
   staged_size = ap length staged.is ∙ length-around (open_batches batches) back staged.gate place staged.at
@@ -120,7 +120,7 @@ module _ (batch : List LogRecord) (can : CanStand batch) (place : ℕ) (batches 
   staged_back = ap (λ (l : List ℕ). drop (place + 1) l) staged.is ∙ drop_through (open_batches batches) back staged.gate place staged.at
 
   -- the batch is whole whatever became of the write of its gate
-  pub torn_gate : (new : List ℕ) → Torn place 1 old new → IsLog place batches new ⊎ IsLog (place + length (measured batch ++ 0 ∷ [])) (batches ++ batch ∷ []) new
+  pub torn_gate : (new : List ℕ) → Torn place 1 old new → IsLog place batches new ⊎ IsLog (place + length (sized_batch batch ++ 0 ∷ [])) (batches ++ batch ∷ []) new
   torn_gate new torn =
       let within : place ≡ min place (length old) = omega (arith, staged_size) in
       let front : take place new ≡ open_batches batches = ap (λ (k : ℕ). take k new) within ∙ torn.before ∙ staged_front in
@@ -132,7 +132,7 @@ module _ (batch : List LogRecord) (can : CanStand batch) (place : ℕ) (batches 
         can = staged.can;
       })
 
-  pub written_gate : (new : List ℕ) → Written place (1 ∷ []) old new → IsLog (place + length (measured batch ++ 0 ∷ [])) (batches ++ batch ∷ []) new
+  pub written_gate : (new : List ℕ) → Written place (1 ∷ []) old new → IsLog (place + length (sized_batch batch ++ 0 ∷ [])) (batches ++ batch ∷ []) new
   written_gate new written =
       let zeros : List ℕ = replicate (place - length old) 0 in
       let front : take place (old ++ zeros) ≡ open_batches batches = take-append-le place old zeros (omega (arith, staged_size)) ∙ staged_front in
@@ -144,6 +144,6 @@ module _ (batch : List LogRecord) (can : CanStand batch) (place : ℕ) (batches 
             ∙ append_assoc (open_batches batches) (1 ∷ []) back
             ∙ sym (opened-push batches batch (0 ∷ staged.rest));
         closed = λ e. absurd (omega (arith, e));
-        at = omega (arith, staged.at, length-append (measured batch) (0 ∷ []), length-opened-push batches batch);
+        at = omega (arith, staged.at, length-append (sized_batch batch) (0 ∷ []), length-opened-push batches batch);
         can = all_push batches batch staged.can can;
       }

@@ -11,19 +11,19 @@ pub record CanStand (batch : List LogRecord) : Type 0 where
   pub fits : length (batch_bytes batch) < 2 ^ 64
 
 -- the length of a batch, and then the batch
-unfoldable pub measured : List LogRecord → List ℕ
-measured batch = big_bytes 8 (length (batch_bytes batch)) ++ batch_bytes batch
+unfoldable pub sized_batch : List LogRecord → List ℕ
+sized_batch batch = big_bytes 8 (length (batch_bytes batch)) ++ batch_bytes batch
 
 -- batches, each after an open gate
 abbrev pub open_batches : List (List LogRecord) → List ℕ
-open_batches batches = flat_map (λ batch. 1 ∷ measured batch) batches
+open_batches batches = flat_map (λ batch. 1 ∷ sized_batch batch) batches
 
 -- The bytes begin with the length of a batch and the batch, and a gate follows at that place.
 pub record StandsFirst (batch : List LogRecord) (place : ℕ) (bytes : List ℕ) : Type 0 where
   pub gate : ℕ
   pub rest : List ℕ
-  pub is : bytes ≡ measured batch ++ gate ∷ rest
-  pub at : place ≡ length (measured batch)
+  pub is : bytes ≡ sized_batch batch ++ gate ∷ rest
+  pub at : place ≡ length (sized_batch batch)
   pub can : CanStand batch
 
 -- The bytes are these batches, each after an open gate, and then a closed gate at that place. What follows it is not part of the

@@ -2,7 +2,7 @@
 use Rattle.std.specs.Prelude.{◌≡◌, ◌⊎◌, ℕ, ◌+◌, ◌≤◌, List, [], ◌∷◌, ◌++◌, length, Option, IfSome}
 use Rattle.vp_base.specs.declared.entry.LogRecord.{LogRecord}
 use Rattle.vp_outside.specs.Disk.{Halves, DiskState, Only, Elapses}
-use Rattle.vp_stable.specs.Log.{CanStand, measured, IsLog}
+use Rattle.vp_stable.specs.Log.{CanStand, sized_batch, IsLog}
 
 -- It stays as it was, or at most 1 byte is left of it.
 abbrev pub MayClear : List ℕ → List ℕ → Type 0
@@ -14,7 +14,7 @@ Clears old new = IsLog 0 [] new
 
 -- What follows the gate of a batch: the length of the batch, the batch, and a closed gate.
 pub record IsPiece (batch : List LogRecord) (piece : List ℕ) : Type 0 where
-  pub is : piece ≡ measured batch ++ 0 ∷ []
+  pub is : piece ≡ sized_batch batch ++ 0 ∷ []
   pub can : CanStand batch
 
 -- A log whose closed gate is at this place gets the batch of the piece after the others.

@@ -5,7 +5,7 @@ ghost use Rattle.byteorder.specs.Endian.{big_bytes};
 ghost use Rattle.vp_base.specs.declared.entry.LogRecord.{LogRecord};
 ghost use Rattle.vp_records.specs.Batches.{IsBatch};
 ghost use Rattle.vp_records.specs.Records.{CanBeSaved};
-ghost use Rattle.vp_stable.specs.Log.{measured, CanStand, StandsFirst, IsBadLog};
+ghost use Rattle.vp_stable.specs.Log.{sized_batch, CanStand, StandsFirst, IsBadLog};
 ghost use Rattle.vp_stable.specs.Scans.{Scanned};
 ghost use Rattle.vp_stable.specs.Halves.{HasGeneration};
 ghost use Rattle.vp_stable.specs.Halves as halves;
@@ -25,7 +25,7 @@ pub const OPEN: u8 = 1;
 /// Makes what follows a gate that is to be opened: the length of the batch, the batch, and the next gate, which is closed.
 pub fn after_gate(alloc: Global, batch: &Batch) -> Result<Vec<u8>, NoMemory>
     requires { IsBatch batch.now }
-    ensures bytes { IfOk result (λ piece. piece.items ≡ measured batch.now ++ 0 ∷ []) }
+    ensures bytes { IfOk result (λ piece. piece.items ≡ sized_batch batch.now ++ 0 ∷ []) }
     ensures can { IfOk result (λ _. CanStand batch.now) }
 {
     let mut piece = vec![in alloc; 0; LENGTH_BYTES]?;

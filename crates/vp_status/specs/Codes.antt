@@ -17,3 +17,5 @@ code_of status.Limit = 9
 code_of status.Differs = 10
 code_of status.NoAnswer = 11
 code_of status.LivesSpent = 12
+code_of status.Unsent = 14
+code_of status.TurnDiffers = 15

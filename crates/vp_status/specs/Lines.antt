@@ -1,4 +1,4 @@
--- The lines that commands print of what failed.
+-- The lines that commands print of what failed, and of a turn at which recordings go no further.
 use Rattle.std.specs.Prelude.{ℕ, List, [], ◌∷◌, ◌++◌, codes}
 use Rattle.std.specs.Fmt.{decimal}
 
@@ -17,3 +17,11 @@ lives_spent_text = codes "lives spent\n"
 -- the half of the log that is damaged, and the byte
 abbrev pub bad_log_text : ℕ → ℕ → List ℕ
 bad_log_text half at = codes "bad log " ++ (decimal half ++ (codes " at " ++ (decimal at ++ 10 ∷ [])))
+
+-- a site, and the number of its turn that waits for what was not sent
+abbrev pub unsent_text : ℕ → ℕ → List ℕ
+unsent_text site turn = codes "unsent " ++ (decimal site ++ 32 ∷ (decimal turn ++ 10 ∷ []))
+
+-- a site, and the number of its turn that differs
+abbrev pub turn_differs_text : ℕ → ℕ → List ℕ
+turn_differs_text site turn = codes "differs " ++ (decimal site ++ 32 ∷ (decimal turn ++ 10 ∷ []))

@@ -40,6 +40,10 @@ pub enum Status {
     NoAnswer = 11,
     /// The life in the log is the last one.
     LivesSpent = 12,
+    /// No further turn of the recordings can be done: the next one of each site takes a message that no step has sent.
+    Unsent = 14,
+    /// A turn of the recordings takes what is no input of its site, or its step gives other datagrams than are recorded.
+    TurnDiffers = 15,
 }
 
 impl Status {

@@ -8,7 +8,7 @@ use Rattle.vp_model.specs.Types.event
 use Rattle.vp_model.specs.Catalogue.{Catalogue}
 use Rattle.vp_model.specs.Limits.{world_limits, exceeded, limit_in, limit_reached, refused}
 use Rattle.vp_model.specs.World.{WorldState, Run, Moment, Schedule, next, moment, flowing, moments_of, run_from, journal_of}
-use Rattle.vp_runs.specs.Stopped.{appender, stopped, stopped_world, stop_at, run_in, raised, singles, follow, lost, first_lost}
+use Rattle.vp_runs.specs.Stopped.{appender, stopped, stopped_world, stop_at, run_in, raise_number, singles, follow, count_lost, first_lost}
 use Rattle.vp_world.specs.Known.{Known}
 use Rattle.vp_world.specs.Limits.{Ends}
 use Rattle.vp_world.specs.Steps.{taker}
@@ -140,10 +140,10 @@ stop_grows steps stop site e kept done takes did =
     omega (arith, grows, same)
 
 -- what is left keeps its messages
-pub raised_so : (steps stop : Steps) (left following : List Event) (before now : ℕ) → before ≡ length steps.world.world.sent → now ≡ length stop.world.world.sent → following ≡ map (raised (before + 1) (now - before)) left
-    → following ≡ map (raised (length steps.world.world.sent + 1) (length stop.world.world.sent - length steps.world.world.sent)) left
+pub raised_so : (steps stop : Steps) (left following : List Event) (before now : ℕ) → before ≡ length steps.world.world.sent → now ≡ length stop.world.world.sent → following ≡ map (raise_number (before + 1) (now - before)) left
+    → following ≡ map (raise_number (length steps.world.world.sent + 1) (length stop.world.world.sent - length steps.world.world.sent)) left
 raised_so steps stop left following before now first last is =
-    is ∙ ap (λ n. map (raised (n + 1) (now - n)) left) first ∙ ap (λ n. map (raised (length steps.world.world.sent + 1) (n - length steps.world.world.sent)) left) last
+    is ∙ ap (λ n. map (raise_number (n + 1) (now - n)) left) first ∙ ap (λ n. map (raise_number (length steps.world.world.sent + 1) (n - length steps.world.world.sent)) left) last
 
 -- ---- the whole
 
@@ -200,7 +200,7 @@ module _ (s : Schedule) (step : ℕ) (e : Event) (steps : Steps) (left : List Ev
 
   -- the stop is done
   module _ (stop : Steps) (following : List Event) (none : limit_in world_limits In.moments ≡ None) (done : HaveDone c (steps.done ++ stop_at kept site e) (stopped_world c kept site (moment_in c e w)) stop)
-      (left_is : following ≡ map (raised (length w.sent + 1) (length stop.world.world.sent - length w.sent)) left) where
+      (left_is : following ≡ map (raise_number (length w.sent + 1) (length stop.world.world.sent - length w.sent)) left) where
     stop_is : stop.world ≡ record { catalogue = s.catalogue; world = stopped_world s.catalogue kept site h.m }
     stop_is = done.0 ∙ ap (λ (c : Catalogue). record { catalogue = c; world = stopped_world steps.world.catalogue kept site (moment_in steps.world.catalogue e w) }) c_is
         ∙ ap (λ (v : WorldState). record { catalogue = s.catalogue; world = v }) world_is
@@ -208,17 +208,17 @@ module _ (s : Schedule) (step : ℕ) (e : Event) (steps : Steps) (left : List Ev
     first_is : length w.sent + 1 ≡ first_lost h.m
     first_is = ap (λ (w : WorldState). length w.sent + 1) w_is
 
-    count_is : length stop.world.world.sent - length w.sent ≡ lost kept h.m
+    count_is : length stop.world.world.sent - length w.sent ≡ count_lost kept h.m
     count_is =
         ap (λ (k : Known). length k.world.sent - length w.sent) done.0
         ∙ (place_sends c kept site e w (taken_single c w site e takes)).2
-        ∙ its_moment (λ m. lost kept (moment_in c e w) ≡ lost kept m) (λ number. ap (λ (k : Known). lost kept (moment_in k.catalogue e k.world)) h.done.0)
+        ∙ its_moment (λ m. count_lost kept (moment_in c e w) ≡ count_lost kept m) (λ number. ap (λ (k : Known). count_lost kept (moment_in k.catalogue e k.world)) h.done.0)
 
-    following_is : following ≡ map (raised (first_lost h.m) (lost kept h.m)) (follow s.events (take step (moments_of s)) h.m)
+    following_is : following ≡ map (raise_number (first_lost h.m) (count_lost kept h.m)) (follow s.events (take step (moments_of s)) h.m)
     following_is =
-        left_is ∙ ap (λ first. map (raised first (length stop.world.world.sent - length w.sent)) left) first_is
-        ∙ ap (λ count. map (raised (first_lost h.m) count) left) count_is
-        ∙ ap (map (raised (first_lost h.m) (lost kept h.m))) h.left_is
+        left_is ∙ ap (λ first. map (raise_number first (length stop.world.world.sent - length w.sent)) left) first_is
+        ∙ ap (λ count. map (raise_number (first_lost h.m) count) left) count_is
+        ∙ ap (map (raise_number (first_lost h.m) (count_lost kept h.m))) h.left_is
 
     pub whole_is : run_from stop.world.catalogue 1 following (run_in stop.world.world) ≡ Whole
     whole_is =

@@ -12,7 +12,7 @@ use Rattle.vp_model.specs.Site.{SiteState}
 use Rattle.vp_model.specs.Told.{is_step}
 use Rattle.vp_model.specs.World.{Place, WorldState, shows, site_of, message_at, change_place, crash, happens, next, moment}
 use Rattle.vp_model.specs.Limits.{world_limits, exceeded, limit_in}
-use Rattle.vp_runs.specs.Stopped.{stop_at, lost, message_taken, pass_over, stopped_world, run_in}
+use Rattle.vp_runs.specs.Stopped.{stop_at, count_lost, message_taken, pass_over, stopped_world, run_in}
 use Rattle.vp_runs.proofs.Delivered.{IsSingle, steps_to, run_is}
 use Rattle.vp_runs.proofs.Happened.{Effect, effect}
 use Rattle.vp_world.specs.Steps.{taker, passed_over}
@@ -124,10 +124,10 @@ module _ (catalogue : Catalogue) where
     abbrev v : WorldState
     v = (run_in_place catalogue kept site e w).world
 
-    pub place_sends : (more : List Sent) × (v.sent ≡ w.sent ++ more) × (length v.sent - length w.sent ≡ lost kept (moment_in catalogue e w))
-    place_sends = subst (λ (v : WorldState). (more : List Sent) × (v.sent ≡ w.sent ++ more) × (length v.sent - length w.sent ≡ lost kept (moment_in catalogue e w))) (sym place_world) (go kept)
+    pub place_sends : (more : List Sent) × (v.sent ≡ w.sent ++ more) × (length v.sent - length w.sent ≡ count_lost kept (moment_in catalogue e w))
+    place_sends = subst (λ (v : WorldState). (more : List Sent) × (v.sent ≡ w.sent ++ more) × (length v.sent - length w.sent ≡ count_lost kept (moment_in catalogue e w))) (sym place_world) (go kept)
       where
-        go : (b : Bool) → (more : List Sent) × ((steps_to catalogue (stop_at b site e) w).sent ≡ w.sent ++ more) × (length (steps_to catalogue (stop_at b site e) w).sent - length w.sent ≡ lost b (moment_in catalogue e w))
+        go : (b : Bool) → (more : List Sent) × ((steps_to catalogue (stop_at b site e) w).sent ≡ w.sent ++ more) × (length (steps_to catalogue (stop_at b site e) w).sent - length w.sent ≡ count_lost b (moment_in catalogue e w))
         go true =
             let step = step_sends e w in
             let last = crash_sends site (next catalogue e w).world in
@@ -149,8 +149,8 @@ module _ (catalogue : Catalogue) where
     pub place_stopped : (taken : List ℕ) → taken ≡ message_taken e → pass_over (range_with_len (length w.sent + 1) (length v.sent - length w.sent)) (pass_over taken v) ≡ stopped_world catalogue kept site (moment_in catalogue e w)
     place_stopped taken is =
         ap (λ n. pass_over (range_with_len (length w.sent + 1) n) (pass_over taken v)) place_sends.2
-        ∙ ap (λ (d : List ℕ). record v { delivered = d }) (append_assoc v.delivered taken (range_with_len (length w.sent + 1) (lost kept (moment_in catalogue e w))))
-        ∙ ap (λ (t : List ℕ). pass_over (t ++ range_with_len (length w.sent + 1) (lost kept (moment_in catalogue e w))) v) is
+        ∙ ap (λ (d : List ℕ). record v { delivered = d }) (append_assoc v.delivered taken (range_with_len (length w.sent + 1) (count_lost kept (moment_in catalogue e w))))
+        ∙ ap (λ (t : List ℕ). pass_over (t ++ range_with_len (length w.sent + 1) (count_lost kept (moment_in catalogue e w))) v) is
 
 -- ---- how the stop ends
 

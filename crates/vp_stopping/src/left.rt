@@ -3,7 +3,7 @@
 ghost use Rattle.std.specs.Prelude.{◌≡◌, ◌+◌, ◌≤◌, IfOk, OnOk, map};
 ghost use Rattle.std.specs.List.{AllByRecursion};
 ghost use Rattle.vp_stopping.specs.Left.{next_single, left_then, CanRise};
-ghost use Rattle.vp_runs.specs.Stopped.{raised};
+ghost use Rattle.vp_runs.specs.Stopped.{raise_number};
 
 use std::alloc::Global;
 use std::collections::VecDeque;
@@ -27,10 +27,10 @@ impl Model for Left {
 }
 
 /// Raises the number of the message in a delivery, if it is not below the first, by `count`.
-fn raised(event: Event, first: u32, count: u32) -> Event
+fn raise_number(event: Event, first: u32, count: u32) -> Event
     requires rises { CanRise event }
     requires few { count ≤ 2000000 }
-    ensures { result ≡ raised first count event }
+    ensures { result ≡ raise_number first count event }
 {
     match event {
         Event::Deliver { k } if first <= k => Event::Deliver { k: k + count },
@@ -75,11 +75,11 @@ impl Left {
     pub fn raise(&mut self, first: u32, count: u32) -> Result<(), NoMemory>
         requires rise { AllByRecursion CanRise self.old }
         requires few { count ≤ 2000000 }
-        ensures { OnOk result (self.new ≡ map (raised first count) self.old) }
+        ensures { OnOk result (self.new ≡ map (raise_number first count) self.old) }
     {
         let mut events = VecDeque::new(*self.events.allocator());
         while let Some(event) = self.events.pop_front() {
-            events.push_back(raised(event, first, count))?;
+            events.push_back(raise_number(event, first, count))?;
         }
         self.events = events;
         Ok(())

@@ -1,11 +1,11 @@
 //! Which digits may follow each other in a number of a range.
 
 ghost use Rattle.std.specs.Prelude.{◌≡◌};
-ghost use Rattle.vp_text.specs.Reading.{begins_number, number_step, stepped};
+ghost use Rattle.vp_text.specs.Reading.{begins_number, number_step, after_digit};
 
 /// Adds a digit to the number: `None` where the byte is no digit, or no number of the range begins with these digits.
 pub fn with_digit(number: Option<u64>, byte: u8, least: u64, most: u64) -> Option<u64>
-    ensures { stepped result ≡ number_step least most number byte }
+    ensures { after_digit result ≡ number_step least most number byte }
 {
     if !byte.is_ascii_digit() {
         return None;

@@ -49,6 +49,7 @@ fn front(alloc: Global, command: &Command) -> Result<String, AllocError> {
         Command::Gateway { port, turns, site } => {
             format!(in alloc; "gateway {port} {turns} {}", site.get())
         }
+        Command::Merge => format!(in alloc; "merge"),
     }
 }
 
@@ -71,7 +72,8 @@ fn text_of(rt: &impl Abort, alloc: Global, command: &Command) -> Vec<u8> {
         | Command::Generate { .. }
         | Command::Soak { .. }
         | Command::Logs
-        | Command::Gateway { .. } => {}
+        | Command::Gateway { .. }
+        | Command::Merge => {}
     }
     out
 }
@@ -103,6 +105,8 @@ soak 1 2 --=soak 1 2
 soak 0 0=soak 0 0
 logs=logs
 logs --=logs
+merge=merge
+merge --=merge
 ";
 
 #[test]
@@ -189,6 +193,9 @@ logs -- --
 logs --help
 logs -h
 logs -- --help
+merge x
+merge -
+merge -- x
 -- logs
 replay logs
 ";

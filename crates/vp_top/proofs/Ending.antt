@@ -1,5 +1,5 @@
 -- How a run ends.
-use Rattle.std.proofs.Common.{◌≡◌, ◌∙◌, ℕ, List, [], true, refl, sym, ap, subst, arith, inl, inr, ⊎_elim, is_some}
+use Rattle.std.proofs.Common.{◌≡◌, ◌∙◌, ◌≤◌, ℕ, List, [], length, true, refl, sym, ap, subst, arith, inl, inr, ⊎_elim, is_some}
 use Rattle.std.proofs.KnownBytes.{Consumes-nil}
 use Rattle.std.specs.Prelude.{⊤, Some, Result, Ok, Err}
 use Rattle.std.specs.Io.KnownBytes.{Appends}
@@ -8,7 +8,7 @@ use Rattle.vp_model.specs.Words.{has, keys, value_at}
 use Rattle.vp_catalog.specs.declared.fault.CatalogFault.{CatalogFault}
 use Rattle.vp_catalog.specs.declared.fault.CatalogFault.TheVariants as faults
 use Rattle.vp_records.proofs.Held.{is_there}
-use Rattle.vp_outside.specs.Input.{SourceState, IsEnded}
+use Rattle.vp_outside.specs.Input.{SourceState, IsEnded, Took}
 use Rattle.vp_outside.specs.Links.{LinkState}
 use Rattle.vp_outside.specs.Output.{SinkState}
 use Rattle.vp_client.specs.declared.asking.AskFault.{AskFault}
@@ -22,7 +22,7 @@ use Rattle.vp_words.specs.declared.words.Command.TheVariants as commands
 use Rattle.vp_top.specs.Asked.{Tells, ClientGives, SignalGives}
 use Rattle.vp_top.specs.Ends.{Defines, EndsInText}
 use Rattle.vp_top.specs.Plans.{Plans, PlansFor}
-use Rattle.vp_top.specs.Program.{HasRead, IsAnswer, IsAnswered, IsDefined, IsNowhere, LacksSites, Reads, TellsFault}
+use Rattle.vp_top.specs.Program.{HasRead, IsAnswer, IsAnswered, IsDefined, IsNowhere, LacksSites, Reads, TellsFault, most_bytes}
 use Rattle.vp_top.specs.declared.plan.Plan.{Plan}
 use Rattle.vp_top.specs.declared.plan.Plan.TheVariants as plans
 
@@ -102,6 +102,9 @@ module _ (bytes text : List ℕ) (link link' : LinkState) where
   answer_has (commands.Signal site given) end a = ⊎_elim (λ nowhere. nowhere_has bytes site end text nowhere.0) (λ told. signal_has told.port site end given told.is) a
   answer_has (commands.Audit logs) end a = lacking_has bytes logs end text a.0
   answer_has (commands.Gateway own turns site) end a = absurd a
+  answer_has commands.Merge status.NoMemory a = a
+  answer_has commands.Merge status.SourceFault a = a
+  answer_has commands.Merge status.SinkFault a = a
   answer_has _ _ a = tt
 
 -- ---- what is defined
@@ -130,6 +133,7 @@ module _ (words : List (List ℕ)) (source source' : SourceState) (link link' : 
   unread (commands.Client own turns site call) none = absurd (none tt)
   unread (commands.Signal site given) none = absurd (none tt)
   unread (commands.Audit logs) none = absurd (none tt)
+  unread commands.Merge none = absurd (none tt)
 
 pub plans_unread : (words : List (List ℕ)) (source : SourceState) (link link' : LinkState) (command : Command) (plan : Plan) → command_of words ≡ Some command → (Reads command → ⊥) → PlansFor command [] link link' plan → Plans words source source link link' plan
 plans_unread words source link link' command (plans.Print told) is none p = record {
@@ -140,6 +144,37 @@ plans_unread words source link link' command (plans.Print told) is none p = reco
 plans_unread words source link link' command (plans.Serve catalogue site log turns) is none p = absurd (none (subst Reads (sym p.0) tt))
 plans_unread words source link link' command (plans.Audit catalogue logs) is none p = absurd (none (subst Reads (sym p.0) tt))
 plans_unread words source link link' command (plans.Answer it) is none p = (is ∙ ap (λ (c : Command). Some c) p.0, refl, p.1)
+
+-- a command that reads its input has read these bytes
+has_read : (command : Command) (bytes : List ℕ) (ended : Type 0) → Reads command → length bytes ≤ most_bytes → ended → HasRead command bytes ended
+has_read (commands.Generate seed count) bytes ended reads fits at_end = absurd reads
+has_read (commands.Soak seed count) bytes ended reads fits at_end = absurd reads
+has_read (commands.Gateway own turns site) bytes ended reads fits at_end = absurd reads
+has_read commands.Replay bytes ended reads fits at_end = (fits, at_end)
+has_read commands.Check bytes ended reads fits at_end = (fits, at_end)
+has_read commands.Logs bytes ended reads fits at_end = (fits, at_end)
+has_read (commands.Node site log turns) bytes ended reads fits at_end = (fits, at_end)
+has_read (commands.Client own turns site call) bytes ended reads fits at_end = (fits, at_end)
+has_read (commands.Signal site given) bytes ended reads fits at_end = (fits, at_end)
+has_read (commands.Audit logs) bytes ended reads fits at_end = (fits, at_end)
+has_read commands.Merge bytes ended reads fits at_end = (fits, at_end)
+
+module _ (words : List (List ℕ)) (source source' : SourceState) (link link' : LinkState) (command : Command) (is : command_of words ≡ Some command) (reads : Reads command) where
+  pub plans_read : (bytes : List ℕ) (plan : Plan) → Took bytes source source' → length bytes ≤ most_bytes → IsEnded source' → PlansFor command bytes link link' plan → Plans words source source' link link' plan
+  plans_read bytes (plans.Print told) took fits at_end p = record {
+    bytes = bytes;
+    took = took;
+    defined = answered_is words source source' link link' bytes (IsEnded source') told.status told.text.items (record { command = command; words_are = is; read = has_read command bytes (IsEnded source') reads fits at_end; answer = p });
+  }
+  plans_read bytes (plans.Serve catalogue site log turns) took fits at_end p = (
+    record { words_are = is ∙ ap (λ (c : Command). Some c) p.0; bytes = bytes; fits = fits; took = took; ended = at_end; port = p.1.0; placed = p.1.1 },
+    p.2,
+  )
+  plans_read bytes (plans.Audit catalogue logs) took fits at_end p = (
+    record { words_are = is ∙ ap (λ (c : Command). Some c) p.0; bytes = bytes; fits = fits; took = took; ended = at_end; placed = p.1 },
+    p.2,
+  )
+  plans_read bytes (plans.Answer it) took fits at_end p = absurd (subst Reads p.0 reads)
 
 -- ---- what is printed
 

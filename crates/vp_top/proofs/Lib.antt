@@ -5,5 +5,6 @@ pub mod Answering
 pub mod Audits
 pub mod Completing
 pub mod Ending
+pub mod Merges
 pub mod Sessions
 pub mod ToldSessions

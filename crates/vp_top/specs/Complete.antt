@@ -31,6 +31,8 @@ use Rattle.vp_gateway.specs.declared.end.GateEnd.{GateEnd}
 use Rattle.vp_serving.specs.Serving.{Outside, outside}
 use Rattle.vp_top.specs.Audits.{AuditGives}
 use Rattle.vp_top.specs.NodeEnds.{IsCalm, DecidedByLog}
+use Rattle.vp_recording.specs.Document.{IsRecordedText}
+use Rattle.vp_recording.specs.declared.draft.RecordingSet.{RecordingSet}
 use Rattle.vp_replay.specs.Checked.{IsVerdict, IsMisspelled}
 use Rattle.vp_replay.specs.Logged.{IsLogged}
 use Rattle.vp_replay.specs.Replayed.{IsRefused, limit_of}
@@ -41,6 +43,7 @@ use Rattle.vp_words.specs.declared.words.Command.TheVariants as commands
 use Rattle.vp_words.specs.declared.words.Signal.{Signal}
 use Rattle.vp_top.specs.Ends.{Ends}
 use Rattle.vp_top.specs.GatewayEnds.{last_line, status_of}
+use Rattle.vp_top.specs.Merges.{IsUnrecorded, MergeGives}
 use Rattle.vp_top.specs.SessionTexts.{IsToldSession}
 use Rattle.vp_top.specs.Program.{AreOf, IsNoCatalogue, Reads, has_all, most_bytes, usage_text}
 use Rattle.vp_status.specs.Refused.{limit_text}
@@ -79,6 +82,7 @@ IsNoTextOf commands.Check bytes = (history : History) → AnsweredAll bytes (Ok 
 IsNoTextOf (commands.Generate seed count) bytes = ⊥
 IsNoTextOf (commands.Soak seed count) bytes = ⊥
 IsNoTextOf (commands.Gateway own turns site) bytes = ⊥
+IsNoTextOf commands.Merge bytes = (it : RecordingSet) → IsRecordedText it bytes → ⊥
 IsNoTextOf _ bytes = (catalogue : Catalogue) → Answered bytes (Ok catalogue) → ⊥
 
 -- The one fault of the bytes, as a text of the command's, is printed, with its place or with the limit that it exceeds.
@@ -89,6 +93,7 @@ TellsFaultOf commands.Check bytes end text = IsMisspelled bytes end text
 TellsFaultOf (commands.Generate seed count) bytes end text = ⊥
 TellsFaultOf (commands.Soak seed count) bytes end text = ⊥
 TellsFaultOf (commands.Gateway own turns site) bytes end text = ⊥
+TellsFaultOf commands.Merge bytes end text = IsUnrecorded bytes end text
 TellsFaultOf _ bytes end text = IsNoCatalogue bytes end text
 
 -- the site at which a command is done
@@ -221,6 +226,13 @@ module _ {D : Type 0} (state : D → DiskState) where
     pub missing : (words : List (List ℕ)) (logs : List (ℕ × List ℕ)) (bytes : List ℕ) (catalogue : Catalogue) →
         command_of words ≡ Some (commands.Audit logs) → Fits bytes → Answered bytes (Ok catalogue) → has_all catalogue logs ≡ false →
         EndsWith words (IsGiven bytes) status.Usage usage_text
+
+  -- The schedule that is put together of recordings is printed, or the turn that ends it, or the limit.
+  abbrev pub RecordingsAreMerged : Type 0
+  RecordingsAreMerged =
+      (words : List (List ℕ)) (bytes : List ℕ) (it : RecordingSet) →
+      command_of words ≡ Some commands.Merge → Fits bytes → IsRecordedText it bytes →
+      ComesTo words (IsGiven bytes) (MergeGives it)
 
   -- Of a session of any bytes it is told, whatever ends it, which lines were answered, and with what. One of no more bytes than an input
   -- has, of a source that doesn't fail, is answered line by line to its end, or its head is refused.

@@ -6,5 +6,6 @@ pub mod GatewayEnds
 pub mod SessionTexts
 pub mod Complete
 pub mod Ends
+pub mod Merges
 pub mod Plans
 pub mod Program

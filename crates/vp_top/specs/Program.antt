@@ -18,13 +18,14 @@ use Rattle.vp_replay.specs.Generated.{IsGenerated, IsSoaked}
 use Rattle.vp_replay.specs.Logged.{IsLogsAnswer}
 use Rattle.vp_replay.specs.Replayed.{IsReplayAnswer}
 use Rattle.vp_top.specs.Asked.{ClientGives, ClientLeaves, SignalGives, SignalLeaves}
+use Rattle.vp_top.specs.Merges.{IsMergeAnswer}
 
 -- the most bytes that an input may have
 abbrev pub most_bytes : ℕ
 most_bytes = 16777216
 
 abbrev pub usage_text : List ℕ
-usage_text = codes "usage: vpdb replay|check|node|client|tick|probe|stop|generate|soak|logs|audit|gateway\n"
+usage_text = codes "usage: vpdb replay|check|node|client|tick|probe|stop|generate|soak|logs|merge|audit|gateway\n"
 
 -- ---- at a site of a catalogue
 
@@ -100,6 +101,7 @@ IsAnswer (commands.Client own turns site call) bytes link link' end text = AtSit
 IsAnswer (commands.Signal site given) bytes link link' end text = AtSite bytes site link link' (λ port. SignalGives port site given link link') end text
 IsAnswer (commands.Audit logs) bytes link link' end text = LacksSites bytes logs end text × (link' ≡ link)
 IsAnswer (commands.Gateway own turns site) bytes link link' end text = ⊥
+IsAnswer commands.Merge bytes link link' end text = IsMergeAnswer bytes end text
 
 -- how a command may leave its link if memory runs out
 abbrev pub MayCall : Command → List ℕ → LinkState → LinkState → Type 0

@@ -2,7 +2,7 @@
 //! whose sink's count of failures doesn't rise, and, if the command reads an input, whose source says what its bytes are and has a count
 //! that doesn't rise either. Memory may run out in each.
 
-ghost use Rattle.vp_top.specs.Complete.{AnswersArePrinted, HistoriesAreChecked, LimitsAreTold, LogsAreAudited, LogsAreTold, LongInputsAreRefused, MalformedInputsAreRefused, MissingSitesAreRefused, NodesEndByTheirLogs, OtherWordsAreRefused, RunsAreCounted, SchedulesAreGenerated, SchedulesAreReplayed, SessionsAreAnswered, SignalsAreSent};
+ghost use Rattle.vp_top.specs.Complete.{AnswersArePrinted, HistoriesAreChecked, LimitsAreTold, LogsAreAudited, LogsAreTold, LongInputsAreRefused, MalformedInputsAreRefused, MissingSitesAreRefused, NodesEndByTheirLogs, OtherWordsAreRefused, RecordingsAreMerged, RunsAreCounted, SchedulesAreGenerated, SchedulesAreReplayed, SessionsAreAnswered, SignalsAreSent};
 
 use crate::command_claims::{answers_are_told, signals_are_done};
 use vp_outside::Disk;
@@ -58,6 +58,12 @@ pub fn logs_are_audited<D: Disk>()
     ensures { LogsAreAudited D.state }
 {}
 
+/// Whoever runs `merge` on recordings of nodes gets the text of a schedule that does all that they ask, gives what they say and reaches no
+/// limit; or the turn that ends it, but only if no schedule does that; or the limit that the next event would exceed.
+pub fn recordings_are_merged<D: Disk>()
+    ensures { RecordingsAreMerged D.state }
+{}
+
 /// Whoever runs `gateway` gets, whatever ends it, the answers to the lines before that, and the line of the end, or a beginning of these if
 /// the sink fails or memory runs out. On a session of no more bytes than an input has, if the source doesn't fail, these are the answers to
 /// all lines, or the fault of the head, unless the sink, the link or memory fails.
@@ -75,8 +81,8 @@ pub fn long_inputs_are_refused<D: Disk>()
     ensures { LongInputsAreRefused D.state }
 {}
 
-/// Whoever runs a command on an input that is no text of the command's (a schedule, lines that a history ends, a catalogue) gets the one
-/// fault of the input: its place, the line that repeats a name or a port, or the limit that the line exceeds.
+/// Whoever runs a command on an input that is no text of the command's (a schedule, lines that a history ends, recordings, a catalogue)
+/// gets the one fault of the input: its place, the line that repeats a name or a port, or the limit that the line exceeds.
 pub fn malformed_inputs_are_refused<D: Disk>()
     ensures { MalformedInputsAreRefused D.state }
 {}

@@ -9,6 +9,7 @@ mod auditing;
 pub mod claims;
 mod command_claims;
 mod gateway;
+mod merging;
 mod node;
 mod plan;
 mod program;

@@ -7,6 +7,7 @@ ghost use Rattle.vp_top.specs.Plans.{IsAuditPlan, IsFound, PlansFor};
 ghost use Rattle.vp_top.specs.Program.{Calls, MayCall, TellsFault, has_all, usage_text};
 
 use crate::asking::call_site;
+use crate::merging::merged;
 use crate::signalling::signal_site;
 use std::alloc::Global;
 use vp_base::{NoMemory, SiteId, Word};
@@ -103,6 +104,7 @@ pub fn plan_of<L: Link>(
         Command::Gateway { port, turns, site } => {
             Ok(Plan::Answer(Gateway { port, turns, site }))
         }
+        Command::Merge => Ok(Plan::Print(merged(alloc, input)?)),
     }
 }
 
@@ -172,7 +174,7 @@ pub fn usage(alloc: Global) -> Result<RunOutput, NoMemory>
     RunOutput::new(
         alloc,
         Status::Usage,
-        b"usage: vpdb replay|check|node|client|tick|probe|stop|generate|soak|logs|audit|gateway\n",
+        b"usage: vpdb replay|check|node|client|tick|probe|stop|generate|soak|logs|merge|audit|gateway\n",
     )
 }
 

@@ -4,6 +4,8 @@
 #[cfg(test)]
 mod audits;
 #[cfg(test)]
+mod merges;
+#[cfg(test)]
 mod nodes;
 #[cfg(test)]
 mod processes;

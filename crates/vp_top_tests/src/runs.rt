@@ -167,14 +167,14 @@ end 0
 ";
 
 pub(crate) const USAGE: &str =
-    "usage: vpdb replay|check|node|client|tick|probe|stop|generate|soak|logs|audit|gateway\n";
+    "usage: vpdb replay|check|node|client|tick|probe|stop|generate|soak|logs|merge|audit|gateway\n";
 
 /// What `#` is replaced by in the inputs below.
 const HEAD_OF_THREE: &str =
     "site 1 7001\nsite 2 7002\nsite 3 7003\nrecord x 10 1:1 2:1 3:1\nevents\n";
 
 /// Command lines, their inputs, and their results.
-const ANSWERED: [(&str, &str, Status, &str); 28] = [
+const ANSWERED: [(&str, &str, Status, &str); 29] = [
     ("replay", HEAD, Status::Done, "history\nstart x 10\nend 0\n"),
     (
         "replay",
@@ -280,6 +280,7 @@ const ANSWERED: [(&str, &str, Status, &str); 28] = [
     ("Replay", "", Status::Usage, USAGE),
     ("generate 1 2400 1", "", Status::Usage, USAGE),
     ("generate 1 2401", "", Status::Usage, USAGE),
+    ("merge 1", "", Status::Usage, USAGE),
     (
         "node 2 a 1",
         "site 1 7001\nrecord x 10 1:1\n",

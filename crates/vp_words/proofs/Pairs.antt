@@ -22,7 +22,7 @@ use Rattle.clap.specs.declared.builder.value_parser.Reading.TheVariants as readi
 use Rattle.clap.specs.declared.builder.value_parser.ValueParser.TheVariants as parser
 use Rattle.clap.specs.declared.parser.matches.ValueSource.TheVariants.{CommandLine}
 use Rattle.vp_words.specs.Commands.{auditing, pairs, site}
-use Rattle.vp_words.specs.Parsed.{audit_app, audit_command, meant}
+use Rattle.vp_words.specs.Parsed.{audit_app, audit_command, command_meant}
 use Rattle.vp_words.specs.declared.words.Command.TheVariants as commands
 use Rattle.vp_words.proofs.Operands.{HasNoFlag, Kept, found, found_next, at, level, level_goes, level_kinds, outcome, plain_turn, plain_walk, seen, within}
 use Rattle.vp_words.proofs.Parsing.{command_shape, nothing}
@@ -139,7 +139,7 @@ counts word (log ∷ words) logs e =
     rw (ne_eqb count 0 (λ e. omega (arith, e)), le-ltb count 2 (omega arith), le-ltb 32 count (omega (arith, most))) refl
 
 -- what `clap` takes for the operand means what the words mean
-pub audit_says : (words : List Text) → option_and_then (meant (codes "audit")) (audit_rows words) ≡ auditing words
+pub audit_says : (words : List Text) → option_and_then (command_meant (codes "audit")) (audit_rows words) ≡ auditing words
 audit_says [] = refl
 audit_says (word ∷ words) = go (range_kinds 2 32 (length (word ∷ words))) refl
   where
@@ -147,7 +147,7 @@ audit_says (word ∷ words) = go (range_kinds 2 32 (length (word ∷ words))) re
     none k ks e None is = refl
     none k ks e (Some logs) is = absurd (let bad : k ∷ ks ≡ [] = sym e ∙ counts word words logs is in cc)
 
-    go : (k : Kinds) → range_kinds 2 32 (length (word ∷ words)) ≡ k → option_and_then (meant (codes "audit")) (outcome k (audit_row (word ∷ words) ∷ [])) ≡ option_map commands.Audit (pairs 0 (word ∷ words))
+    go : (k : Kinds) → range_kinds 2 32 (length (word ∷ words)) ≡ k → option_and_then (command_meant (codes "audit")) (outcome k (audit_row (word ∷ words) ∷ [])) ≡ option_map commands.Audit (pairs 0 (word ∷ words))
     go [] e = refl
     go (k ∷ ks) e = none k ks e (pairs 0 (word ∷ words)) refl
 

@@ -14,7 +14,7 @@ use Rattle.clap.specs.Walk.{Names, Row, Rule, Text, Walk, idle, nothing_held, su
 use Rattle.clap.specs.declared.error.kind.ErrorKind.{ErrorKind}
 use Rattle.clap.specs.declared.error.kind.ErrorKind.TheVariants as kind
 use Rattle.vp_words.specs.Commands.{call, client, command_of, command_named, operands, command_of_words}
-use Rattle.vp_words.specs.Parsed.{has_hyphen, meant, program_app}
+use Rattle.vp_words.specs.Parsed.{has_hyphen, command_meant, program_app}
 use Rattle.vp_words.specs.declared.words.Command.{Command}
 use Rattle.vp_words.specs.declared.words.Command.TheVariants as commands
 use Rattle.vp_words.proofs.Hyphens.{hyphen_on, hyphen_spelled, neither, seen_operands}
@@ -25,7 +25,7 @@ use Rattle.vp_words.proofs.Operands.Look.{dashes, long, plain, short}
 
 -- what the program makes of the kinds of a failure and of the subcommand
 abbrev pub answer : Kinds → Option (Text × List Row) → Option Command
-answer [] met = option_and_then (λ m. meant m.0 m.1) met
+answer [] met = option_and_then (λ m. command_meant m.0 m.1) met
 answer (k ∷ ks) met = None
 
 -- ---- the first word
@@ -44,7 +44,7 @@ unfolding walked walk_fault
 stopped_fault s names name before [] = refl
 stopped_fault s names name before (word ∷ words) = stopped_fault s names name (before ++ word ∷ []) words
 
-below : (k : Kinds) (name : Text) (rows : List Row) → answer (or_else k []) (Some (name, rows)) ≡ option_and_then (meant name) (outcome k rows)
+below : (k : Kinds) (name : Text) (rows : List Row) → answer (or_else k []) (Some (name, rows)) ≡ option_and_then (command_meant name) (outcome k rows)
 below [] name rows = refl
 below (k ∷ ks) name rows = refl
 
@@ -59,7 +59,7 @@ parse words = answer (fault_of program_app words) (subcommand_of program_app wor
 
 -- the command of the name is this one, or has operands with these ids
 abbrev MeetsShape : Text → Shape → Type 0
-MeetsShape name s = (words : List Text) → parse (name ∷ words) ≡ option_and_then (meant name) (level s (at nothing 1 false) words)
+MeetsShape name s = (words : List Text) → parse (name ∷ words) ≡ option_and_then (command_meant name) (level s (at nothing 1 false) words)
 
 abbrev Meets : Text → List Text → Type 0
 Meets name ids = MeetsShape name (operand_shape name ids)
@@ -112,6 +112,10 @@ gateway_met : Meets (codes "gateway") gateway_ids
 unfolding clap_on_literals level level_kinds
 gateway_met words = rw (stopped_fault top names (codes "gateway") [] words, stopped_walk top.rules names (codes "gateway") [] words) (below (level_kinds (operand_shape (codes "gateway") gateway_ids) (at nothing 1 false) words) (codes "gateway") _)
 
+merge_met : Meets (codes "merge") alone_ids
+unfolding clap_on_literals level level_kinds
+merge_met words = rw (stopped_fault top names (codes "merge") [] words, stopped_walk top.rules names (codes "merge") [] words) (below (level_kinds (operand_shape (codes "merge") alone_ids) (at nothing 1 false) words) (codes "merge") _)
+
 -- ---- a command's operands
 
 pub each : {X Y : Type 0} (f g : X → Option Y) (o : Option X) → ((x : X) → f x ≡ g x) → option_and_then f o ≡ option_and_then g o
@@ -124,16 +128,16 @@ in_turn f g (Some x) = refl
 
 -- what the rows of the operands mean is what the operands mean
 abbrev SaysRows : Text → (List Text → Option (List Row)) → Type 0
-SaysRows name rows = (words : List Text) → option_and_then (meant name) (rows words) ≡ command_named name words
+SaysRows name rows = (words : List Text) → option_and_then (command_meant name) (rows words) ≡ command_named name words
 
 abbrev Says : Text → List Text → Type 0
 Says name ids = SaysRows name (operand_rows ids [])
 
 through : (name : Text) (s : Shape) (rows : List Text → Option (List Row)) (words : List Text) → level s (at nothing 1 false) words ≡ option_and_then rows (seen words) → SaysRows name rows → seen words ≡ operands words
-    → option_and_then (meant name) (level s (at nothing 1 false) words) ≡ option_and_then (command_named name) (operands words)
+    → option_and_then (command_meant name) (level s (at nothing 1 false) words) ≡ option_and_then (command_named name) (operands words)
 through name s rows words found says same =
-    ap (option_and_then (meant name)) found ∙ in_turn (meant name) rows (seen words)
-    ∙ each (λ rest. option_and_then (meant name) (rows rest)) (command_named name) (seen words) says ∙ ap (option_and_then (command_named name)) same
+    ap (option_and_then (command_meant name)) found ∙ in_turn (command_meant name) rows (seen words)
+    ∙ each (λ rest. option_and_then (command_meant name) (rows rest)) (command_named name) (seen words) says ∙ ap (option_and_then (command_named name)) same
 
 replay_says : Says (codes "replay") alone_ids
 unfolding operand_rows
@@ -206,6 +210,11 @@ gateway_says (port ∷ []) = refl
 gateway_says (port ∷ turns ∷ []) = refl
 gateway_says (port ∷ turns ∷ site ∷ []) = refl
 gateway_says (port ∷ turns ∷ site ∷ more ∷ words) = refl
+
+merge_says : Says (codes "merge") alone_ids
+unfolding operand_rows
+merge_says [] = refl
+merge_says (more ∷ words) = refl
 
 -- ---- a first word that isn't a command's name
 
@@ -295,7 +304,11 @@ named_parsed name words v u same =
                                                                       elim (test name (codes "gateway")) [
                                                                         | inl e ↦ known (codes "gateway") gateway_ids e gateway_met (gateway_found (codes "gateway") words u) gateway_says
                                                                         | inr y ↦
-                                                                            other_parsed name words v (record { named = λ rest. rw (r.0, c.0, n.0, l.0, t.0, p.0, k.0, g.0, s.0, o.0, a.0, y.0) refl; met = rw (r.1, c.1, n.1, l.1, t.1, p.1, k.1, g.1, s.1, o.1, a.1, y.1) refl })
+                                                                            elim (test name (codes "merge")) [
+                                                                              | inl e ↦ known (codes "merge") alone_ids e merge_met (alone_found (codes "merge") words u) merge_says
+                                                                              | inr m ↦
+                                                                                  other_parsed name words v (record { named = λ rest. rw (r.0, c.0, n.0, l.0, t.0, p.0, k.0, g.0, s.0, o.0, a.0, y.0, m.0) refl; met = rw (r.1, c.1, n.1, l.1, t.1, p.1, k.1, g.1, s.1, o.1, a.1, y.1, m.1) refl })
+                                                                            ]
                                                                       ]
                                                                 ]
                                                           ]
@@ -359,7 +372,7 @@ command_is words texts app e h is =
     t.2 ∙ sym (parsed words t.0 (ap has_hyphen (sym t.1) ∙ h)) ∙ ap₂ (λ (a : App) (w : List Text). answer (fault_of a w) (subcommand_of a w)) (sym is) (sym t.1)
 
 pub of_matches : (words texts : List Text) (app : App) (met : Option (Text × List Row)) → Some texts ≡ as_text words → has_hyphen texts ≡ false → app ≡ program_app
-    → fault_of app texts ≡ [] → met ≡ subcommand_of app texts → option_and_then (λ m. meant m.0 m.1) met ≡ command_of words
+    → fault_of app texts ≡ [] → met ≡ subcommand_of app texts → option_and_then (λ m. command_meant m.0 m.1) met ≡ command_of words
 of_matches words texts app met e h is fine found =
     sym (command_is words texts app e h is ∙ ap₂ answer fine (sym found))
 

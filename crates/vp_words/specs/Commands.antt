@@ -111,7 +111,8 @@ command_named name words =
     else (if bytes_eq name (codes "logs") then alone commands.Logs words
     else (if bytes_eq name (codes "audit") then auditing words
     else (if bytes_eq name (codes "gateway") then answering words
-    else None)))))))))))
+    else (if bytes_eq name (codes "merge") then alone commands.Merge words
+    else None))))))))))))
 
 -- a command's name, and then its operands
 abbrev pub command_of_words : List (List ℕ) → Option Command

@@ -58,15 +58,15 @@ abbrev pub program_app : App
 program_app = fold with_command bare_app (
     new_app (codes "replay") ∷ new_app (codes "check") ∷ node_app ∷ client_app ∷ signal_app (codes "tick")
     ∷ signal_app (codes "probe") ∷ signal_app (codes "stop") ∷ drawing_app (codes "generate") ∷ drawing_app (codes "soak") ∷ new_app (codes "logs") ∷ audit_app
-    ∷ gateway_app ∷ [])
+    ∷ gateway_app ∷ new_app (codes "merge") ∷ [])
 
 -- ---- what the rows of the operands mean
 
 abbrev pub with_first : {A : Type 0} → Text → List Row → (Text → Option A) → Option A
 with_first id rows goes = option_and_then goes (first_of id rows)
 
-abbrev pub drawn : List Row → Option (ℕ × ℕ)
-drawn rows = with_first (codes "SEED") rows (λ seed. with_first (codes "COUNT") rows (λ count. draws seed count))
+abbrev pub seed_and_count : List Row → Option (ℕ × ℕ)
+seed_and_count rows = with_first (codes "SEED") rows (λ seed. with_first (codes "COUNT") rows (λ count. draws seed count))
 
 abbrev pub node_operands : List Row → Option (ℕ × Text × ℕ)
 node_operands rows = with_first (codes "SITE") rows (λ site. with_first (codes "LOG") rows (λ log. with_first (codes "TURNS") rows (λ turns. node site log turns)))
@@ -93,12 +93,12 @@ abbrev pub gateway_operands : List Row → Option (ℕ × ℕ × ℕ)
 gateway_operands rows =
     with_first (codes "PORT") rows (λ port. with_first (codes "TURNS") rows (λ turns. with_first (codes "SITE") rows (λ site. client port turns site)))
 
-abbrev pub answered : List Row → Option Command
-answered rows = option_map (λ o. commands.Gateway o.0 o.1 o.2) (gateway_operands rows)
+abbrev pub gateway_command : List Row → Option Command
+gateway_command rows = option_map (λ o. commands.Gateway o.0 o.1 o.2) (gateway_operands rows)
 
 -- the command that a subcommand with its rows means
-abbrev pub meant : Text → List Row → Option Command
-meant name rows =
+abbrev pub command_meant : Text → List Row → Option Command
+command_meant name rows =
     if bytes_eq name (codes "replay") then Some commands.Replay
     else (if bytes_eq name (codes "check") then Some commands.Check
     else (if bytes_eq name (codes "node") then node_command rows
@@ -106,9 +106,10 @@ meant name rows =
     else (if bytes_eq name (codes "tick") then signal_command signals.Tick rows
     else (if bytes_eq name (codes "probe") then signal_command signals.Probe rows
     else (if bytes_eq name (codes "stop") then signal_command signals.Stop rows
-    else (if bytes_eq name (codes "generate") then option_map (λ d. commands.Generate d.0 d.1) (drawn rows)
-    else (if bytes_eq name (codes "soak") then option_map (λ d. commands.Soak d.0 d.1) (drawn rows)
+    else (if bytes_eq name (codes "generate") then option_map (λ d. commands.Generate d.0 d.1) (seed_and_count rows)
+    else (if bytes_eq name (codes "soak") then option_map (λ d. commands.Soak d.0 d.1) (seed_and_count rows)
     else (if bytes_eq name (codes "logs") then Some commands.Logs
     else (if bytes_eq name (codes "audit") then audit_command rows
-    else (if bytes_eq name (codes "gateway") then answered rows
-    else None)))))))))))
+    else (if bytes_eq name (codes "gateway") then gateway_command rows
+    else (if bytes_eq name (codes "merge") then Some commands.Merge
+    else None))))))))))))

@@ -7,7 +7,7 @@ ghost use Rattle.clap.specs.Words.{app_of, found_of, rows_of, subcommand_rows_of
 ghost use Rattle.clap.specs.declared.builder.command.Command.TheViews.{out-Command};
 ghost use Rattle.vp_text.specs.Reading.{Reads, number_at, whole};
 ghost use Rattle.vp_words.specs.Commands.{IsAllowed, command_of, number, pairs, site};
-ghost use Rattle.vp_words.specs.Parsed.{answered, audit_app, audit_command, bare_app, client_command, client_operands, drawn, gateway_operands, has_hyphen, meant, node_operands, operand_app, program_app, node_command, signal_command, with_command};
+ghost use Rattle.vp_words.specs.Parsed.{gateway_command, audit_app, audit_command, bare_app, client_command, client_operands, seed_and_count, gateway_operands, has_hyphen, command_meant, node_operands, operand_app, program_app, node_command, signal_command, with_command};
 
 use clap::error::ErrorKind;
 use clap::{Arg, ArgMatches};
@@ -73,6 +73,8 @@ pub enum Command {
         turns: u64,
         site: SiteId,
     },
+    /// Puts the recordings of nodes together to one schedule.
+    Merge,
 }
 
 /// What a node is ordered to do.
@@ -103,7 +105,7 @@ impl Command {
             return Ok(None);
         }
         match program(alloc)?.try_get_matches_from(texts.as_slice()) {
-            Ok(matches) => meant(alloc, &matches),
+            Ok(matches) => command_meant(alloc, &matches),
             Err(error) if error.kind() == ErrorKind::OutOfMemory => Err(NoMemory),
             Err(_) => Ok(None),
         }
@@ -155,7 +157,8 @@ fn program<'a>(alloc: Global) -> Result<clap::Command<'a>, AllocError>
     let program = with_command(alloc, program, "soak", &["SEED", "COUNT"])?;
     let program = with_command(alloc, program, "logs", &[])?;
     let program = program.subcommand(auditing(alloc)?)?;
-    with_command(alloc, program, "gateway", &["PORT", "TURNS", "SITE"])
+    let program = with_command(alloc, program, "gateway", &["PORT", "TURNS", "SITE"])?;
+    with_command(alloc, program, "merge", &[])
 }
 
 /// The program without its commands. It has no options, so none asks for help.
@@ -208,9 +211,9 @@ fn auditing<'a>(alloc: Global) -> Result<clap::Command<'a>, AllocError>
 }
 
 /// The command that the matches mean.
-fn meant(alloc: Global, matches: &ArgMatches) -> Result<Option<Command>, NoMemory>
+fn command_meant(alloc: Global, matches: &ArgMatches) -> Result<Option<Command>, NoMemory>
     ensures command { IfOk result
-        (λ command. command ≡ option_and_then (λ m. meant m.0 m.1) (subcommand_rows_of matches.now)) }
+        (λ command. command ≡ option_and_then (λ m. command_meant m.0 m.1) (subcommand_rows_of matches.now)) }
     ensures allowed { IfOk result (λ command. IfSome command IsAllowed) }
 {
     let Some((name, matches)) = matches.subcommand() else {
@@ -224,19 +227,23 @@ fn meant(alloc: Global, matches: &ArgMatches) -> Result<Option<Command>, NoMemor
         "tick" => Ok(signal_command(matches, Signal::Tick)),
         "probe" => Ok(signal_command(matches, Signal::Probe)),
         "stop" => Ok(signal_command(matches, Signal::Stop)),
-        "generate" => Ok(drawn(matches).map(|(seed, count)| Command::Generate { seed, count })),
-        "soak" => Ok(drawn(matches).map(|(seed, count)| Command::Soak { seed, count })),
+        "generate" => Ok(seed_and_count(matches).map(|(seed, count)| Command::Generate {
+            seed,
+            count,
+        })),
+        "soak" => Ok(seed_and_count(matches).map(|(seed, count)| Command::Soak { seed, count })),
         "logs" => Ok(Some(Command::Logs)),
         "audit" => audit_command(alloc, matches),
-        "gateway" => Ok(answered(matches)),
+        "gateway" => Ok(gateway_command(matches)),
+        "merge" => Ok(Some(Command::Merge)),
         _ => Ok(None),
     }
 }
 
 /// The seed and the count of a command that has them.
 #[tactic(auto, using(crate::proofs::Texts::first_rows))]
-fn drawn(matches: &ArgMatches) -> Option<(u32, u32)>
-    ensures numbers { result ≡ drawn (rows_of (found_of matches.now)) }
+fn seed_and_count(matches: &ArgMatches) -> Option<(u32, u32)>
+    ensures numbers { result ≡ seed_and_count (rows_of (found_of matches.now)) }
     ensures ranges { IfSome result (λ d. (d.0 ≤ 2147483647) × (d.1 ≤ 2400)) }
 {
     let seed = number(matches.get_str("SEED")?, 0, MOST_SEED)?;
@@ -329,8 +336,8 @@ fn audit_command(alloc: Global, matches: &ArgMatches) -> Result<Option<Command>,
 }
 
 /// The command of a gateway.
-fn answered(matches: &ArgMatches) -> Option<Command>
-    ensures command { result ≡ answered (rows_of (found_of matches.now)) }
+fn gateway_command(matches: &ArgMatches) -> Option<Command>
+    ensures command { result ≡ gateway_command (rows_of (found_of matches.now)) }
     ensures allowed { IfSome result IsAllowed }
 {
     let (port, turns, site) = gateway_operands(matches)?;

@@ -11,7 +11,7 @@ use Rattle.vp_model.specs.Words.{has, keys, value_at, same_txn, same_owner}
 use Rattle.vp_model.specs.Catalogue.{Catalogue, holders, accessible}
 use Rattle.vp_model.specs.Durable.{DurableState}
 use Rattle.vp_model.specs.Locks.{holds}
-use Rattle.vp_model.specs.Transactions.{entry_of, last_changes, last_writes, writes_held}
+use Rattle.vp_model.specs.Transactions.{entry_of, last_changes, writes_held}
 use Rattle.vp_model.specs.Refresh.{is_open, is_usable_in}
 use Rattle.vp_model.specs.Site.{SiteState, Stepped}
 use Rattle.vp_laws.proofs.Lists.Members.{Has, has_none, has_cons, any_true, any_false, both_true, map_has, filter_has}
@@ -23,10 +23,9 @@ use Rattle.vp_laws.proofs.Table.Votes.{IsPrepared}
 use Rattle.vp_laws.proofs.Table.Unlisted.{IsUnlisted}
 use Rattle.vp_laws.proofs.Worlds.Scenes.{Scene, plain_at, kept_at}
 use Rattle.vp_laws.proofs.Invariant.Names.{UsedTxn}
-use Rattle.vp_laws.proofs.Invariant.Ops.{written_used, HasWritten}
 use Rattle.vp_laws.proofs.Invariant.Entered.{AgreedAs}
 use Rattle.vp_laws.proofs.Copies.Facts.{copy_holder, entry_closes}
-use Rattle.vp_laws.proofs.Copies.CopiesKept.{unlisted_none}
+use Rattle.vp_laws.proofs.Copies.Refreshes.{unlisted_none}
 use Rattle.vp_laws.proofs.Copies.OwnUse.{view_is, written_closed}
 use Rattle.vp_laws.proofs.Worlds.Sites.{now_is}
 use Rattle.vp_laws.proofs.Keeping.NewEntries.{entering, stops, Fresh, doubt_from, doubt_says, fresh_same, fresh_not_entered}
@@ -40,7 +39,6 @@ use Rattle.vp_laws.proofs.Invariant.Refresh.{InvRefresh}
 use Rattle.vp_laws.proofs.Keeping.Settled.{holding}
 use Rattle.vp_laws.proofs.Keeping.Used.{Was}
 use Rattle.vp_laws.proofs.Invariant.Known.{Known}
-use Rattle.vp_laws.proofs.Lists.Pairs.{written_op}
 use Rattle.vp_laws.proofs.Journal.ValuesAfter.{Wrote}
 
 -- what is held of the writes was written

@@ -19,13 +19,13 @@ use Rattle.vp_laws.proofs.Table.Led.{IsOf}
 use Rattle.vp_laws.proofs.Table.Copies.{value_pair}
 use Rattle.vp_laws.proofs.Table.Unlisted.{IsUnlisted}
 use Rattle.vp_laws.proofs.Worlds.Scenes.{Scene, plain_at}
-use Rattle.vp_laws.proofs.Invariant.Ops.{op_used, written_used, HasUsed, HasWritten}
+use Rattle.vp_laws.proofs.Invariant.Ops.{op_used, HasUsed}
 use Rattle.vp_laws.proofs.Invariant.Answers.{HasRead}
 use Rattle.vp_laws.proofs.Invariant.Entered.{AgreedAs}
 use Rattle.vp_laws.proofs.Invariant.Used.{HasAnswered}
 use Rattle.vp_laws.proofs.Invariant.Held.{holds_copy}
 use Rattle.vp_laws.proofs.Keeping.Stopping.{in_force_holder}
-use Rattle.vp_laws.proofs.Copies.CopiesKept.{unlisted_none}
+use Rattle.vp_laws.proofs.Copies.Refreshes.{unlisted_none}
 use Rattle.vp_laws.proofs.Invariant.Copies.{InvCopies}
 use Rattle.vp_laws.proofs.Invariant.Refresh.{InvRefresh}
 use Rattle.vp_laws.proofs.Keeping.Entered.{other_holder}

@@ -108,6 +108,7 @@ module _ (catalogue : Catalogue) where
     from = λ p to rec view stored h low. absurd (start_sent catalogue _ h);
     live = λ s x t up h. absurd (started_idle catalogue s x t up h);
     entry = λ e v rec h agreed did. absurd (start_entered catalogue e h);
+    weighed = λ e v rec table h agreed gave. absurd (start_entered catalogue e h);
     used = λ s q rec exclusive x t v up h has agreed. absurd (started_idle catalogue s x t up h);
     asked = λ from to number rec txn view exclusive v h agreed. absurd (no_request from to number rec txn view exclusive h);
   }
@@ -177,6 +178,7 @@ module _ (catalogue : Catalogue) (w new : Scene) (s : ℕ) (q : Quiet catalogue 
     from = λ p to rec view stored h low. from_now p rec stored.date (refresh.from p to rec view stored (rw q.sent at h) low);
     live = λ j y t up h. refresh.live j y t (still_live j y t up h) h;
     entry = λ e v rec h agreed did. open_now rec v (refresh.entry e v rec (entry_was e h) (agreed_was e.view v agreed) did);
+    weighed = λ e v rec table h agreed gave. refresh.weighed e v rec table (entry_was e h) (agreed_was e.view v agreed) gave;
     used = λ j a rec exclusive y t v up h has agreed. open_now rec v (refresh.used j a rec exclusive y t v (still_live j y t up h) h (answered_on w new q.sent a t.txn rec exclusive has) (agreed_was t.view v agreed));
     asked = λ from to number rec txn view exclusive v h agreed. refresh.asked from to number rec txn view exclusive v (request_on w new q.sent from to txn view number rec exclusive h) (agreed_was view v agreed);
   }

@@ -12,7 +12,6 @@ use Rattle.vp_model.specs.Refresh.{other_holders_in}
 use Rattle.vp_laws.proofs.Lists.Members.{Has}
 use Rattle.vp_laws.proofs.Moves.LocalViews.{letter}
 use Rattle.vp_laws.proofs.Moves.Table.{Reads, Changes}
-use Rattle.vp_laws.proofs.Invariant.Ops.{HasWritten}
 use Rattle.vp_laws.proofs.Worlds.Scenes.{Scene, plain_at}
 
 -- the site has answered a read, or a write, of the record for the transaction

@@ -11,7 +11,6 @@ use Rattle.vp_model.specs.Site.{SiteState}
 use Rattle.vp_laws.proofs.Lists.Members.{Has}
 use Rattle.vp_laws.proofs.Moves.Table.{Reads}
 use Rattle.vp_laws.proofs.Worlds.Scenes.{Scene, plain_at}
-use Rattle.vp_laws.proofs.Invariant.Ops.{HasWritten}
 
 -- the transaction has asked a site for the record
 abbrev pub HasAsked : Live → ℕ → Type 0

@@ -3,7 +3,8 @@ use Rattle.std.proofs.Common.{◌⊎◌, ◌≡◌, ℕ, Bool, true}
 use Rattle.std.specs.Prelude.{Some}
 use Rattle.vp_model.specs.Types.{ViewId, TxnId, View, Commit, Stored, Live}
 use Rattle.vp_model.specs.Types.message
-use Rattle.vp_model.specs.Catalogue.{Catalogue, holders, accessible}
+use Rattle.vp_model.specs.Words.{value_at}
+use Rattle.vp_model.specs.Catalogue.{Catalogue, Table, holders, accessible}
 use Rattle.vp_model.specs.Site.{SiteState}
 use Rattle.vp_laws.proofs.Lists.Members.{Has}
 use Rattle.vp_laws.proofs.Lists.Views.{Precedes}
@@ -12,7 +13,7 @@ use Rattle.vp_laws.proofs.Worlds.Scenes.{Scene, plain_at}
 use Rattle.vp_laws.proofs.Invariant.Shares.{HasRequest}
 use Rattle.vp_laws.proofs.Invariant.Ops.{HasUsed}
 use Rattle.vp_laws.proofs.Invariant.Entered.{AgreedAs}
-use Rattle.vp_laws.proofs.Invariant.LiveUses.{LiveUses}
+use Rattle.vp_laws.proofs.Invariant.LiveUses.{MayWeigh, LiveUses}
 use Rattle.vp_laws.proofs.Invariant.Used.{HasAnswered}
 use Rattle.vp_laws.proofs.Journal.ValuesAfter.{content_of, Wrote, value_after}
 use Rattle.vp_laws.proofs.Invariant.Copies.{FromView}
@@ -33,7 +34,9 @@ pub record InvRefresh (catalogue : Catalogue) (w : Scene) : Type 0 where
   pub live : (s : ℕ) (x : SiteState) (t : Live) → plain_at w s ≡ Some x → Has x.live t → LiveUses catalogue x.held t
   -- a record that an entry uses or changes is open in its view
   pub entry : (e : Commit) (v : View) (rec : ℕ) → Has w.journal e → AgreedAs w e.view v → HasUsed e.ops rec ⊎ Wrote e rec → Open catalogue w rec v
-  -- and so is one that a site has answered for a live transaction
+  -- each table that an entry gives a record has its holders, and by it the members of the view have more than half of the weight
+  pub weighed : (e : Commit) (v : View) (rec : ℕ) (table : Table) → Has w.journal e → AgreedAs w e.view v → value_at rec e.tables ≡ Some table → MayWeigh catalogue v.members rec table
+  -- open, too, is a record that a site has answered for a live transaction
   pub used : (s q rec : ℕ) (exclusive : Bool) (x : SiteState) (t : Live) (v : View) → plain_at w s ≡ Some x → Has x.live t → HasAnswered w q t.txn rec exclusive → AgreedAs w t.view v → Open catalogue w rec v
   -- each record that a site is asked for a lock on is accessible in the view, and the site holds it
   pub asked : (from to number rec : ℕ) (txn : TxnId) (view : ViewId) (exclusive : Bool) (v : View) → HasRequest w from to txn view number rec exclusive → AgreedAs w view v → (accessible catalogue rec v.members ≡ true) × Has (holders catalogue rec) to

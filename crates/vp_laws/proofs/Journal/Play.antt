@@ -54,27 +54,27 @@ abbrev pub set_all : List Write → Values → Values
 set_all [] m = m
 set_all (w ∷ ws) m = set_all ws (slice_set m w.0 w.1)
 
--- no record is written twice
-abbrev pub Ascending : List Write → Type 0
-Ascending [] = Unit {0}
-Ascending (w ∷ ws) = AllByRecursion (λ (x : Write). w.0 < x.0) ws × Ascending ws
+-- no record is there twice
+abbrev pub Ascending : {V : Type 0} → List (ℕ × V) → Type 0
+Ascending {V} [] = Unit {0}
+Ascending {V} (w ∷ ws) = AllByRecursion (λ (x : ℕ × V). w.0 < x.0) ws × Ascending ws
 
-put_above : (n k : ℕ) (v : Option (List ℕ)) (ws : List Write) → n < k → AllByRecursion (λ (x : Write). n < x.0) ws → AllByRecursion (λ (x : Write). n < x.0) (put_at k v ws)
-put_above n k v [] l h = (l, tt)
-put_above n k v (y ∷ ws) l h = go (k == y.0) (nat_lt k y.0) (put_above n k v ws l h.1)
+put_above : {V : Type 0} (n k : ℕ) (v : V) (ws : List (ℕ × V)) → n < k → AllByRecursion (λ (x : ℕ × V). n < x.0) ws → AllByRecursion (λ (x : ℕ × V). n < x.0) (put_at k v ws)
+put_above {V} n k v [] l h = (l, tt)
+put_above {V} n k v (y ∷ ws) l h = go (k == y.0) (nat_lt k y.0) (put_above n k v ws l h.1)
   where
-    go : (a b : Bool) → AllByRecursion (λ (x : Write). n < x.0) (put_at k v ws) → AllByRecursion (λ (x : Write). n < x.0) (cond a ((k, v) ∷ ws) (cond b ((k, v) ∷ y ∷ ws) (y ∷ put_at k v ws)))
+    go : (a b : Bool) → AllByRecursion (λ (x : ℕ × V). n < x.0) (put_at k v ws) → AllByRecursion (λ (x : ℕ × V). n < x.0) (cond a ((k, v) ∷ ws) (cond b ((k, v) ∷ y ∷ ws) (y ∷ put_at k v ws)))
     go true b i = (l, h.1)
     go false true i = (l, (h.0, h.1))
     go false false i = (h.0, i)
 
-all_above : (n k : ℕ) (ws : List Write) → n < k → AllByRecursion (λ (x : Write). k < x.0) ws → AllByRecursion (λ (x : Write). n < x.0) ws
-all_above n k [] l h = tt
-all_above n k (w ∷ ws) l h = let q = h.0 in (omega arith, all_above n k ws l h.1)
+all_above : {V : Type 0} (n k : ℕ) (ws : List (ℕ × V)) → n < k → AllByRecursion (λ (x : ℕ × V). k < x.0) ws → AllByRecursion (λ (x : ℕ × V). n < x.0) ws
+all_above {V} n k [] l h = tt
+all_above {V} n k (w ∷ ws) l h = let q = h.0 in (omega arith, all_above n k ws l h.1)
 
-pub put_ascending : (k : ℕ) (v : Option (List ℕ)) (ws : List Write) → Ascending ws → Ascending (put_at k v ws)
-put_ascending k v [] h = (tt, tt)
-put_ascending k v (y ∷ ws) h = go (k == y.0) (nat_lt k y.0) refl refl (put_ascending k v ws h.1)
+pub put_ascending : {V : Type 0} (k : ℕ) (v : V) (ws : List (ℕ × V)) → Ascending ws → Ascending (put_at k v ws)
+put_ascending {V} k v [] h = (tt, tt)
+put_ascending {V} k v (y ∷ ws) h = go (k == y.0) (nat_lt k y.0) refl refl (put_ascending k v ws h.1)
   where
     go : (a b : Bool) → (k == y.0) ≡ a → nat_lt k y.0 ≡ b → Ascending (put_at k v ws) → Ascending (cond a ((k, v) ∷ ws) (cond b ((k, v) ∷ y ∷ ws) (y ∷ put_at k v ws)))
     go true b e f i = (rw (eqb-true k y.0 e) h.0, h.1)
@@ -195,7 +195,7 @@ last_ascending-from (operation ∷ ops) ws h = last_ascending-from ops (with_op 
 pub last_ascending : (ops : List Op) → Ascending (last_writes ops)
 last_ascending ops = last_ascending-from ops [] tt
 
-same_content-self : (c : Option (List ℕ)) → same_content c c ≡ true
+pub same_content-self : (c : Option (List ℕ)) → same_content c c ≡ true
 same_content-self None = refl
 same_content-self (Some v) = (bytes_eq-Decides v v).1 refl
 

@@ -40,7 +40,7 @@ serial_none rec (e ∷ es) m n h none =
     let t = and_then (play m e.ops) (λ (k : Values). serial k es) n h in
     serial_none rec es t.0 n t.2 (ap (λ (k : Values). slice_get k rec) (play_sets e.ops m t.0 t.1) ∙ set_none (last_writes e.ops) m rec none)
 
-serial_value : (rec : ℕ) (es : List Commit) (m n : Values) (c : Content) → serial m es ≡ Some n → slice_get m rec ≡ Some c.value → slice_get n rec ≡ Some (value_in rec c es).value
+pub serial_value : (rec : ℕ) (es : List Commit) (m n : Values) (c : Content) → serial m es ≡ Some n → slice_get m rec ≡ Some c.value → slice_get n rec ≡ Some (value_in rec c es).value
 serial_value rec [] m n c h there = let same : m ≡ n = cc in rw (← same) there
 serial_value rec (e ∷ es) m n c h there =
     let t = and_then (play m e.ops) (λ (k : Values). serial k es) n h in

@@ -76,7 +76,7 @@ pub leaves_value : (e : Commit) (rec : ℕ) → (Wrote e rec → ⊥) → IsQuie
 leaves_value e rec n start = let z = unwritten_value e rec n in rw z refl
 
 -- one that has changes it
-takes_value : (e : Commit) (rec : ℕ) (change : Change) (before : Content) → value_at rec (last_changes e) ≡ Some change → writes_over rec e before ≡ made change before
+pub takes_value : (e : Commit) (rec : ℕ) (change : Change) (before : Content) → value_at rec (last_changes e) ≡ Some change → writes_over rec e before ≡ made change before
 takes_value e rec change before w = ap (λ (o : Option Change). option_map_or (λ change. made change before) o before) w
 
 -- where no entry between two views wrote the record, its value after both is the same

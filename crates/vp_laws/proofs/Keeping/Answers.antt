@@ -2,13 +2,12 @@
 use Rattle.std.proofs.Common.{◌≡◌, ◌≢◌, ◌∙◌, ap, sym, subst, ℕ, ◌+◌, ◌≤◌, true, List, [], ◌∷◌, ◌++◌, refl, arith, inl, inr, ⊎_elim, length}
 use Rattle.std.specs.Prelude.{Option, Some, not, ◌==◌}
 use Rattle.vp_laws.proofs.Journal.Changed.{read_alters_none, change_there, changed_by, alters, HasChanged}
-use Rattle.vp_model.specs.Types.{Commit, TxnId, View, Sent, Message, Input, Op, Answer, Pending, Live}
+use Rattle.vp_model.specs.Types.{Commit, TxnId, View, Sent, Message, Input, Pending, Live}
 use Rattle.vp_model.specs.Types.message
-use Rattle.vp_model.specs.Types.op
 use Rattle.vp_model.specs.Words.{keys, is_empty}
 use Rattle.vp_model.specs.Catalogue.{Catalogue}
 use Rattle.vp_model.specs.Site.{SiteState, Stepped, Lent}
-use Rattle.vp_model.specs.Transactions.{last_changes, entry_of, deed_answer, Deed, last_writes}
+use Rattle.vp_model.specs.Transactions.{last_changes, entry_of, deed_answer, Deed}
 use Rattle.vp_model.specs.Refresh.{other_holders_in, other_holders}
 use Rattle.vp_model.specs.Step.{mark}
 use Rattle.vp_laws.proofs.Lists.Members.{Has, has_none, has_one, has_one_is, has_cases, filter_keeps}
@@ -20,7 +19,7 @@ use Rattle.vp_laws.proofs.Table.Steps.{LiveNow, Only, SentFor, Steps}
 use Rattle.vp_laws.proofs.Moves.OnlyCoordinator.{is_aside}
 use Rattle.vp_laws.proofs.Invariant.Names.{UsedTxn, InvNames}
 use Rattle.vp_laws.proofs.Invariant.Shares.{InvShares}
-use Rattle.vp_laws.proofs.Invariant.Ops.{HasWritten, LiveOk}
+use Rattle.vp_laws.proofs.Invariant.Ops.{LiveOk}
 use Rattle.vp_laws.proofs.Worlds.Scenes.{Scene, plain_at, Acted, scene_of}
 use Rattle.vp_laws.proofs.Worlds.Events.{Arrives, came_in}
 use Rattle.vp_laws.proofs.Worlds.Sites.{NowIs, now_is, Quiet, QuietIs, quiet_is, start_sent, started_idle, live_still}
@@ -29,7 +28,6 @@ use Rattle.vp_laws.proofs.Lists.Changes.{longer, is_none, empty_not}
 use Rattle.vp_laws.proofs.Moves.Calls.{waiting, done, reading, writing, read_not_write, reads_same, writes_same, unmarked, no_commit_reads, no_commit_writes, same_writes}
 use Rattle.vp_laws.proofs.Invariant.Answers.{Current, Asks, HasRead, AnswersOk, InvAnswers, WritesTo, HasWrote, AskSays}
 use Rattle.vp_laws.proofs.Keeping.Endings.{fresh}
-use Rattle.vp_laws.proofs.Lists.Pairs.{last_written, value_key, read_no_write, write_of_one}
 use Rattle.vp_model.specs.World.{start_world}
 
 up_to_next : (a b c : ℕ) → a ≡ b + 1 → c ≡ b + 1 → a ≤ c

@@ -47,12 +47,12 @@ module _ (catalogue : Catalogue) (w new : Scene) (s : ℕ) (x : SiteState) (give
 
   copy_now : (a : ℕ × Stored) → CopyNow catalogue x given o.effects.commits a → IsDated new a.0 a.1.date
   copy_now a (CopyNow.still h) = dated_on a.0 a.1.date (copy_was a h)
-  copy_now a (CopyNow.outcome from d b comes h there is) =
+  copy_now a (CopyNow.outcome from d b comes h there old was is) =
       let e = (ends.told (letter from s (message.Outcome d.txn true)) (came_in w s given arrives from _ comes)).1 in
       let q = shares.doubts s d (subst (λ (k : DurableState). Has k.doubts d) was_kept h) in
       let says = shares.entry e.0 e.1 q.0.0 s d.view q.0.1 q.0.2 d.writes (rw e.2 q.0.3) in
       subst (λ (a : ℕ × Stored). IsDated new a.0 a.1.date) is (inr (e.0, st.moved.journal e.0 e.1, wrote_held e.0 s b (rw says.1 there), says.0))
-  copy_now a (CopyNow.entered e b h there is) = subst (λ (a : ℕ × Stored). IsDated new a.0 a.1.date) is (inr (e, st.enters e h, wrote_held e x.id b there, refl))
+  copy_now a (CopyNow.entered e b h there old was is) = subst (λ (a : ℕ × Stored). IsDated new a.0 a.1.date) is (inr (e, st.enters e h, wrote_held e x.id b there, refl))
   copy_now a (CopyNow.refreshed k now is) = dated_on a.0 a.1.date (subst (λ (c : Stored). IsDated w a.0 c.date) is (answer_dated a.0 k now))
 
   reply_dated : (m : Sent) → ReplyTo x given o.site.participant m → (view : ViewId) (rec : ℕ) (stored : Stored) → m.message ≡ message.RefreshAnswer view rec stored → IsDated w rec stored.date

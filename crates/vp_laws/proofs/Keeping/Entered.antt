@@ -29,7 +29,6 @@ use Rattle.vp_laws.proofs.Worlds.Sites.{NowIs, now_is, QuietIs, quiet_is, starte
 use Rattle.vp_laws.proofs.Lists.Numbers.{not_same}
 use Rattle.vp_laws.proofs.Lists.Changes.{is_none}
 use Rattle.vp_laws.proofs.Invariant.Entered.{InvEntered, Affected, AgreedAs}
-use Rattle.vp_laws.proofs.Lists.Pairs.{written_op}
 use Rattle.vp_model.specs.World.{start_world}
 
 -- a holder that is another member of the held view

@@ -1,6 +1,6 @@
 -- The locks of each site stay free of conflicts; and what comes to the site fits them.
 use Rattle.std.proofs.Common.{◌≡◌, ◌≢◌, ◌∙◌, ap, sym, subst, ℕ, Bool, true, false, List, refl, arith, inr}
-use Rattle.std.specs.Prelude.{Option, Some}
+use Rattle.std.specs.Prelude.{Some}
 use Rattle.std.proofs.lemmas.Bool.Decides.{nat_tests}
 use Rattle.vp_model.specs.Types.{Change, ViewId, TxnId, Input, Lock, Doubt}
 use Rattle.vp_model.specs.Types.message

@@ -1,6 +1,6 @@
 -- A record under refresh has a copy, may be used, and was not written in the held view.
 use Rattle.std.proofs.Common.{◌≡◌, ◌≢◌, ◌⊎◌, ◌∙◌, ap, sym, subst, ℕ, true, false, List, refl, arith, ⊎_elim}
-use Rattle.std.specs.Prelude.{Option, Some, None}
+use Rattle.std.specs.Prelude.{Some, None}
 use Rattle.vp_model.specs.Types.{Change, ViewId, TxnId, View, Commit, Input, Live, Refreshing, Doubt}
 use Rattle.vp_model.specs.Types.message
 use Rattle.vp_model.specs.Words.{is_empty, has, has_txn, keys}
@@ -28,7 +28,6 @@ use Rattle.vp_laws.proofs.Invariant.HasLeft.{HasLeft}
 use Rattle.vp_laws.proofs.Invariant.Held.{InvHeld, copy_held}
 use Rattle.vp_laws.proofs.Worlds.Sites.{NowIs, now_is, quiet_is, started, start_entered, no_refresh, Quiet, refresh_still}
 use Rattle.vp_laws.proofs.Invariant.Listed.{InvListed}
-use Rattle.vp_laws.proofs.Lists.Pairs.{written_op}
 use Rattle.vp_model.specs.World.{start_world}
 use Rattle.vp_laws.proofs.Journal.ValuesAfter.{Wrote}
 

@@ -24,7 +24,6 @@ use Rattle.vp_laws.proofs.Invariant.Held.{holds_copy}
 use Rattle.vp_laws.proofs.Keeping.Stopping.{closed_stops}
 use Rattle.vp_laws.proofs.Worlds.Sites.{KeptIs, kept_is}
 use Rattle.vp_model.specs.Refresh.{is_usable_in}
-use Rattle.vp_laws.proofs.Invariant.Ops.{written_used}
 use Rattle.vp_laws.proofs.Keeping.Does.{Does}
 use Rattle.vp_laws.proofs.Invariant.Refresh.{InvRefresh}
 use Rattle.vp_laws.proofs.Keeping.Guards.{txn_same}
@@ -32,7 +31,6 @@ use Rattle.vp_laws.proofs.Keeping.Listed.{wrote_here, not_below_itself}
 use Rattle.vp_laws.proofs.Keeping.Settled.{doubt_was}
 use Rattle.vp_laws.proofs.Invariant.Known.{Known}
 use Rattle.vp_laws.proofs.Lists.Changes.{some_not_empty}
-use Rattle.vp_laws.proofs.Lists.Pairs.{written_op}
 use Rattle.vp_laws.proofs.Invariant.Closed.{Open}
 use Rattle.vp_laws.proofs.Journal.ValuesAfter.{Wrote}
 

@@ -2,17 +2,16 @@
 use Rattle.std.proofs.Common.{◌≡◌, ◌∙◌, ap, sym, subst, ℕ, ◌+◌, true, List, [], ◌∷◌, refl, ⊎_elim, length}
 use Rattle.std.specs.Prelude.{Option, Some, ◌==◌, nat_lt, not, nat_eq}
 use Rattle.vp_laws.proofs.Journal.Changed.{read_alters_none, change_there, changed_by, alters, HasChanged}
-use Rattle.vp_model.specs.Types.{Commit, ViewId, TxnId, View, Input, Op, Answer, Pending, Live}
-use Rattle.vp_model.specs.Types.op
+use Rattle.vp_model.specs.Types.{Commit, ViewId, TxnId, View, Input, Pending, Live}
 use Rattle.vp_model.specs.Words.{keys, for_each, put_number}
 use Rattle.vp_model.specs.Catalogue.{Catalogue}
 use Rattle.vp_model.specs.Site.{SiteState, Stepped, Lent}
-use Rattle.vp_model.specs.Transactions.{entry_of, last_changes, Deed, last_writes}
+use Rattle.vp_model.specs.Transactions.{entry_of, last_changes, Deed}
 use Rattle.vp_model.specs.Refresh.{other_holders_in, other_holders}
 use Rattle.vp_model.specs.Calls.{begun}
 use Rattle.vp_model.specs.Step.{mark}
 use Rattle.vp_laws.proofs.Lists.Members.{Has, has_none, has_one_is, has_cons, has_cases, filter_has}
-use Rattle.vp_laws.proofs.Lists.Changes.{put_new, empty_not, longer}
+use Rattle.vp_laws.proofs.Lists.Changes.{put_new, empty_not}
 use Rattle.vp_laws.proofs.Lists.Views.{put_keeps}
 use Rattle.vp_laws.proofs.Moves.Table.{record_of, Changes, remaining, Completes}
 use Rattle.vp_laws.proofs.Table.Steps.{AskingRead, AskingWrite, LiveNow, Steps}
@@ -23,8 +22,7 @@ use Rattle.vp_laws.proofs.Invariant.Led.{InvLed}
 use Rattle.vp_laws.proofs.Worlds.Scenes.{Scene, plain_at, Acted, scene_of}
 use Rattle.vp_laws.proofs.Worlds.Sites.{NowIs, now_is, quiet_is, started_idle, Quiet, live_still}
 use Rattle.vp_laws.proofs.Moves.Calls.{same_writes, waiting, done, reading, writing, read_not_write, writes_same, no_commit_writes, unmarked}
-use Rattle.vp_laws.proofs.Invariant.Ops.{HasWritten, LiveOk, InvOps}
-use Rattle.vp_laws.proofs.Lists.Pairs.{last_written, value_key, read_no_write, write_of_one}
+use Rattle.vp_laws.proofs.Invariant.Ops.{LiveOk, InvOps}
 use Rattle.vp_model.specs.World.{start_world}
 
 -- parts

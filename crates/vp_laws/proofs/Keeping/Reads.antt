@@ -1,26 +1,24 @@
 -- What is read without a copy here was asked of another site.
-use Rattle.std.proofs.Common.{Option, ◌≡◌, ◌⊎◌, ◌∙◌, ap, sym, subst, ℕ, List, [], ◌∷◌, ◌++◌, inl, inr, ⊎_elim}
+use Rattle.std.proofs.Common.{Option, ◌≡◌, ◌⊎◌, ◌∙◌, ap, sym, subst, ℕ, List, [], ◌∷◌, inl, inr, ⊎_elim}
 use Rattle.vp_laws.proofs.Journal.Changed.{changed_on, written_changed, HasChanged, operation_there}
-use Rattle.vp_model.specs.Types.{Input, Op, Answer, Pending, Live, Stored}
+use Rattle.vp_model.specs.Types.{Input, Pending, Live, Stored}
 use Rattle.vp_model.specs.Types.op
 use Rattle.vp_model.specs.Words.{keys}
 use Rattle.vp_model.specs.Catalogue.{Catalogue}
-use Rattle.vp_model.specs.Transactions.{with_operation, Deed, last_writes}
+use Rattle.vp_model.specs.Transactions.{Deed}
 use Rattle.vp_model.specs.Refresh.{other_holders}
 use Rattle.vp_model.specs.Site.{SiteState, Stepped, Lent}
 use Rattle.vp_laws.specs.Votes.{is_commit}
-use Rattle.vp_laws.proofs.Lists.Members.{Has, has_none, has_one, has_one_is, has_left, has_right, has_cases}
+use Rattle.vp_laws.proofs.Lists.Members.{Has, has_none, has_one, has_left, has_right}
 use Rattle.vp_laws.proofs.Moves.Table.{remaining, Completes}
 use Rattle.vp_laws.proofs.Table.Steps.{LiveNow, Steps}
 use Rattle.vp_laws.proofs.Table.Copies.{value_pair}
 use Rattle.vp_laws.proofs.Table.Locks.{Guards}
 use Rattle.vp_laws.proofs.Lists.Changes.{mapped_has}
 use Rattle.vp_laws.proofs.Worlds.Scenes.{Scene, Acted, acted, scene_of}
-use Rattle.vp_laws.proofs.Invariant.Ops.{HasWritten}
 use Rattle.vp_laws.proofs.Worlds.Sites.{NowIs, now_is, quiet_is, started_idle, Quiet, live_still}
 use Rattle.vp_laws.proofs.Moves.Calls.{read_not_write, read_not_write_asked, reads_same, same_call, unmarked_call}
 use Rattle.vp_laws.proofs.Invariant.Reads.{HasAsked, ReadsOk, InvReads}
-use Rattle.vp_laws.proofs.Lists.Pairs.{last_written, value_key}
 use Rattle.vp_model.specs.World.{start_world}
 
 module _ (catalogue : Catalogue) (x : SiteState) (given : Input) (all : (u : Live) → Has x.live u → ReadsOk catalogue (keys x.copies) u) where

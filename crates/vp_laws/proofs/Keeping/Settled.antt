@@ -41,7 +41,6 @@ use Rattle.vp_laws.proofs.Invariant.Settled.{InvSettled, HasEnded}
 use Rattle.vp_laws.proofs.Keeping.Entered.{other_holder}
 use Rattle.vp_laws.proofs.Keeping.Views.{above}
 use Rattle.vp_laws.proofs.Keeping.Leaving.{left_lasts, left_here, left_quiet, left_by_quiet}
-use Rattle.vp_laws.proofs.Lists.Pairs.{written_op}
 use Rattle.vp_model.specs.World.{start_world}
 
 -- a doubt on the transaction is there or not

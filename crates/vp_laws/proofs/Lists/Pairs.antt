@@ -1,12 +1,12 @@
 -- What is found in a list of pairs by a number, and the last writes of operations.
 use Rattle.std.proofs.Common.{◌≡◌, ◌⊎◌, ap, sym, subst, ℕ, Bool, true, false, cond, List, [], ◌∷◌, refl, inl, inr, ⊎_elim}
-use Rattle.std.specs.Prelude.{Option, Some, fold, ◌==◌, nat_lt, find, option_map, None}
+use Rattle.std.specs.Prelude.{Option, Some, fold, filter, ◌==◌, nat_lt, find, option_map, None}
 use Rattle.vp_model.specs.Types.{Op}
 use Rattle.std.proofs.lemmas.Bool.{eqb-true}
 use Rattle.vp_model.specs.Types.op
 use Rattle.vp_model.specs.Words.{keys, put_at, value_at}
 use Rattle.vp_model.specs.Transactions.{with_op, last_writes}
-use Rattle.vp_laws.proofs.Lists.Members.{map_has, Has, has_none, has_first, has_more, has_cons}
+use Rattle.vp_laws.proofs.Lists.Members.{map_has, filter_has, Has, has_none, has_first, has_more, has_cons}
 use Rattle.vp_laws.proofs.Lists.Changes.{put_has, mapped_has}
 use Rattle.vp_laws.proofs.Lists.Numbers.{eq_self, unequal}
 
@@ -41,6 +41,17 @@ abbrev pub Differ : List ℕ → Type 0
 Differ [] = Unit {0}
 Differ (n ∷ ns) = (Has ns n → ⊥) × Differ ns
 
+pub kept_differ : {V : Type 0} (test : ℕ × V → Bool) (pairs : List (ℕ × V)) → Differ (keys pairs) → Differ (keys (filter test pairs))
+kept_differ {V} test [] h = tt
+kept_differ {V} test (p ∷ pairs) h = go (test p) (kept_differ test pairs h.1)
+  where
+    none : Has (keys (filter test pairs)) p.0 → ⊥
+    none k = let r = map_has (λ (q : ℕ × V). q.0) (filter test pairs) p.0 k in h.0 (subst (Has (keys pairs)) r.2 (mapped_has (λ (q : ℕ × V). q.0) pairs r.0 (filter_has test pairs r.0 r.1).0))
+
+    go : (b : Bool) → Differ (keys (filter test pairs)) → Differ (keys (cond b (p ∷ filter test pairs) (filter test pairs)))
+    go true rest = (none, rest)
+    go false rest = rest
+
 -- then a pair has the value at its number
 pub pair_value : {V : Type 0} (pairs : List (ℕ × V)) (n : ℕ) (v : V) → Differ (keys pairs) → Has pairs (n, v) → value_at n pairs ≡ Some v
 pair_value {V} [] n v d h = absurd (has_none (n, v) h)
@@ -73,3 +84,23 @@ read_no_write operation rec other value v e f = cc
 
 pub write_of_one : (operation : Op) (rec other : ℕ) (value v : Option (List ℕ)) → operation ≡ op.Write rec value → operation ≡ op.Write other v → rec ≡ other
 write_of_one operation rec other value v e f = cc
+
+-- a value that is found is there with its number
+pub pair_there : {V : Type 0} (n : ℕ) (pairs : List (ℕ × V)) (v : V) → value_at n pairs ≡ Some v → Has pairs (n, v)
+pair_there {V} n [] v e = cc
+pair_there {V} n (p ∷ pairs) v e = go (p.0 == n) refl e (λ q. pair_there n pairs v q)
+  where
+    is_pair : (p : ℕ × V) → p.0 ≡ n → p.1 ≡ v → p ≡ (n, v)
+    is_pair p a b = rw (← a, ← b) refl
+
+    go : (b : Bool) → (p.0 == n) ≡ b → option_map (λ (q : ℕ × V). q.1) (cond b (Some p) (find (λ (q : ℕ × V). q.0 == n) pairs)) ≡ Some v → (value_at n pairs ≡ Some v → Has pairs (n, v)) → Has (p ∷ pairs) (n, v)
+    go true t q rest = let same : p.1 ≡ v = cc in subst (Has (p ∷ pairs)) (is_pair p (eqb-true p.0 n t) same) (has_first p pairs)
+    go false t q rest = has_more p pairs (n, v) (rest q)
+
+-- a number that is among them has a value
+pub value_there : {V : Type 0} (n : ℕ) (pairs : List (ℕ × V)) → Has (keys pairs) n → (v : V) × (value_at n pairs ≡ Some v)
+value_there {V} n pairs h = go (value_at n pairs) refl
+  where
+    go : (o : Option V) → value_at n pairs ≡ o → (v : V) × (value_at n pairs ≡ Some v)
+    go None e = absurd (not_copied n pairs e h)
+    go (Some v) e = (v, e)

@@ -3,7 +3,7 @@ use Rattle.std.proofs.Common.{◌≡◌, ◌∙◌, ◌++◌, sym, ℕ, ◌+◌,
 use Rattle.std.specs.Prelude.{Option, Some, None, is_some, filter, ◌==◌, nat_le, nat_lt, ◌&&◌, ◌||◌}
 use Rattle.std.proofs.lemmas.Bool.{eqb-true}
 use Rattle.std.proofs.lemmas.Bool.Decides.{nat_tests}
-use Rattle.vp_model.specs.Types.{TxnId, Op, Commit, Reply, Call, Answer, Message, Obstacle, Input, Pending, Live, Ending, Finished, Effects}
+use Rattle.vp_model.specs.Types.{TxnId, Commit, Reply, Call, Answer, Message, Obstacle, Input, Pending, Live, Ending, Finished, Effects}
 use Rattle.vp_base.specs.declared.site.Ending.TheVariants.{Committed, LockHeld, ViewChanged, TimedOut, Aborted}
 use Rattle.vp_model.specs.Types.answer
 use Rattle.vp_model.specs.Types.call
@@ -15,7 +15,7 @@ use Rattle.vp_model.specs.Words.{same_txn, has, first, value_at, is_empty}
 use Rattle.vp_model.specs.Catalogue.{Catalogue, find_record}
 use Rattle.vp_model.specs.Locks.{conflict}
 use Rattle.vp_model.specs.Site.{CoordinatorState, SiteState, Lent, surroundings, lent_reply}
-use Rattle.vp_model.specs.Transactions.{Deed, deed_answer, last_changes, entry_of, with_finished, with_pending_reply, live_of, finished_of, finish, close, close_all, keep_writes, decided, decide, complete}
+use Rattle.vp_model.specs.Transactions.{Deed, last_changes, entry_of, with_finished, with_pending_reply, live_of, finished_of, finish, close, close_all, keep_writes, decided, decide, complete}
 use Rattle.vp_model.specs.Refresh.{is_open, other_holders}
 use Rattle.vp_model.specs.Views.{abandon}
 use Rattle.vp_model.specs.Calls.{handling, start_txn, begin_in, on_begin, with_record, take_lock, lock_here, answer_read, read, read_at, change_elsewhere, change, new_change, is_bad_table, is_too_large, short, change_asked, write_at, commit, prepare_parts, new_call, live_call, finished_call, handled, on_txn_call, own_call}
@@ -27,7 +27,7 @@ use Rattle.vp_laws.specs.Votes.{is_commit}
 use Rattle.vp_laws.proofs.Lists.Members.{Has, filter_has, has_first, has_more, find_has, find_true}
 use Rattle.vp_laws.proofs.Moves.Frames.{close-commits, decided-ends, decided-commits, decide-cases}
 use Rattle.vp_model.proofs.SameTxn.{same_txn-is}
-use Rattle.vp_laws.proofs.Moves.Coordinator.{live_of-has, live_of-is, next_number, neither, nor, open_here}
+use Rattle.vp_laws.proofs.Moves.Coordinator.{live_of-has, live_of-is, next_number, nor, open_here}
 use Rattle.vp_laws.proofs.Moves.Table.{Comes, Handled, Reads, Changes, May, Tries, record_of, remaining, IsLast, Locked, Completes, Decides, lent_at}
 use Rattle.vp_laws.proofs.Moves.Reasons.{Called, IsCallOf, Operates, Takes, Awaits, Why, is_plain, Tells, last_reply, IsDone, IsDecided, Goes, Front}
 use Rattle.vp_laws.proofs.Moves.Numbered.{Numbers, fits, turned, turned_txn}
@@ -161,7 +161,7 @@ module _ (catalogue : Catalogue) (x : SiteState) (given : Input) (after : SiteSt
 
     new_change-front : (name : List ℕ) (asked : ℕ → Deed) → Operates p.call name true → ((rec : ℕ) → Tries p.call rec (asked rec)) → ((rec : ℕ) → find_record catalogue name ≡ Some rec → Changes catalogue p rec (asked rec)) → Q (new_change catalogue x.id x.held t p name asked (lent_at x))
     unfolding new_change
-    new_change-front name asked o tries changes = with_record-front name asked _ tries (λ rec f a. change-front name asked rec o f (changes rec f) a)
+    new_change-front name asked o tries changes = with_record-front name true o asked _ tries (λ rec f a. change-front name asked rec o f (changes rec f) a)
 
     commit-front : is_commit p.call ≡ true → Q (commit catalogue x.id t p (lent_at x))
     unfolding commit prepare_parts

@@ -2,7 +2,7 @@
 -- coordinator's state and of the replies has to survive so that the whole step keeps it.
 use Rattle.std.proofs.Common.{◌≡◌, ◌++◌, ℕ, Bool, true, false, List, [], ◌∷◌, map, length}
 use Rattle.std.specs.Prelude.{Some, None, Option, option_map, option_to_list, nat_le}
-use Rattle.vp_model.specs.Types.{ViewId, TxnId, View, Op, Owner, Call, Answer, Reply, Commit, Input, Pending, Live, Ending, Finished}
+use Rattle.vp_model.specs.Types.{ViewId, TxnId, View, Owner, Call, Answer, Reply, Commit, Input, Pending, Live, Ending, Finished}
 use Rattle.vp_base.specs.declared.site.Ending.TheVariants.{Committed, Aborted, LockHeld, ViewChanged, TimedOut}
 use Rattle.vp_model.specs.Types.answer
 use Rattle.vp_model.specs.Types.call

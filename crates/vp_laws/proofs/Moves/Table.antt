@@ -1,7 +1,7 @@
 -- The table in small moves: what a property of a step's state has to survive, so that the whole step keeps it.
 use Rattle.std.proofs.Common.{◌≡◌, ◌⊎◌, ℕ, ◌+◌, ◌-◌, ◌^◌, Bool, true, false, List, [], map, length}
 use Rattle.std.specs.Prelude.{Option, Some, None, is_some, filter, nat_le, ◌==◌, ◌&&◌, not}
-use Rattle.vp_model.specs.Types.{Change, ViewId, TxnId, View, Stored, Op, Owner, Answer, Call, Message, Sent, Input, Part, Refreshing, Pending, Live, Ending, Finished, Decision}
+use Rattle.vp_model.specs.Types.{Change, ViewId, TxnId, View, Stored, Owner, Answer, Call, Message, Sent, Input, Part, Refreshing, Pending, Live, Ending, Finished, Decision}
 use Rattle.vp_base.specs.declared.site.Ending.TheVariants.{Committed, Aborted, LockHeld, ViewChanged, TimedOut, Inaccessible}
 use Rattle.vp_model.specs.Types.answer
 use Rattle.vp_model.specs.Types.call
@@ -17,7 +17,7 @@ use Rattle.vp_model.specs.Locks.{conflict}
 use Rattle.vp_model.specs.Site.{SiteState, Lent, Stepped, begin_step, force, send, reply, change_views, change_participant, change_refresh, surroundings, lent, put_back, lent_force, lent_reply, lent_coordinator, with_sent}
 use Rattle.vp_laws.specs.Entries.{record_in}
 use Rattle.vp_model.specs.Transactions.{Deed, last_changes, entry_of, last_writes, answer_of, close, decide, complete, wait_for}
-use Rattle.vp_model.specs.Refresh.{members, is_open, other_holders, is_doubtful, refreshing_of, unanswered, end_refresh, start_refresh}
+use Rattle.vp_model.specs.Refresh.{is_open, other_holders, is_doubtful, refreshing_of, unanswered, end_refresh, start_refresh}
 use Rattle.vp_model.specs.Views.{part_of, has_doubt, without_view, without_parts, highest, is_spent, drop_view, start_inviting, invite, hold}
 use Rattle.vp_model.specs.Calls.{change_asked, is_bad_table, is_too_large, short, next_txn, start_txn, handling, take_lock, read_at, write_at, prepare_parts}
 use Rattle.vp_model.specs.Step.{is_marked_call, least_missing, fix, without_wait, probe_all, mark_calls, resend_one, known}

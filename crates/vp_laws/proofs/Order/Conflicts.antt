@@ -19,7 +19,7 @@ use Rattle.vp_laws.proofs.Table.Copies.{value_pair}
 use Rattle.vp_laws.proofs.Table.Leaves.{Uses}
 use Rattle.vp_laws.proofs.Worlds.Scenes.{Scene, plain_at}
 use Rattle.vp_laws.proofs.Invariant.Shares.{HasRequest}
-use Rattle.vp_laws.proofs.Invariant.Ops.{written_used, HasUsed, HasWritten}
+use Rattle.vp_laws.proofs.Invariant.Ops.{HasUsed}
 use Rattle.vp_laws.proofs.Invariant.Answers.{HasRead}
 use Rattle.vp_laws.proofs.Invariant.Entered.{AgreedAs}
 use Rattle.vp_laws.proofs.Invariant.HasLeft.{HasLeft}

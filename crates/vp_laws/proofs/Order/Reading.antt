@@ -16,7 +16,6 @@ use Rattle.vp_laws.proofs.Moves.Table.{Reads, remaining}
 use Rattle.vp_laws.proofs.Table.Steps.{LiveNow}
 use Rattle.vp_laws.proofs.Worlds.Scenes.{Scene, scene_of}
 use Rattle.vp_laws.proofs.Worlds.Sites.{NowIs, now_is, quiet_is, started_idle, live_still, Quiet}
-use Rattle.vp_laws.proofs.Invariant.Ops.{HasWritten}
 use Rattle.vp_laws.proofs.Invariant.Answers.{HasRead}
 use Rattle.vp_laws.proofs.Moves.Calls.{read_not_write, reads_same, same_call, unmarked_call}
 use Rattle.vp_laws.proofs.Keeping.Does.{Does}

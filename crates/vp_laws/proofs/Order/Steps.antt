@@ -2,7 +2,7 @@
 -- that is given has the value after them.
 use Rattle.std.proofs.Common.{◌≡◌, ◌≢◌, ◌∙◌, ap, sym, subst, ℕ, Bool, true, false, List, [], ◌∷◌, ◌++◌, refl, ⊎_elim, length}
 use Rattle.std.specs.Prelude.{option_map, Option, Some, None, is_some, option_and_then, slice_get, slice_set, ◌||◌}
-use Rattle.vp_model.specs.Types.{ViewId, TxnId, View, Sent, Commit, Input, Op, Answer, Stored, Pending, Live, Doubt}
+use Rattle.vp_model.specs.Types.{ViewId, TxnId, View, Sent, Commit, Input, Op, Stored, Pending, Live, Doubt}
 use Rattle.vp_model.specs.Types.message
 use Rattle.vp_model.specs.Types.op
 use Rattle.vp_model.specs.Types.owner
@@ -33,7 +33,7 @@ use Rattle.vp_laws.proofs.Keeping.Stopping.{in_force_holder}
 use Rattle.vp_laws.proofs.Journal.ValuesAfter.{Content, read_after, content_of, value_after}
 use Rattle.vp_laws.proofs.Journal.ValuesGrow.{after_some}
 use Rattle.vp_laws.proofs.Journal.Playing.{content_value}
-use Rattle.vp_laws.proofs.Copies.CopiesKept.{unlisted_none}
+use Rattle.vp_laws.proofs.Copies.Refreshes.{unlisted_none}
 use Rattle.vp_laws.proofs.Copies.RefreshKept.{free_unlisted}
 use Rattle.vp_laws.proofs.Keeping.NewEntries.{journal_same}
 use Rattle.vp_laws.proofs.Copies.Usable.{usable_value}

@@ -5,7 +5,7 @@ use Rattle.std.proofs.Common.{◌≡◌, ◌⊎◌, ◌∙◌, ap, sym, subst, �
 use Rattle.std.specs.Prelude.{Option, Some, None, is_some, nat_le, nat_lt, ◌||◌}
 use Rattle.std.specs.Option.{option_map_or}
 use Rattle.std.proofs.lemmas.Bool.Decides.{nat_tests}
-use Rattle.vp_model.specs.Types.{TxnId, Op, Call, Answer, Reply, Pending, Live, Ending, Finished}
+use Rattle.vp_model.specs.Types.{TxnId, Call, Answer, Reply, Pending, Live, Ending, Finished}
 use Rattle.vp_base.specs.declared.site.Ending.TheVariants.{Aborted, LockHeld}
 use Rattle.vp_model.specs.Types.answer
 use Rattle.vp_model.specs.Types.call

@@ -1,6 +1,6 @@
 -- How transactions end: one that ends is not live any more, and is sent, kept and entered as what it was.
 use Rattle.std.proofs.Common.{◌≡◌, ◌≢◌, ◌⊎◌, ◌∙◌, ap, sym, subst, ℕ, ◌+◌, ◌≤◌, Bool, true, false, cond, List, [], ◌∷◌, ◌++◌, map, refl, arith, inl, inr, ⊎_elim}
-use Rattle.std.specs.Prelude.{Some, None, filter, not, ◌==◌}
+use Rattle.std.specs.Prelude.{Some, filter, not, ◌==◌}
 use Rattle.std.proofs.lemmas.Bool.Decides.{nat_tests}
 use Rattle.vp_laws.proofs.Moves.Calls.{done}
 use Rattle.vp_model.specs.Types.{TxnId, View, Message, Sent, Commit, Input, Live, Ending, Finished, Decision}

@@ -7,7 +7,6 @@ use Rattle.vp_model.specs.Types.answer
 use Rattle.vp_model.specs.Catalogue.{Catalogue, find_record, inside, total}
 use Rattle.vp_model.specs.Site.{CoordinatorState, SiteState}
 use Rattle.vp_model.specs.Transactions.{Deed, answer_of, answers_after, put_live, with_finished}
-use Rattle.vp_model.specs.Refresh.{members_in, is_usable_in}
 use Rattle.vp_model.specs.Calls.{short, begun, with_begun, kept_answer}
 use Rattle.vp_model.specs.Answers.{with_acknowledged}
 use Rattle.vp_model.specs.Step.{mark, step}

@@ -7,14 +7,14 @@ use Rattle.vp_base.specs.declared.site.Ending.TheVariants.{Committed}
 use Rattle.vp_model.specs.Types.answer
 use Rattle.vp_model.specs.Types.op
 use Rattle.vp_model.specs.Catalogue.{Catalogue}
-use Rattle.vp_model.specs.Site.{CoordinatorState, SiteState, Lent}
+use Rattle.vp_model.specs.Site.{CoordinatorState, SiteState}
 use Rattle.vp_model.specs.Transactions.{Deed, deed_answer, answer_of, answers_after, put_live, with_finished}
 use Rattle.vp_model.specs.Calls.{begun, kept_answer}
 use Rattle.vp_model.specs.Step.{mark, step}
 use Rattle.vp_laws.proofs.Lists.Members.{Has, has_of, has_none, has_cases, has_one_is, map_has}
 use Rattle.vp_laws.proofs.Lists.Changes.{without_first_has, change_first_has, at_most_has}
 use Rattle.vp_laws.proofs.Lists.Names.{named}
-use Rattle.vp_laws.proofs.Moves.Table.{next_name, Handled, Completes}
+use Rattle.vp_laws.proofs.Moves.Table.{next_name, Handled}
 use Rattle.vp_laws.proofs.Moves.Reasons.{Goes, Front}
 use Rattle.vp_laws.proofs.Moves.FrontSteps.{step-front}
 use Rattle.vp_laws.proofs.Moves.Calls.{done, waiting}

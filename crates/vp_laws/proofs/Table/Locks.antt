@@ -4,7 +4,7 @@ use Rattle.std.specs.Prelude.{Option, Some, None, filter, not, ◌==◌, ◌&&�
 use Rattle.std.specs.List.{list_all}
 use Rattle.std.proofs.lemmas.Bool.{eqb-true}
 use Rattle.vp_laws.proofs.Journal.Changed.{changed_by, operation_there, change_there, written_changed, read_alters_none, alters}
-use Rattle.vp_model.specs.Types.{Commit, Change, ViewId, TxnId, View, Message, Input, Stored, Lock, Part, Op, Answer, Pending, Live, Ending, Refreshing, Doubt}
+use Rattle.vp_model.specs.Types.{Commit, Change, ViewId, TxnId, View, Message, Input, Stored, Lock, Part, Pending, Live, Ending, Refreshing, Doubt}
 use Rattle.vp_base.specs.declared.site.Ending.TheVariants.{Committed}
 use Rattle.vp_model.specs.Types.input
 use Rattle.vp_model.specs.Types.message
@@ -15,7 +15,7 @@ use Rattle.vp_model.specs.Catalogue.{Catalogue}
 use Rattle.vp_model.specs.Durable.{doubt_of, without_doubt}
 use Rattle.vp_model.specs.Locks.{conflict, holds, with_lock, without_owner, without_guard}
 use Rattle.vp_model.specs.Site.{ViewState, ParticipantState, CoordinatorState, Here, SiteState, Lent, Stepped, begin_step, put_back}
-use Rattle.vp_model.specs.Transactions.{Deed, last_changes, entry_of, wait_for, last_writes, writes_held, keep_writes, complete}
+use Rattle.vp_model.specs.Transactions.{Deed, last_changes, entry_of, wait_for, writes_held, keep_writes, complete}
 use Rattle.vp_model.specs.Refresh.{newest, take_newer, unlist, end_refresh, start_refresh, other_holders}
 use Rattle.vp_model.specs.Views.{part_of, drop_view, start_inviting, hold, has_part, has_doubt}
 use Rattle.vp_model.specs.Calls.{begun, start_txn, take_lock, read_at, write_at, prepare_parts}
@@ -41,7 +41,7 @@ use Rattle.vp_laws.proofs.Table.Shares.{OutcomeComes}
 use Rattle.vp_laws.proofs.Table.Leaves.{Uses, unused, uses_same, invites_only, accepts_only}
 use Rattle.vp_laws.proofs.Lists.Numbers.{one_above}
 use Rattle.vp_laws.proofs.Moves.Calls.{read_not_write_asked, no_commit_writes, same_writes, done, reads_same, writes_same, read_not_write}
-use Rattle.vp_laws.proofs.Lists.Pairs.{last_written, value_key, not_copied}
+use Rattle.vp_laws.proofs.Lists.Pairs.{not_copied}
 
 -- why a transaction's lock is gone: its outcome came, the site has left its view, or it was of this site and is not live
 pub data Gone (x : SiteState) (given : Input) (o : Stepped) (txn : TxnId) : Type 0 where

@@ -2,7 +2,7 @@
 use Rattle.std.proofs.Common.{length, ◌≡◌, ◌∙◌, ap, subst, ℕ, Bool, true, false, List, [], ◌∷◌, ◌++◌, refl, arith}
 use Rattle.std.specs.Prelude.{◌||◌, nat_le, Option, Some, None}
 use Rattle.std.specs.List.{Contains, list_any}
-use Rattle.vp_model.specs.Types.{Change, TxnId, View, Stored, Op, Owner, Call, Answer, Reply, Input, Pending, Live, Ending, Finished, Refreshing, Doubt}
+use Rattle.vp_model.specs.Types.{Change, TxnId, View, Stored, Owner, Call, Answer, Reply, Input, Pending, Live, Ending, Finished, Refreshing, Doubt}
 use Rattle.vp_base.specs.declared.site.Ending.TheVariants.{Inaccessible, Committed, Aborted, LockHeld, ViewChanged, TimedOut}
 use Rattle.vp_model.specs.Types.answer
 use Rattle.vp_model.specs.Types.op

@@ -1,7 +1,7 @@
 -- What a step replies: an end of a transaction that it decides or closes now, or that has ended before; and each entry is replied.
 use Rattle.std.proofs.Common.{◌≡◌, ◌∙◌, map, append-nil, ap, sym, subst, ℕ, Bool, true, false, cond, List, [], ◌∷◌, ◌++◌, refl, ⊎_elim}
 use Rattle.std.specs.Prelude.{Option, Some, None}
-use Rattle.vp_model.specs.Types.{TxnId, Commit, Input, Stored, Effects, Op, Answer, Reply, Pending, Live, Ending, Refreshing, Doubt}
+use Rattle.vp_model.specs.Types.{TxnId, Commit, Input, Stored, Effects, Answer, Reply, Pending, Live, Ending, Refreshing, Doubt}
 use Rattle.vp_base.specs.declared.site.Ending.TheVariants.{Committed}
 use Rattle.vp_model.specs.Types.answer
 use Rattle.vp_model.specs.Types.op

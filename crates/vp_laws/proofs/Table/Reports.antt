@@ -8,16 +8,17 @@ use Rattle.vp_model.specs.Catalogue.{Catalogue}
 use Rattle.vp_model.specs.Site.{SiteState, Lent}
 use Rattle.vp_model.specs.Transactions.{Deed, deed_answer}
 use Rattle.vp_model.specs.Step.{step}
-use Rattle.vp_model.specs.Told.{reported, is_early_refusal}
+use Rattle.vp_model.specs.Told.{is_early_refusal}
+use Rattle.vp_laws.proofs.Table.Heard.{heard}
 use Rattle.vp_laws.proofs.Lists.Members.{Has, has_none, has_one_is, has_cases}
 use Rattle.vp_laws.proofs.Moves.Table.{next_view, Completes}
 use Rattle.vp_laws.proofs.Table.Kept.{kept_has}
 use Rattle.vp_laws.proofs.Moves.Reasons.{Tells, told_to, last_reply, IsDone, Front}
 use Rattle.vp_laws.proofs.Moves.FrontSteps.{step-front}
-use Rattle.vp_laws.proofs.Table.Told.{completed_says, IsKept, AreLate, IsSilent, plain_unreported, last_silent, why_late, late_more, end_unreported}
+use Rattle.vp_laws.proofs.Table.Told.{completed_says, IsKept, AreLate, IsSilent, plain_unheard, last_silent, why_late, late_more, end_unheard}
 
 pub data Cause (catalogue : Catalogue) (x : SiteState) (given : Input) (rs : List Reply) : Answer → Type 0 where
-  nothing : {a : Answer} → ((u : TxnId) → reported u a ≡ None) → Cause catalogue x given rs a
+  nothing : {a : Answer} → ((u : TxnId) → heard u a ≡ None) → Cause catalogue x given rs a
   kept : {a : Answer} → IsKept x a → Cause catalogue x given rs a
   done : (t : Live) (p : Pending) (deed : Deed) (l : Lent) → Has x.live t → IsDone x given t p → Completes catalogue x given t p deed l → AreLate rs → Cause catalogue x given rs (deed_answer t.txn p.number deed)
 
@@ -32,11 +33,11 @@ module _ (catalogue : Catalogue) (x : SiteState) (given : Input) where
   one port a c r h = subst (λ (r : Reply). Cause catalogue x given (told_to port a ∷ []) r.answer) (has_one_is (told_to port a) r h) c
 
   tells : (rs : List Reply) (port : ℕ) (words : Answer) → Tells catalogue x given port words → Cause catalogue x given rs words
-  tells rs _ words (Tells.plain w e port called c is) = Cause.nothing (λ u. plain_unreported u w e)
+  tells rs _ words (Tells.plain w e port called c is) = Cause.nothing (λ u. plain_unheard u w e)
   tells rs _ words (Tells.inaccessible t p name rec exclusive deed weights at op f a e) = Cause.nothing (λ u. refl)
   tells rs _ words (Tells.again t number w h e c) = Cause.kept (IsKept.live t h (kept_has number t.answers w e))
   tells rs _ words (Tells.finished_again f number w h e c) = Cause.kept (IsKept.finished f h (kept_has number f.answers w e))
-  tells rs _ words (Tells.ended f number h e c) = Cause.nothing (λ u. end_unreported u f.txn number f.ending)
+  tells rs _ words (Tells.ended f number h e c) = Cause.nothing (λ u. end_unheard u f.txn number f.ending)
 
   alone_late : (port : ℕ) (a : Answer) → is_early_refusal a ≡ false → AreLate (told_to port a ∷ [])
   alone_late port a e r h = subst (λ (r : Reply). is_early_refusal r.answer ≡ false) (has_one_is (told_to port a) r h) e
@@ -51,7 +52,7 @@ module _ (catalogue : Catalogue) (x : SiteState) (given : Input) where
 
   inviting_silent : (port : ℕ) → IsSilent (told_to port (answer.Inviting (next_view x)) ∷ [])
   inviting_silent port = record {
-    reports = λ u r h. subst (λ (r : Reply). reported u r.answer ≡ None) (has_one_is (told_to port (answer.Inviting (next_view x))) r h) refl;
+    reports = λ u r h. subst (λ (r : Reply). heard u r.answer ≡ None) (has_one_is (told_to port (answer.Inviting (next_view x))) r h) refl;
     late = alone_late port (answer.Inviting (next_view x)) refl;
   }
 

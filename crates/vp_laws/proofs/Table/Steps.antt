@@ -1,7 +1,7 @@
 -- Where each live transaction, each request and each entry of a step comes from.
 use Rattle.std.proofs.Common.{◌≡◌, ◌≢◌, ◌∙◌, ap, sym, subst, ℕ, Bool, true, false, List, [], ◌∷◌, ◌++◌, map, refl, ⊎_elim, append-nil}
-use Rattle.std.specs.Prelude.{Option, Some, None}
-use Rattle.vp_model.specs.Types.{TxnId, View, Sent, Commit, Input, Effects, Op, Answer, Pending, Live, Ending, Message}
+use Rattle.std.specs.Prelude.{Some, None}
+use Rattle.vp_model.specs.Types.{TxnId, View, Sent, Commit, Input, Effects, Pending, Live, Ending, Message}
 use Rattle.vp_base.specs.declared.site.Ending.TheVariants.{Committed}
 use Rattle.vp_model.specs.Types.input
 use Rattle.vp_model.specs.Types.message
@@ -18,7 +18,7 @@ use Rattle.vp_laws.proofs.Lists.Members.{Has, has_none, has_one_is, has_cases, m
 use Rattle.vp_laws.proofs.Lists.Changes.{without_first_has}
 use Rattle.vp_laws.proofs.Lists.Names.{Apart, named, apart_without, change_cases, apart_change, apart_more, apart_mark}
 use Rattle.vp_laws.proofs.Moves.Frames.{Ends, close-ends, close-commits, decided-ends, decided-commits, decide-cases}
-use Rattle.vp_laws.proofs.Moves.Table.{next_name, lent_at, Handled, IsNext, Reads, Changes, Counts, remaining, Locked, Completes, Decides, Closed, OfCoordinator, SendsBack}
+use Rattle.vp_laws.proofs.Moves.Table.{next_name, lent_at, Handled, IsNext, Reads, Changes, Counts, remaining, Locked, Completes, Decides, Closed, OfCoordinator, SendsBack, May}
 use Rattle.vp_laws.proofs.Moves.Rows.{step-keeps}
 use Rattle.vp_laws.proofs.Moves.LocalViews.{letter}
 use Rattle.vp_laws.proofs.Table.Led.{Led}
@@ -39,6 +39,7 @@ pub record AskingRead (catalogue : Catalogue) (x : SiteState) (given : Input) (u
 pub record AskingWrite (catalogue : Catalogue) (x : SiteState) (given : Input) (u : Live) (p : Pending) (rec : ℕ) (deed : Deed) : Type 0 where
   pub next : IsNext given u p
   pub writes : Changes catalogue p rec deed
+  pub may : May catalogue x u rec deed
   pub usable : is_open catalogue x rec ≡ true
   pub unwritten : value_at rec (last_changes (entry_of u)) ≡ None
   pub others : is_empty (other_holders catalogue x rec) ≡ false
@@ -222,7 +223,7 @@ module _ (catalogue : Catalogue) (x : SiteState) (given : Input) (led : Led x) (
     take_lock = λ t rec exclusive stored h i a v c. starts;
     complete = λ t p deed l h g y e r. completes t p deed l h g e;
     read_at = λ t p rec q h n r a w c o y. reads_at t p rec q h (record { next = n; reads = r; usable = a; unwritten = w; no_copy = c; holder = o });
-    write_at = λ t p rec value l h n w a e o d y v r. writes_at t p rec value l h (record { next = n; writes = w; usable = a.usable; unwritten = e; others = o }) d v;
+    write_at = λ t p rec value l h n w a e o d y v r. writes_at t p rec value l h (record { next = n; writes = w; may = a; usable = a.usable; unwritten = e; others = o }) d v;
     prepare_parts = λ t p h i g e. asks_votes t p h (record { next = i; commit = g; parts = e });
     still_waits = λ t p from h e m f c. moves_on (waiting t p (remaining from p)) x.coordinator [] refl (LiveNow.waits t p from h e m f c refl) (λ m k o. absurd (has_none m k));
     decide = λ t n d. decides t n d;

@@ -18,6 +18,7 @@ use Rattle.vp_model.specs.Answers.{with_acknowledged}
 use Rattle.vp_model.specs.Step.{mark, step}
 use Rattle.vp_model.specs.Told.{reported, is_early_refusal, told_by, named_in}
 use Rattle.vp_laws.proofs.Table.ToldLines.{Report}
+use Rattle.vp_laws.proofs.Table.Heard.{Heard, heard}
 use Rattle.vp_laws.specs.Reports.{is_of_kind}
 use Rattle.vp_laws.proofs.Lists.Members.{Has, has_none, has_first, has_more, has_one_is, has_cases, map_has}
 use Rattle.vp_laws.proofs.Lists.Changes.{without_first_has}
@@ -39,17 +40,17 @@ pub data Reported (catalogue : Catalogue) (txn : TxnId) (p : Pending) : Deed →
 -- what a call that is done is told
 pub record SaysDone (catalogue : Catalogue) (txn : TxnId) (p : Pending) (deed : Deed) : Type 0 where
   pub reports : Reported catalogue txn p deed
-  pub others : (u : TxnId) → txn ≢ u → reported u (deed_answer txn p.number deed) ≡ None
+  pub others : (u : TxnId) → txn ≢ u → heard u (deed_answer txn p.number deed) ≡ None
   pub late : is_early_refusal (deed_answer txn p.number deed) ≡ false
 
 -- an end reports nothing
-pub end_unreported : (u txn : TxnId) (k : ℕ) (why : Ending) → reported u (answer_of txn k why) ≡ None
-end_unreported u txn k Committed = refl
-end_unreported u txn k Aborted = refl
-end_unreported u txn k (LockHeld name at holder) = refl
-end_unreported u txn k (ViewChanged at held now) = refl
-end_unreported u txn k (TimedOut at) = refl
-end_unreported u txn k (Inaccessible name inside total) = refl
+pub end_unheard : (u txn : TxnId) (k : ℕ) (why : Ending) → heard u (answer_of txn k why) ≡ None
+end_unheard u txn k Committed = refl
+end_unheard u txn k Aborted = refl
+end_unheard u txn k (LockHeld name at holder) = refl
+end_unheard u txn k (ViewChanged at held now) = refl
+end_unheard u txn k (TimedOut at) = refl
+end_unheard u txn k (Inaccessible name inside total) = refl
 
 -- an end that no call is refused by early
 abbrev pub is_late : Ending → Bool
@@ -65,12 +66,12 @@ end_late txn k (ViewChanged at held now) e = refl
 end_late txn k (TimedOut at) e = refl
 end_late txn k (Inaccessible name inside total) e = cc
 
-deed_others : (txn u : TxnId) (number : ℕ) (deed : Deed) → txn ≢ u → reported u (deed_answer txn number deed) ≡ None
+deed_others : (txn u : TxnId) (number : ℕ) (deed : Deed) → txn ≢ u → heard u (deed_answer txn number deed) ≡ None
 deed_others txn u number (Deed.operates (op.Read rec None)) n = let other = same_txn-other txn u n in rw other refl
 deed_others txn u number (Deed.operates (op.Read rec (Some value))) n = let other = same_txn-other txn u n in rw other refl
 deed_others txn u number (Deed.operates (op.Write rec None)) n = let other = same_txn-other txn u n in rw other refl
 deed_others txn u number (Deed.operates (op.Write rec (Some value))) n = let other = same_txn-other txn u n in rw other refl
-deed_others txn u number (Deed.weighs rec table) n = refl
+deed_others txn u number (Deed.weighs rec table) n = let other = same_txn-other txn u n in rw other refl
 
 deed_late : (txn : TxnId) (number : ℕ) (deed : Deed) → is_early_refusal (deed_answer txn number deed) ≡ false
 deed_late txn number (Deed.operates (op.Read rec None)) = refl
@@ -128,9 +129,12 @@ why_late catalogue x given after t _ (Why.other_view p from now a c) = refl
 why_late catalogue x given after t _ (Why.left h e) = refl
 why_late catalogue x given after t _ (Why.timed_out missing h) = refl
 
--- the reports of a transaction among the replies
+-- the reports of a transaction among the replies, and all that they say of calls that are done
 abbrev pub told_of : TxnId → List Reply → List Report
 told_of u rs = filter_map (reported u) (map (λ (r : Reply). r.answer) rs)
+
+abbrev pub heard_of : TxnId → List Reply → List Heard
+heard_of u rs = filter_map (heard u) (map (λ (r : Reply). r.answer) rs)
 
 -- the site keeps the answer
 pub data IsKept (x : SiteState) (a : Answer) : Type 0 where
@@ -139,16 +143,16 @@ pub data IsKept (x : SiteState) (a : Answer) : Type 0 where
 
 -- each reply reports nothing of the transaction, or was given before
 abbrev pub Repeats : SiteState → TxnId → List Reply → Type 0
-Repeats x u rs = (r : Reply) → Has rs r → (reported u r.answer ≡ None) ⊎ IsKept x r.answer
+Repeats x u rs = (r : Reply) → Has rs r → (heard u r.answer ≡ None) ⊎ IsKept x r.answer
 
 -- no reply is an early refusal
 abbrev pub AreLate : List Reply → Type 0
 AreLate rs = (r : Reply) → Has rs r → is_early_refusal r.answer ≡ false
 
 pub data LiveTold (catalogue : Catalogue) (x : SiteState) (given : Input) (rs : List Reply) (t : Live) : Type 0 where
-  was : (u : Live) → Has x.live u → u.txn ≡ t.txn → u.ops ≡ t.ops → u.answers ≡ t.answers → SameCall u.pending t.pending → Repeats x t.txn rs → LiveTold catalogue x given rs t
-  goes : (u : Live) (p q : Pending) → Takes x given u p → u.txn ≡ t.txn → u.ops ≡ t.ops → u.answers ≡ t.answers → t.pending ≡ Some q → p.call ≡ q.call → Repeats x t.txn rs → AreLate rs → LiveTold catalogue x given rs t
-  completed : (u : Live) (p : Pending) (deed : Deed) (l : Lent) → Has x.live u → IsDone x given u p → Completes catalogue x given u p deed l → done u p deed ≡ t → told_of u.txn rs ≡ told_of u.txn (told_to p.port (deed_answer u.txn p.number deed) ∷ []) → AreLate rs → LiveTold catalogue x given rs t
+  was : (u : Live) → Has x.live u → u.txn ≡ t.txn → u.ops ≡ t.ops → u.tables ≡ t.tables → u.answers ≡ t.answers → SameCall u.pending t.pending → Repeats x t.txn rs → LiveTold catalogue x given rs t
+  goes : (u : Live) (p q : Pending) → Takes x given u p → u.txn ≡ t.txn → u.ops ≡ t.ops → u.tables ≡ t.tables → u.answers ≡ t.answers → t.pending ≡ Some q → p.call ≡ q.call → Repeats x t.txn rs → AreLate rs → LiveTold catalogue x given rs t
+  completed : (u : Live) (p : Pending) (deed : Deed) (l : Lent) → Has x.live u → IsDone x given u p → Completes catalogue x given u p deed l → done u p deed ≡ t → heard_of u.txn rs ≡ heard_of u.txn (told_to p.port (deed_answer u.txn p.number deed) ∷ []) → AreLate rs → LiveTold catalogue x given rs t
   begins : (port : ℕ) (view : View) → given ≡ input.Call port call.Begin → begun (next_name x) view.id ≡ t → Repeats x t.txn rs → LiveTold catalogue x given rs t
 
 pub record ToldNow (catalogue : Catalogue) (x : SiteState) (given : Input) (c : CoordinatorState) (rs : List Reply) (cs : List Commit) : Type 0 where
@@ -156,28 +160,29 @@ pub record ToldNow (catalogue : Catalogue) (x : SiteState) (given : Input) (c : 
   pub others : (u : TxnId) → NotLive x.live u → Repeats x u rs
   pub entered : (e : Commit) → Has cs e → Repeats x e.txn rs
 
-pub plain_unreported : (u : TxnId) (a : Answer) → is_plain a ≡ true → reported u a ≡ None
-plain_unreported u (answer.Value txn number value) e = cc
-plain_unreported u (answer.Written txn number) e = cc
-plain_unreported u (answer.Absent txn number) e = cc
-plain_unreported u (answer.Deleted txn number) e = cc
-plain_unreported u _ e = refl
+pub plain_unheard : (u : TxnId) (a : Answer) → is_plain a ≡ true → heard u a ≡ None
+plain_unheard u (answer.Value txn number value) e = cc
+plain_unheard u (answer.Written txn number) e = cc
+plain_unheard u (answer.Absent txn number) e = cc
+plain_unheard u (answer.Deleted txn number) e = cc
+plain_unheard u (answer.Weighed txn number) e = cc
+plain_unheard u _ e = refl
 
 -- what reports nothing of any transaction, and refuses nothing early
 pub record IsSilent (rs : List Reply) : Type 0 where
-  pub reports : (u : TxnId) (r : Reply) → Has rs r → reported u r.answer ≡ None
+  pub reports : (u : TxnId) (r : Reply) → Has rs r → heard u r.answer ≡ None
   pub late : AreLate rs
 
-none_told : (u : TxnId) (rs : List Reply) → ((r : Reply) → Has rs r → reported u r.answer ≡ None) → told_of u rs ≡ []
+none_told : (u : TxnId) (rs : List Reply) → ((r : Reply) → Has rs r → heard u r.answer ≡ None) → heard_of u rs ≡ []
 none_told u [] h = refl
 none_told u (r ∷ rs) h = rw (h r (has_first r rs)) (none_told u rs (λ q k. h q (has_more r rs q k)))
 
-told_more : (u : TxnId) (rs more : List Reply) → ((r : Reply) → Has more r → reported u r.answer ≡ None) → told_of u (rs ++ more) ≡ told_of u rs
+told_more : (u : TxnId) (rs more : List Reply) → ((r : Reply) → Has more r → heard u r.answer ≡ None) → heard_of u (rs ++ more) ≡ heard_of u rs
 told_more u rs more h =
-    ap (filter_map (reported u)) (map-append (λ (r : Reply). r.answer) rs more)
-    ∙ filter_map-append (reported u) (map (λ (r : Reply). r.answer) rs) (map (λ (r : Reply). r.answer) more)
-    ∙ ap (λ (l : List Report). told_of u rs ++ l) (none_told u more h)
-    ∙ append-nil (told_of u rs)
+    ap (filter_map (heard u)) (map-append (λ (r : Reply). r.answer) rs more)
+    ∙ filter_map-append (heard u) (map (λ (r : Reply). r.answer) rs) (map (λ (r : Reply). r.answer) more)
+    ∙ ap (λ (l : List Heard). heard_of u rs ++ l) (none_told u more h)
+    ∙ append-nil (heard_of u rs)
 
 module _ (catalogue : Catalogue) (x : SiteState) (given : Input) where
   repeats_more : (u : TxnId) (rs more : List Reply) → IsSilent more → Repeats x u rs → Repeats x u (rs ++ more)
@@ -187,13 +192,13 @@ module _ (catalogue : Catalogue) (x : SiteState) (given : Input) where
   late_more rs more s h r k = ⊎_elim (λ old. h r old) (λ new. s.late r new) (has_cases rs more r k)
 
   live_more : (rs more : List Reply) (t : Live) → IsSilent more → LiveTold catalogue x given rs t → LiveTold catalogue x given (rs ++ more) t
-  live_more rs more t s (LiveTold.was u h a b c d e) = LiveTold.was u h a b c d (repeats_more t.txn rs more s e)
-  live_more rs more t s (LiveTold.goes u p q at a b c d e f g) = LiveTold.goes u p q at a b c d e (repeats_more t.txn rs more s f) (late_more rs more s g)
+  live_more rs more t s (LiveTold.was u h a b gave c d e) = LiveTold.was u h a b gave c d (repeats_more t.txn rs more s e)
+  live_more rs more t s (LiveTold.goes u p q at a b gave c d e f g) = LiveTold.goes u p q at a b gave c d e (repeats_more t.txn rs more s f) (late_more rs more s g)
   live_more rs more t s (LiveTold.completed u p deed l h d c is e g) = LiveTold.completed u p deed l h d c is (told_more u.txn rs more (s.reports u.txn) ∙ e) (late_more rs more s g)
   live_more rs more t s (LiveTold.begins port view c is e) = LiveTold.begins port view c is (repeats_more t.txn rs more s e)
 
   pub last_silent : (t : Live) (why : Ending) → is_late why ≡ true → IsSilent (last_reply t why)
-  last_silent t why timely = record { reports = λ u r h. rw (← (last t.pending r h).1) (end_unreported u t.txn (last t.pending r h).0 why); late = λ r h. rw (← (last t.pending r h).1) (end_late t.txn (last t.pending r h).0 why timely) }
+  last_silent t why timely = record { reports = λ u r h. rw (← (last t.pending r h).1) (end_unheard u t.txn (last t.pending r h).0 why); late = λ r h. rw (← (last t.pending r h).1) (end_late t.txn (last t.pending r h).0 why timely) }
     where
       last : (q : Option Pending) (r : Reply) → Has (option_to_list (option_map (λ p. told_to p.port (answer_of t.txn p.number why)) q)) r → (number : ℕ) × (answer_of t.txn number why ≡ r.answer)
       last None r h = absurd (has_none r h)
@@ -214,21 +219,21 @@ module _ (catalogue : Catalogue) (x : SiteState) (given : Input) where
     same_call (Some p) = SameCall.same p p refl refl refl
 
     as_was : (rs : List Reply) (t : Live) → Has x.live t → Repeats x t.txn rs → LiveTold catalogue x given rs t
-    as_was rs t h e = LiveTold.was t h refl refl refl (same_call t.pending) e
+    as_was rs t h e = LiveTold.was t h refl refl refl refl (same_call t.pending) e
 
     starts : G x.coordinator [] []
     starts = record { live = λ t h. as_was [] t h (no_replies t.txn); others = λ u n. no_replies u; entered = λ e h. absurd (has_none e h) }
 
     -- one reply
-    one_reply : (u : TxnId) (port : ℕ) (a : Answer) → (reported u a ≡ None) ⊎ IsKept x a → Repeats x u (told_to port a ∷ [])
-    one_reply u port a h r k = subst (λ (r : Reply). (reported u r.answer ≡ None) ⊎ IsKept x r.answer) (has_one_is (told_to port a) r k) h
+    one_reply : (u : TxnId) (port : ℕ) (a : Answer) → (heard u a ≡ None) ⊎ IsKept x a → Repeats x u (told_to port a ∷ [])
+    one_reply u port a h r k = subst (λ (r : Reply). (heard u r.answer ≡ None) ⊎ IsKept x r.answer) (has_one_is (told_to port a) r k) h
 
-    tells : (u : TxnId) (port : ℕ) (words : Answer) → Tells catalogue x given port words → (reported u words ≡ None) ⊎ IsKept x words
-    tells u _ words (Tells.plain w e port called c is) = inl (plain_unreported u w e)
+    tells : (u : TxnId) (port : ℕ) (words : Answer) → Tells catalogue x given port words → (heard u words ≡ None) ⊎ IsKept x words
+    tells u _ words (Tells.plain w e port called c is) = inl (plain_unheard u w e)
     tells u _ words (Tells.inaccessible t p name rec exclusive deed weights at op f a e) = inl refl
     tells u _ words (Tells.again t number w h e c) = inr (IsKept.live t h (kept_has number t.answers w e))
     tells u _ words (Tells.finished_again f number w h e c) = inr (IsKept.finished f h (kept_has number f.answers w e))
-    tells u _ words (Tells.ended f number h e c) = inl (end_unreported u f.txn number f.ending)
+    tells u _ words (Tells.ended f number h e c) = inl (end_unheard u f.txn number f.ending)
 
     -- nothing is replied
     silent : (c : CoordinatorState) → ((t : Live) → Has c.live t → LiveTold catalogue x given [] t) → G c [] []
@@ -239,9 +244,9 @@ module _ (catalogue : Catalogue) (x : SiteState) (given : Input) where
     moved u new a k = ⊎_elim (λ (is : a ≡ u). subst (LiveTold catalogue x given []) (sym is) new) (λ old. as_was [] a old.0 (no_replies a.txn)) (change_cases u x.live apart a k)
 
     goes_on : (t u : Live) (p : Pending) → Takes x given t p → Goes t p u → LiveTold catalogue x given [] u
-    goes_on t u p at (Goes.reads rec q) = LiveTold.goes t p (record p { missing = q ∷ [] }) at refl refl refl refl refl (no_replies t.txn) none_early
-    goes_on t u p at (Goes.writes sites) = LiveTold.goes t p (record p { missing = sites }) at refl refl refl refl refl (no_replies t.txn) none_early
-    goes_on t u p at (Goes.prepares sites) = LiveTold.goes t p (record p { missing = sites }) at refl refl refl refl refl (no_replies t.txn) none_early
+    goes_on t u p at (Goes.reads rec q) = LiveTold.goes t p (record p { missing = q ∷ [] }) at refl refl refl refl refl refl (no_replies t.txn) none_early
+    goes_on t u p at (Goes.writes sites) = LiveTold.goes t p (record p { missing = sites }) at refl refl refl refl refl refl (no_replies t.txn) none_early
+    goes_on t u p at (Goes.prepares sites) = LiveTold.goes t p (record p { missing = sites }) at refl refl refl refl refl refl (no_replies t.txn) none_early
 
     completes : (t : Live) (p : Pending) (deed : Deed) (l : Lent) → Has x.live t → IsDone x given t p → Completes catalogue x given t p deed l → G (put_live (done t p deed) x.coordinator) (told_to p.port (deed_answer t.txn p.number deed) ∷ []) []
     completes t p deed l h d c =
@@ -273,18 +278,18 @@ module _ (catalogue : Catalogue) (x : SiteState) (given : Input) where
     }
 
     mark_told : (rs : List Reply) (t : Live) → LiveTold catalogue x given rs t → LiveTold catalogue x given rs (mark t)
-    mark_told rs t (LiveTold.was u h a b c d e) = LiveTold.was u h a b c (marked_same d) e
+    mark_told rs t (LiveTold.was u h a b gave c d e) = LiveTold.was u h a b gave c (marked_same d) e
       where
         marked_same : SameCall u.pending t.pending → SameCall u.pending (mark t).pending
         marked_same (SameCall.none e f) = SameCall.none e (rw f refl)
         marked_same (SameCall.same p q e f g) = SameCall.same p (record q { marked = true }) e (rw f refl) g
-    mark_told rs t (LiveTold.goes u p q at a b c d e f g) = LiveTold.goes u p (record q { marked = true }) at a b c (rw d refl) e f g
+    mark_told rs t (LiveTold.goes u p q at a b gave c d e f g) = LiveTold.goes u p (record q { marked = true }) at a b gave c (rw d refl) e f g
     mark_told rs t (LiveTold.completed u p deed l h d c is e g) = LiveTold.completed u p deed l h d c (ap mark is) e g
     mark_told rs t (LiveTold.begins port view c is e) = LiveTold.begins port view c (ap mark is) e
 
     inviting_silent : (port : ℕ) → IsSilent (told_to port (answer.Inviting (next_view x)) ∷ [])
     inviting_silent port = record {
-      reports = λ u r h. subst (λ (r : Reply). reported u r.answer ≡ None) (has_one_is (told_to port (answer.Inviting (next_view x))) r h) refl;
+      reports = λ u r h. subst (λ (r : Reply). heard u r.answer ≡ None) (has_one_is (told_to port (answer.Inviting (next_view x))) r h) refl;
       late = λ r h. subst (λ (r : Reply). is_early_refusal r.answer ≡ false) (has_one_is (told_to port (answer.Inviting (next_view x))) r h) refl;
     }
 
@@ -304,7 +309,7 @@ module _ (catalogue : Catalogue) (x : SiteState) (given : Input) where
       };
       complete = λ t p deed l h d c. completes t p deed l h d c;
       goes = λ t u p at g. silent (put_live u x.coordinator) (moved u (goes_on t u p at g));
-      still = λ t p sites a. silent (put_live (waiting t p sites) x.coordinator) (moved (waiting t p sites) (LiveTold.was t a.live refl refl refl (SameCall.same p (record p { missing = sites }) a.pending refl refl) (no_replies t.txn)));
+      still = λ t p sites a. silent (put_live (waiting t p sites) x.coordinator) (moved (waiting t p sites) (LiveTold.was t a.live refl refl refl refl (SameCall.same p (record p { missing = sites }) a.pending refl refl) (no_replies t.txn)));
       decide = λ t c n d w v f s. commits t c _ v;
       close = λ t why c rs n w g. more c (with_finished t why c) rs (last_reply t why) (last_silent t why (why_late catalogue x given after t why w)) (λ a h. without_first_has (named t.txn) c.live a h) g;
       marks = λ c rs g. record {

@@ -20,7 +20,7 @@ Report = ℕ × Option (Option (List ℕ))
 abbrev pub collected : TxnId → List Answer → List Report → List Report
 collected u answers before = for_each (filter_map (reported u) answers) put_first before
 
-flat_last : {X Y : Type 0} (f : X → List Y) (xs : List X) (x : X) → flat_map f (xs ++ x ∷ []) ≡ flat_map f xs ++ f x
+pub flat_last : {X Y : Type 0} (f : X → List Y) (xs : List X) (x : X) → flat_map f (xs ++ x ∷ []) ≡ flat_map f xs ++ f x
 flat_last f [] x = append-nil (f x)
 flat_last f (y ∷ xs) x = ap (λ z. f y ++ z) (flat_last f xs x) ∙ sym (append_assoc (f y) (flat_map f xs) (f x))
 

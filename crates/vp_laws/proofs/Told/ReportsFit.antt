@@ -3,7 +3,7 @@
 use Rattle.std.proofs.Common.{◌≡◌, ◌≢◌, ◌∙◌, ap, sym, subst, ℕ, ◌+◌, true, false, List, [], ◌∷◌, ◌++◌, map, length, ⊎_elim}
 use Rattle.std.specs.Prelude.{Some, None}
 use Rattle.vp_model.specs.Transactions.{deed_answer, Deed}
-use Rattle.vp_model.specs.Types.{TxnId, Op, Call, Answer, Event, Input, Line, Reply, Pending, Live}
+use Rattle.vp_model.specs.Types.{TxnId, Call, Answer, Event, Input, Line, Reply, Pending, Live}
 use Rattle.vp_model.specs.Catalogue.{Catalogue, start_copies}
 use Rattle.vp_model.specs.Durable.{empty_durable}
 use Rattle.vp_model.specs.Site.{SiteState, Lent}
@@ -11,6 +11,7 @@ use Rattle.vp_model.specs.Step.{step}
 use Rattle.vp_model.specs.Told.{is_step, answers_in, replies_in, reported, taken_call, named_in}
 use Rattle.vp_model.specs.World.{WorldState, Moved, Moment, Run, Schedule, moment, next, one_step, site_step, start_world, moments_of}
 use Rattle.vp_laws.proofs.Table.ToldLines.{Report, lines_in, lines_last, taken_on}
+use Rattle.vp_laws.proofs.Table.Heard.{unheard_report}
 use Rattle.vp_laws.specs.Reports.{is_of_kind, RepliesFitCalls}
 use Rattle.vp_laws.proofs.Lists.Members.{Has, has_of, has_none, has_cases, has_one_is, map_has}
 use Rattle.vp_laws.proofs.Lists.Changes.{mapped_has}
@@ -91,7 +92,7 @@ module _ (catalogue : Catalogue) (world : WorldState) (lines : List Line) (m0 : 
         fits.2,
         fits.3,
       ))
-      (λ (other : t.txn ≢ u). absurd (let z = says.others u other in cc))
+      (λ (other : t.txn ≢ u). absurd (let z = unheard_report u _ (says.others u other) in cc))
       (same_or_not t.txn u)
     where
       says : SaysDone catalogue t.txn p deed
@@ -108,7 +109,7 @@ module _ (catalogue : Catalogue) (world : WorldState) (lines : List Line) (m0 : 
       number = done_number catalogue world lines m0 s x given up arrives is told t p here how
 
   caused : (a : Answer) → Cause catalogue x given (step catalogue x given).effects.replies a → Fits catalogue more a
-  caused a (Cause.nothing none) = silent_fits catalogue more a none
+  caused a (Cause.nothing none) = silent_fits catalogue more a (λ u. unheard_report u a (none u))
   caused a (Cause.kept k) = old_fits a k
   caused _ (Cause.done t p deed l here how c late) = done_fits t p deed l here how c late
 
@@ -121,7 +122,7 @@ module _ (catalogue : Catalogue) (world : WorldState) (lines : List Line) (m0 : 
   kept_now : (j : ℕ) (y : SiteState) (a : Answer) → IsKept y a → NowIs (scene_of world) s (step catalogue x given).site j y → Fits catalogue more a
   kept_now j y a k (NowIs.other away old) = fits_on catalogue lines m0.line a (h.kept j y a old k)
   kept_now j y a k (NowIs.here here same) =
-      kept_here catalogue world lines m0 s x given up arrives is told (Fits catalogue more) old_fits (silent_fits catalogue more) (λ t p deed l here how c one late. done_fits t p deed l here how c late) a (subst (λ (y : SiteState). IsKept y a) (sym same) k)
+      kept_here catalogue world lines m0 s x given up arrives is told (Fits catalogue more) old_fits (λ a none. silent_fits catalogue more a (λ u. unheard_report u a (none u))) (λ t p deed l here how c one late. done_fits t p deed l here how c late) a (subst (λ (y : SiteState). IsKept y a) (sym same) k)
 
   step_fits : FitsAt catalogue (acted (scene_of world) s x (step catalogue x given)) more
   step_fits = record {

@@ -19,6 +19,7 @@ use Rattle.vp_model.specs.Told.{answers_in, reported, reports}
 use Rattle.vp_model.specs.World.{WorldState, Moment}
 use Rattle.vp_model.specs.Justified.{told_from}
 use Rattle.vp_laws.proofs.Table.ToldLines.{Report, reports-silent}
+use Rattle.vp_laws.proofs.Table.Heard.{heard}
 use Rattle.vp_laws.proofs.Table.ToldCalls.{TellsCall}
 use Rattle.vp_laws.proofs.Lists.Members.{Has, has_none, has_cases, has_one_is, map_has}
 use Rattle.vp_laws.proofs.Moves.Table.{Comes, Handled, Completes}
@@ -215,7 +216,7 @@ module _ (catalogue : Catalogue) (world : WorldState) (lines : List Line) (m0 : 
   no_operation : ((t : Live) (p : Pending) (deed : Deed) (l : Lent) → Has x.live t → Completes catalogue x given t p deed l → ⊥) → (u : TxnId) → Repeats x u o.effects.replies
   no_operation none u r there = go r.answer (causes-step catalogue x given r there)
     where
-      go : (a : Answer) → Cause catalogue x given o.effects.replies a → (reported u a ≡ None) ⊎ IsKept x a
+      go : (a : Answer) → Cause catalogue x given o.effects.replies a → (heard u a ≡ None) ⊎ IsKept x a
       go a (Cause.nothing e) = inl (e u)
       go a (Cause.kept q) = inr q
       go _ (Cause.done t p deed l live how completes late) = absurd (none t p deed l live completes)

@@ -25,6 +25,7 @@ use Rattle.vp_model.specs.Headline.{is_locked}
 use Rattle.vp_model.specs.World.{Schedule, run_of}
 use Rattle.vp_laws.specs.Votes.{is_commit}
 use Rattle.vp_laws.specs.Completeness.{LastVotesCommit, IsNextOperation, ReadableCopiesAreRead}
+use Rattle.vp_laws.proofs.Journal.Changed.{operation_changed}
 use Rattle.vp_laws.proofs.Lists.Members.{Has, has_of, contains, has_none, has_first, has_more, has_cons, any_false, either_false, both_true, not_true, has_test}
 use Rattle.vp_model.proofs.SameTxn.{same_txn-is, same_txn-self}
 use Rattle.vp_laws.proofs.Lists.Names.{Apart}
@@ -142,7 +143,7 @@ readable_copies_are_read s site port number rec name x t copy up there next copi
     written value e =
         let p = value_key rec (last_writes t.ops) value e in
         let w = last_written t.ops p.0 p.1 in
-        locked ((((known_now s).guards.site site x up).own t (has_of x.live t there)).wrote rec w.0 (subst (λ (n : ℕ). Has t.ops (op.Write n w.0)) p.2 w.1) (copied_key rec x.copies copy copied))
+        locked ((((known_now s).guards.site site x up).own t (has_of x.live t there)).wrote rec (operation_changed t rec w.0 (subst (λ (n : ℕ). Has t.ops (op.Write n w.0)) p.2 w.1)) (copied_key rec x.copies copy copied))
 
     unwritten : value_at rec (last_writes t.ops) ≡ None
     unwritten = go (value_at rec (last_writes t.ops)) refl

@@ -8,7 +8,7 @@ use Rattle.vp_model.proofs.Computed.{computes}
 use Rattle.vp_runs.specs.Asking.{answer_of}
 use Rattle.vp_runs.proofs.WorkedRuns.{spells}
 use Rattle.vp_gateway.specs.Lines.{bad_line, long_line}
-use Rattle.vp_gateway.specs.Worked.{read, reply, txn}
+use Rattle.vp_gateway.specs.Worked.{call_of_read, reply, txn}
 use Rattle.vp_gateway.specs.declared.asked.LineRequest.TheVariants as asked
 use Rattle.vp_gateway.proofs.WorkedSessions.{reads, bad_more, call_more, long_more, none_more}
 use Rattle.vp_gateway.proofs.worked.answers_of_a_session.Goals as goal
@@ -16,7 +16,7 @@ use Rattle.vp_gateway.proofs.worked.answers_of_a_session.Goals as goal
 pub returns-clause-answered : goal.returns-clause-answered
 unfolding computes spells reads u64_at view_at answer_of
 returns-clause-answered c old new said has s =
-    let one = call_more 7001 1 call.Begin (reply (answer.Begun txn opening)) (reply (answer.Value txn 1 (codes "10")) ∷ []) (read ∷ asked.Bad 1 ∷ []) said old new has s in
+    let one = call_more 7001 1 call.Begin (reply (answer.Begun txn opening)) (reply (answer.Value txn 1 (codes "10")) ∷ []) (call_of_read ∷ asked.Bad 1 ∷ []) said old new has s in
     let two = call_more 7001 1 (call.Read txn 1 (codes "x")) (reply (answer.Value txn 1 (codes "10"))) [] (asked.Bad 1 ∷ []) one.rest one.mid new one.left_is one.session in
     let three = bad_more 7001 1 1 two.mid new two.rest 1 [] two.session in
     let none = none_more 7001 1 1 two.mid new three.0 three.2 in

@@ -2,7 +2,7 @@ use Rattle.std.proofs.Common.{◌∙◌, ◌==◌, nat_eq, sym, ap, ap₂}
 use Rattle.std.specs.List.{filter_map, list_any}
 use Rattle.vp_model.specs.Locks.{holds}
 use Rattle.vp_locks.specs.Index.{places_of, owner_key, key_eq, on_rec, owned_by}
-use Rattle.vp_locks.specs.Places.{lock_at, present}
+use Rattle.vp_locks.specs.Places.{lock_at, present_locks}
 use Rattle.vp_locks.proofs.Indexes.{held_of, fits_rec, fits_owner}
 use Rattle.vp_locks.proofs.Listed.{none_held}
 use Rattle.vp_locks.proofs.Locks.has.Goals as goal
@@ -13,7 +13,7 @@ returns-then-not-has c =
     let owner = c.args.owner.now in
     let recs = c.self.inside.recs.lists in
     let absent = ap₂ (λ key n. list_any (λ k. k == n) (places_of key_eq recs key)) (sym c.owner_key-key.ensures) (sym (c.from.ensures ∙ c.get.ensures.value)) ∙ sym c.has.ensures ∙ c.if-not-has.true in
-    none_held recs rec c.args.exclusive owner absent (present c.self.inside.slots.items) c.self.invariant.2 ∙ ap (holds rec c.args.exclusive owner) c.self.view_is
+    none_held recs rec c.args.exclusive owner absent (present_locks c.self.inside.slots.items) c.self.invariant.2 ∙ ap (holds rec c.args.exclusive owner) c.self.view_is
 
 pub returns-then-of_rec-of_owner : goal.returns-then-of_rec-of_owner
 returns-then-of_rec-of_owner c =

@@ -6,7 +6,7 @@ use Rattle.vp_model.specs.Locks.{raised}
 use Rattle.vp_model.specs.Words.{same_owner}
 use Rattle.vp_locks.specs.declared.places.RecPlaces.{RecPlaces}
 use Rattle.vp_locks.specs.Index.{places_of, key_eq, on_rec, owned_by, IsRecIndex, IsOwnerIndex, AreListed}
-use Rattle.vp_locks.specs.Places.{present, lock_at, passes, revise_slot}
+use Rattle.vp_locks.specs.Places.{present_locks, lock_at, passes, revise_slot}
 use Rattle.vp_locks.proofs.InSlots.{revised_where}
 use Rattle.vp_locks.proofs.Indexes.{index_changed, index_raised, rec_revised, all_raised, raised_owner, raised_rec}
 use Rattle.vp_locks.proofs.Listed.{listed_raised}
@@ -33,16 +33,16 @@ invariant_of-self-2 c =
     let new : RecPlaces = record { all = p.all; exclusive = c.set.new.self } in
     let kept = c.in_ok-exclusive.ensures ∙ ap₂ (λ xs ks. filter (λ k. passes own (lock_at xs k)) ks) c.deref.ensures.value (c.of-places.ensures ∙ ap (places_of nat_eq p.all.lists) c.get.ensures.value) in
     let set : (q : ℕ) → places_of nat_eq new.exclusive.lists q ≡ (if nat_eq rec q then filter (λ k. passes own (lock_at slots k)) (places_of nat_eq p.all.lists rec) else places_of nat_eq p.exclusive.lists q) = λ q. c.in_ok-set.ensures.set q ∙ ap₂ (λ k ks. if nat_eq k q then ks else places_of nat_eq p.exclusive.lists q) c.get-2.ensures.value kept in
-    subst (λ xs. IsRecIndex new xs × IsOwnerIndex owners xs × AreListed recs (present xs)) (sym (raised_slots c)) (
+    subst (λ xs. IsRecIndex new xs × IsOwnerIndex owners xs × AreListed recs (present_locks xs)) (sym (raised_slots c)) (
       (
         index_changed nat_eq on_rec p.all.lists slots c.self.invariant.0.0 (λ lock. on_rec lock rec) (raised rec true owner) (raised_rec rec owner),
         index_raised rec owner p slots c.self.invariant.0 new.exclusive.lists set,
       ),
       index_changed key_eq owned_by owners slots c.self.invariant.1 (λ lock. on_rec lock rec) (raised rec true owner) (raised_owner rec owner),
-      subst (AreListed recs) (sym (all_raised rec owner slots)) (listed_raised recs rec owner (present slots) c.self.invariant.2),
+      subst (AreListed recs) (sym (all_raised rec owner slots)) (listed_raised recs rec owner (present_locks slots) c.self.invariant.2),
     )
 
 pub returns : goal.returns
 returns c =
-    ap present (raised_slots c) ∙ all_raised c.args.rec c.args.owner.now c.self.inside.slots.items
+    ap present_locks (raised_slots c) ∙ all_raised c.args.rec c.args.owner.now c.self.inside.slots.items
     ∙ ap (map (raised c.args.rec true c.args.owner.now)) c.self.view_is

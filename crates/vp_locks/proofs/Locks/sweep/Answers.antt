@@ -4,7 +4,7 @@ use Rattle.std.proofs.lemmas.List.{with_items_is, places}
 use Rattle.vp_model.specs.Types.{Lock}
 use Rattle.vp_model.specs.Words.{same_owner}
 use Rattle.vp_locks.specs.Index.{places_of, OwnerKey, owner_key, key_eq, owned_by, IsRecIndex, IsOwnerIndex, AreListed}
-use Rattle.vp_locks.specs.Places.{present, lock_at, revise_slot, if_kept}
+use Rattle.vp_locks.specs.Places.{present_locks, lock_at, revise_slot, if_kept}
 use Rattle.vp_locks.specs.Staying.{stays}
 use Rattle.vp_locks.proofs.InSlots.{revised_where}
 use Rattle.vp_locks.proofs.Indexes.{index_kept, key_apart, owner_revised, owner_swept}
@@ -31,14 +31,14 @@ invariant_of-self c =
     let kept : (q : OwnerKey) → places_of key_eq new q ≡ (if key_eq own q then filter (λ p. is_some (lock_at (map (revised_where (λ lock. owned_by lock own) (if_kept (stays c.args.staying))) slots) p)) (places_of key_eq lists q) else places_of key_eq lists q) = λ q. c.keep_taken.ensures q ∙ ap₂ (λ k xs. if key_eq k q then filter (λ p. is_some (lock_at xs p)) (places_of key_eq lists q) else places_of key_eq lists q) c.owner_key-2.ensures (c.deref.ensures.value ∙ whole c ∙ swept_slots c) in
     let recs = c.self.inside.recs.lists in
     let rest = λ (lock : Lock). not (same_owner lock.owner c.args.owner.now) || stays c.args.staying lock in
-    let left = ap present (swept_slots c) ∙ owner_swept lists slots c.self.invariant.1 c.args.owner.now (stays c.args.staying) in
-    subst (λ xs. IsRecIndex c.sweep.new.by_rec xs × IsOwnerIndex new xs × AreListed recs (present xs)) (sym (whole c)) (
+    let left = ap present_locks (swept_slots c) ∙ owner_swept lists slots c.self.invariant.1 c.args.owner.now (stays c.args.staying) in
+    subst (λ xs. IsRecIndex c.sweep.new.by_rec xs × IsOwnerIndex new xs × AreListed recs (present_locks xs)) (sym (whole c)) (
       c.sweep.ensures.index,
       subst (IsOwnerIndex new) (sym (swept_slots c)) (index_kept key_eq owned_by lists slots c.self.invariant.1 new own (stays c.args.staying) (λ lock q. key_apart (owner_key lock.owner) own q) kept),
-      subst (AreListed recs) (sym left) (listed_left recs rest (present slots) c.self.invariant.2),
+      subst (AreListed recs) (sym left) (listed_left recs rest (present_locks slots) c.self.invariant.2),
     )
 
 pub returns : goal.returns
 returns c =
-    ap present (whole c ∙ swept_slots c) ∙ owner_swept c.self.inside.by_owner.lists c.self.inside.slots.items c.self.invariant.1 c.args.owner.now (stays c.args.staying)
+    ap present_locks (whole c ∙ swept_slots c) ∙ owner_swept c.self.inside.by_owner.lists c.self.inside.slots.items c.self.invariant.1 c.args.owner.now (stays c.args.staying)
     ∙ ap (filter (λ (lock : Lock). not (same_owner lock.owner c.args.owner.now) || stays c.args.staying lock)) c.self.view_is

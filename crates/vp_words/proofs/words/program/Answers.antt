@@ -21,4 +21,5 @@ returns c =
     let soak = c.in_ok-program-9.ensures ∙ onto (codes "soak") draws_ids _ _ generate in
     let logs = c.in_ok-program-10.ensures ∙ onto (codes "logs") alone_ids _ _ soak in
     let audit = c.in_ok-program-11.ensures.shape c.in_ok-auditing.ensures.local ∙ ap₂ with_command logs c.in_ok-auditing.ensures.app in
-    IfOk-weaker c.with_command-11.result _ _ (λ r h. h ∙ onto (codes "gateway") gateway_ids _ _ audit) c.with_command-11.ensures
+    let gateway = c.in_ok-program-12.ensures ∙ onto (codes "gateway") gateway_ids _ _ audit in
+    IfOk-weaker c.with_command-12.result _ _ (λ r h. h ∙ onto (codes "merge") alone_ids _ _ gateway) c.with_command-12.ensures

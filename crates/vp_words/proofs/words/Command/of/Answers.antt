@@ -26,8 +26,8 @@ returns-in-Ok-clause-command c =
     let is = c.in_ok-program.ensures in
     let text = text_is c.args.words.now c.in_ok-texts.field-0 c.in-Some.texts c.as_slice-2.result.now c.in_ok-texts.ensures c.in-Some.is c.as_slice-2.ensures.value in
     let none = ap (λ (l : List (Bor (List ℕ))). has_hyphen (now l)) (c.as_slice-2.ensures.value ∙ sym c.as_slice.ensures.value) ∙ sym c.has_hyphen.ensures ∙ c.if-has_hyphen.false in
-    IfOk-weaker c.meant.result _ _
-    (λ command h. h ∙ of_matches c.args.words.now _ (app_of c.in_ok-program.field-0) _ text none is (c.in-Ok.ensures.kinds (ap is_simple_and_free is)) ((c.in-Ok.ensures.matches (ap is_simple is)).1)) c.meant.ensures.command
+    IfOk-weaker c.command_meant.result _ _
+    (λ command h. h ∙ of_matches c.args.words.now _ (app_of c.in_ok-program.field-0) _ text none is (c.in-Ok.ensures.kinds (ap is_simple_and_free is)) ((c.in-Ok.ensures.matches (ap is_simple is)).1)) c.command_meant.ensures.command
 
 pub returns-clause-command : goal.returns-clause-command
 returns-clause-command c =

@@ -1,0 +1,146 @@
+-- The steps of a run, and the limits on them.
+use Rattle.std.proofs.Common.{◌≡◌, ◌∙◌, ℕ, zero, suc, ◌+◌, ◌<◌, ◌≤◌, Bool, true, false, cond, List, [], ◌∷◌, ◌++◌, length, refl, sym, ap, subst, arith, append_assoc, append-nil}
+use Rattle.std.specs.Prelude.{◌-◌, ◌^◌, ◌==◌, ◌||◌, nat_lt, if◌then◌else◌, is_some, find, Option, Some, None, option_and_then, Result, Ok, Err}
+use Rattle.std.specs.Option.{option_map_or, option_or}
+use Rattle.std.specs.List.{list_any}
+use Rattle.std.proofs.lemmas.Bool.Decides.{nat_tests}
+use Rattle.std.proofs.lemmas.List.Folds.{list_any-append, find-append}
+use Rattle.std.proofs.lemmas.List.Sums.{fold-append}
+use Rattle.vp_model.specs.Types.{Counted, Event, Input, Sent}
+use Rattle.vp_model.specs.Types.counted
+use Rattle.vp_model.specs.Types.event
+use Rattle.vp_model.specs.Types.input
+use Rattle.vp_model.specs.Types.shown
+use Rattle.vp_model.specs.Words.{for_each, for_some}
+use Rattle.vp_model.specs.Catalogue.{Catalogue}
+use Rattle.vp_model.specs.Limits.{exceeded, is_over, limit_in}
+use Rattle.vp_model.specs.World.{WorldState, Moment, Moved, Run, at_site, crash, deliver, flow, flowing, happens, is_cut, message_at, moment, next, one_event, one_step, place_of, restart, restart_from, run_from, shows, site_of, site_step}
+use Rattle.vp_pictures.specs.declared.sheet.Sheet.{Sheet}
+use Rattle.vp_drawing.specs.Limits.{picture_limits}
+use Rattle.vp_drawing.specs.Moments.{moment_drawn, moments_drawn}
+
+-- ---- an event does not change the count of steps
+
+option_steps : {A : Type 0} (f : A → Moved) (o : Option A) (d : Moved) (n : ℕ) → ((a : A) → (f a).world.steps ≡ n) → d.world.steps ≡ n → (option_map_or f o d).world.steps ≡ n
+option_steps f None d n h e = e
+option_steps f (Some a) d n h e = h a
+
+cond_steps : (b : Bool) (m k : Moved) (n : ℕ) → m.world.steps ≡ n → k.world.steps ≡ n → (if b then m else k).world.steps ≡ n
+cond_steps true m k n h e = h
+cond_steps false m k n h e = e
+
+module _ (catalogue : Catalogue) (w : WorldState) where
+  at_site_steps : (id : ℕ) (given : Input) → (at_site catalogue id given w).world.steps ≡ w.steps
+  unfolding at_site site_step
+  at_site_steps id given = option_steps (λ site. site_step catalogue id site given w) (site_of w id) (shows w (shown.Down id)) w.steps (λ site. refl) refl
+
+  deliver_steps : (k : ℕ) (sent : Sent) → (deliver catalogue k sent w).world.steps ≡ w.steps
+  unfolding deliver site_step
+  deliver_steps k sent = option_steps _ (site_of w sent.to) (shows w (shown.Down sent.to)) w.steps (λ site. cond_steps (is_cut w sent.from sent.to) _ _ w.steps refl refl) refl
+
+  crash_steps : (id : ℕ) → (crash id w).world.steps ≡ w.steps
+  unfolding crash
+  crash_steps id = option_steps _ (site_of w id) (shows w (shown.Down id)) w.steps (λ site. refl) refl
+
+  restart_steps : (id : ℕ) → (restart catalogue id w).world.steps ≡ w.steps
+  unfolding restart
+  restart_steps id = option_steps (λ place. restart_from catalogue place w) (place_of id w.places) (shows w shown.Nothing) w.steps (λ place. cond_steps (is_some place.up) _ _ w.steps refl (cond_steps (place.durable.life == 2 ^ 32 - 1) _ _ w.steps refl refl)) refl
+
+  happens_steps : (e : Event) → (happens catalogue e w).world.steps ≡ w.steps
+  unfolding happens
+  happens_steps (event.Call site words) = at_site_steps site (input.Call 0 words)
+  happens_steps (event.Deliver k) = option_steps (λ sent. deliver catalogue k sent w) (message_at w k) (shows w shown.NoMessage) w.steps (λ sent. deliver_steps k sent) refl
+  happens_steps (event.Flow count) = refl
+  happens_steps (event.Tick site) = at_site_steps site input.Tick
+  happens_steps (event.Probe site) = at_site_steps site input.Probe
+  happens_steps (event.Cut a b) = refl
+  happens_steps (event.Heal a b) = refl
+  happens_steps (event.Crash site) = crash_steps site
+  happens_steps (event.Restart site) = restart_steps site
+
+-- it is counted as one
+pub next_counts : (catalogue : Catalogue) (e : Event) (w : WorldState) → (next catalogue e w).world.steps ≡ w.steps + 1
+next_counts catalogue e w = happens_steps catalogue (record w { steps = w.steps + 1 }) e
+
+-- ---- limits
+
+abbrev over : Moment → Bool
+over = is_over picture_limits
+
+none_found : (ms : List Moment) → list_any over ms ≡ false → find over ms ≡ None
+none_found [] e = refl
+none_found (m ∷ ms) e = go (over m) e (none_found ms)
+  where
+    go : (b : Bool) → (b || list_any over ms) ≡ false → (list_any over ms ≡ false → find over ms ≡ None) → cond b (Some m) (find over ms) ≡ None
+    go true q rest = cc
+    go false q rest = rest q
+
+pub none_reached : (ms : List Moment) → list_any over ms ≡ false → limit_in picture_limits ms ≡ None
+none_reached ms e = ap (option_and_then (λ (m : Moment). exceeded picture_limits m.after)) (none_found ms e)
+
+-- the limit that ends some moments ends them whatever comes next
+pub limit_grows : (ms rest : List Moment) (what : Counted) → limit_in picture_limits ms ≡ Some what → limit_in picture_limits (ms ++ rest) ≡ Some what
+limit_grows ms rest what some = ap (option_and_then (λ (m : Moment). exceeded picture_limits m.after)) (find-append over ms rest) ∙ go (find over ms) some
+  where
+    go : (o : Option Moment) → option_and_then (λ (m : Moment). exceeded picture_limits m.after) o ≡ Some what → option_and_then (λ (m : Moment). exceeded picture_limits m.after) (option_or o (find over rest)) ≡ Some what
+    go None q = cc
+    go (Some m) q = q
+
+over_at : (o : Option Counted) (what : Counted) → o ≡ Some what → is_some o ≡ true
+over_at (Some x) what e = refl
+over_at None what e = cc
+
+-- the next moment exceeds one, or doesn't
+pub limit_at : (ms : List Moment) (m : Moment) (what : Counted) → list_any over ms ≡ false → exceeded picture_limits m.after ≡ Some what → limit_in picture_limits (ms ++ m ∷ []) ≡ Some what
+limit_at ms m what none some =
+    let first : find over (m ∷ []) ≡ Some m = rw (over_at (exceeded picture_limits m.after) what some) refl in
+    ap (option_and_then (λ (m : Moment). exceeded picture_limits m.after)) (find-append over ms (m ∷ []) ∙ ap (λ o. option_or o (find over (m ∷ []))) (none_found ms none) ∙ first) ∙ some
+
+pub within_more : (ms : List Moment) (m : Moment) → list_any over ms ≡ false → exceeded picture_limits m.after ≡ None → list_any over (ms ++ m ∷ []) ≡ false
+within_more ms m none few = list_any-append over ms (m ∷ []) ∙ rw (none, few) refl
+
+-- ---- runs
+
+pub drawn_more : (catalogue : Catalogue) (ms : List Moment) (m : Moment) (base : Sheet) → moments_drawn catalogue (ms ++ m ∷ []) base ≡ moment_drawn catalogue m (moments_drawn catalogue ms base)
+drawn_more catalogue ms m base = fold-append (λ sheet m. moment_drawn catalogue m sheet) base ms (m ∷ [])
+
+-- a run only gets more moments
+abbrev Grows : Run → Run → Type 0
+Grows run after = (rest : List Moment) × (after.moments ≡ run.moments ++ rest)
+
+grows_on : (a b c : Run) → Grows a b → Grows b c → Grows a c
+grows_on a b c first later = (first.0 ++ later.0, later.1 ∙ ap (λ (ms : List Moment). ms ++ later.0) first.1 ∙ append_assoc a.moments first.0 later.0)
+
+step_grows : (catalogue : Catalogue) (n : ℕ) (e : Event) (run : Run) → Grows run (one_step catalogue n e run)
+unfolding one_step
+step_grows catalogue n e run = (moment n run.world e (next catalogue e run.world) ∷ [], refl)
+
+flow_grows : (catalogue : Catalogue) (n count : ℕ) (run : Run) → Grows run (flow catalogue n count run)
+unfolding flow
+flow_grows catalogue n zero run = ([], sym (append-nil run.moments))
+flow_grows catalogue n (suc count) run = go (flowing run.world) (λ k. flow_grows catalogue n count (one_step catalogue n (event.Deliver k) run))
+  where
+    go : (o : Option ℕ) → ((k : ℕ) → Grows (one_step catalogue n (event.Deliver k) run) (flow catalogue n count (one_step catalogue n (event.Deliver k) run)))
+        → Grows run (for_some o (λ k run. flow catalogue n count (one_step catalogue n (event.Deliver k) run)) run)
+    go None rest = ([], sym (append-nil run.moments))
+    go (Some k) rest = grows_on run (one_step catalogue n (event.Deliver k) run) (flow catalogue n count (one_step catalogue n (event.Deliver k) run)) (step_grows catalogue n (event.Deliver k) run) (rest k)
+
+event_grows : (catalogue : Catalogue) (n : ℕ) (e : Event) (run : Run) → Grows run (one_event catalogue n e run)
+unfolding one_event
+event_grows catalogue n (event.Flow count) run = flow_grows catalogue n count run
+event_grows catalogue n e run = step_grows catalogue n e run
+
+run_grows : (catalogue : Catalogue) (n : ℕ) (events : List Event) (run : Run) → Grows run (run_from catalogue n events run)
+unfolding run_from
+run_grows catalogue n [] run = ([], sym (append-nil run.moments))
+run_grows catalogue n (e ∷ events) run = grows_on run (one_event catalogue n e run) (run_from catalogue (n + 1) events (one_event catalogue n e run)) (event_grows catalogue n e run) (run_grows catalogue (n + 1) events (one_event catalogue n e run))
+
+limit_kept : (a b : Run) (what : Counted) → Grows a b → limit_in picture_limits a.moments ≡ Some what → limit_in picture_limits b.moments ≡ Some what
+limit_kept a b what more some = rw more.1 (limit_grows a.moments more.0 what some)
+
+-- what ends a step ends the flow and the schedule
+pub flow_limited : (catalogue : Catalogue) (n count : ℕ) (run : Run) (what : Counted) → limit_in picture_limits run.moments ≡ Some what → limit_in picture_limits (flow catalogue n count run).moments ≡ Some what
+flow_limited catalogue n count run what some = limit_kept run (flow catalogue n count run) what (flow_grows catalogue n count run) some
+
+pub run_limited : (catalogue : Catalogue) (n : ℕ) (events : List Event) (run : Run) (what : Counted) → limit_in picture_limits run.moments ≡ Some what → limit_in picture_limits (run_from catalogue n events run).moments ≡ Some what
+run_limited catalogue n events run what some = limit_kept run (run_from catalogue n events run) what (run_grows catalogue n events run) some

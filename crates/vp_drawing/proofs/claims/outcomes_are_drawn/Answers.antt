@@ -1,0 +1,5 @@
+use Rattle.vp_drawing.proofs.Outcomes.{outcomes}
+use Rattle.vp_drawing.proofs.claims.outcomes_are_drawn.Goals as goal
+
+pub returns : goal.returns
+returns c = outcomes

@@ -1,0 +1,9 @@
+pub mod Looks
+pub mod Watching
+pub mod Moments
+pub mod Limits
+pub mod Drawings
+pub mod Answers
+pub mod Words
+pub mod Ends
+pub mod Claims

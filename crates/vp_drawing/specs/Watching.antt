@@ -1,0 +1,33 @@
+-- What is kept of the sites by whoever does their steps.
+use Rattle.std.specs.Prelude.{◌≡◌, ℕ, List, Option, Some, None}
+use Rattle.vp_model.specs.Types.{View}
+use Rattle.vp_model.specs.Catalogue.{Catalogue}
+use Rattle.vp_model.specs.Site.{SiteState}
+use Rattle.vp_model.specs.Step.{step}
+use Rattle.vp_pictures.specs.declared.sheet.Look.{Look}
+use Rattle.vp_world.specs.Asked.{Asked}
+use Rattle.vp_drawing.specs.Looks.{held_id, joined, look_of, looked, looked_at}
+
+-- the sites of this catalogue, the site whose step comes next, how each looks, and the view that the site of the last step joined
+pub record Watched : Type 0 where
+  pub catalogue : Catalogue
+  pub taker : Option ℕ
+  pub looks : List (ℕ × Look)
+  pub joined : Option View
+
+-- it watches the sites of its own catalogue
+abbrev pub MayWatch : Catalogue → Asked → Watched → Type 0
+MayWatch catalogue asked w = catalogue ≡ w.catalogue
+
+abbrev pub stepped : SiteState → SiteState → Watched → Watched
+stepped before after w =
+    record w { looks = looked_at w.taker (look_of (Some after)) w.looks; joined = joined (held_id before.held) after.held }
+
+abbrev pub watched : Asked → Watched → Watched
+watched (Asked.steps e site given) w = stepped site (step w.catalogue site given).site w
+watched (Asked.crashes site) w = record w { looks = looked site (look_of None) w.looks }
+watched (Asked.restarts id None) w = w
+watched (Asked.restarts id (Some site)) w = record w { looks = looked id (look_of (Some site)) w.looks }
+
+abbrev pub Watches : Asked → Watched → Watched → Type 0
+Watches asked old new = new ≡ watched asked old
