@@ -9,6 +9,21 @@ import sys
 REFERENCE = pathlib.Path(__file__).resolve().parent.parent.parent / "shared/oracle"
 
 
+# what the reference implementation speaks, if nothing else is said: its version and its stage
+SPOKEN = (2, "e1")
+# the most bytes of a value so far; the reference has up to 1,024 in version 2
+MOST_BYTES = 64
+
+
+def without_version(words):
+    """The words without `--version N` and `--stage e1` at their head, and the version and stage that those say."""
+    spoken = SPOKEN
+    while words[:1] == ["--version"] or words[:2] == ["--stage", "e1"]:
+        spoken = (int(words[1]), None) if words[0] == "--version" else (2, "e1")
+        words = words[2:]
+    return words, spoken
+
+
 def reference_in(folder):
     """The folder of the reference implementation. Where it isn't there, that is said, and the run ends with status 2."""
     if not pathlib.Path(folder).is_dir():
@@ -18,8 +33,11 @@ def reference_in(folder):
 
 
 def modules(folder, *names):
-    """Modules of the reference implementation."""
+    """Modules of the reference implementation, which speak the version that the command line says."""
     sys.path.insert(0, str(reference_in(folder)))
+    importlib.import_module("version").choose(*without_version(sys.argv[1:])[1])
+    fields = importlib.import_module("fields")
+    fields.LONG_VALUE._length = fields.Number(2, 1, MOST_BYTES)
     return [importlib.import_module(name) for name in names]
 
 
@@ -40,7 +58,7 @@ def split(data):
 
 def arguments(count):
     """PROGRAM, SEED, COUNT and REFERENCE of the command line; where the others aren't there, seed 1 and so many inputs."""
-    words = sys.argv[1:]
+    words, _ = without_version(sys.argv[1:])
     return words[0], *(int(word) for word in (words[1:3] + ["1", str(count)][len(words[1:3]) :])), (words[3:] or [REFERENCE])[0]
 
 

@@ -96,11 +96,7 @@ fn send_call<L: Link>(
     ensures { Sends port (frame_bytes (call_frame site call.now)) (L.state link.old) (L.state link.new)
         result }
 {
-    let frame = Frame {
-        from: 0,
-        to: site.get(),
-        body: Body::Call(call.copy_of()?),
-    };
+    let frame = Frame::of(0, site.get(), Body::Call(call.copy_of()?));
     let mut bytes = BytesMut::new(alloc);
     encode(&frame, &mut bytes)?;
     link.send(port, &bytes)

@@ -1,15 +1,19 @@
 -- A row that makes the call wait does the same whatever was in the transaction's place before.
-use Rattle.std.proofs.Common.{◌≡◌, ℕ, List, [], ◌∷◌, ◌++◌, Option, Some, Result, Ok, Err, refl, ap, arith}
+use Rattle.std.proofs.Common.{◌≡◌, ℕ, List, [], ◌∷◌, ◌++◌, length, if◌then◌else◌, Option, Some, None, Result, Ok, Err, refl, ap, arith}
+use Rattle.std.specs.Prelude.{◌||◌, nat_le}
+use Rattle.std.specs.Option.{option_map_or}
 use Rattle.std.proofs.lemmas.Bool.Decides.{nat_tests}
 use Rattle.vp_model.specs.Types.{View, Live, Pending, Answer}
+use Rattle.vp_model.specs.Types.answer
 use Rattle.vp_model.specs.Types.message
+use Rattle.vp_model.specs.Transactions.{Deed}
 use Rattle.vp_model.specs.Words.{for_each, put_number}
-use Rattle.vp_model.specs.Catalogue.{Catalogue}
+use Rattle.vp_model.specs.Catalogue.{Catalogue, find_record}
 use Rattle.vp_model.specs.Site.{Lent, with_message, with_messages, with_each_message, lent_reply}
-use Rattle.vp_model.specs.Calls.{prepare_for, read_at, write_at, prepare_parts, with_record}
+use Rattle.vp_model.specs.Calls.{prepare_for, read_at, write_at, prepare_parts, is_bad_table, is_too_large, short, with_record}
 use Rattle.vp_transactions.proofs.Hands.{put_live_again}
 use Rattle.vp_coordinator.specs.InPlace.{in_place}
-use Rattle.vp_coordinator.specs.Records.{usable_record}
+use Rattle.vp_coordinator.specs.Records.{usable_as, usable_record}
 
 module _ (t : Live) (p : Pending) (l : Lent) where
   pub read_at_in_place : (id rec q : ℕ) → read_at id t p rec q (in_place t l) ≡ read_at id t p rec q l
@@ -34,7 +38,23 @@ abbrev pub by_record : Result ℕ Answer → ℕ → (ℕ → Lent → Lent) →
 by_record (Ok rec) port use_record l = use_record rec l
 by_record (Err answer) port use_record l = lent_reply answer port l
 
-module _ (catalogue : Catalogue) (held : Option View) (t : Live) (p : Pending) (name : List ℕ) (use_record : ℕ → Lent → Lent) (l : Lent) where
-  pub record_first : with_record catalogue held t p name use_record l ≡ by_record (usable_record catalogue held t p name) p.port use_record l
+module _ (catalogue : Catalogue) (held : Option View) (t : Live) (p : Pending) (name : List ℕ) (asked : ℕ → Deed) (use_record : ℕ → Lent → Lent) (l : Lent) where
+  pub record_first : with_record catalogue held t p name asked use_record l ≡ by_record (usable_record catalogue held t p name asked) p.port use_record l
   unfolding with_record
-  record_first = grind (arith, nat_tests)
+  record_first =
+      elim (find_record catalogue name) as (λ (found : Option ℕ). option_map_or (λ rec. with_found rec) found (lent_reply (answer.NoRecord t.txn p.number) p.port l) ≡ by_record (option_map_or (λ rec. usable_as catalogue held t p name rec (asked rec)) found (Err (answer.NoRecord t.txn p.number))) p.port use_record l)
+      [ None ↦ refl | Some rec ↦ used rec ]
+    where
+      with_found : ℕ → Lent
+      with_found rec =
+          if is_bad_table catalogue (asked rec)
+          then lent_reply (answer.BadTable t.txn p.number) p.port l
+          else (if nat_le 64 (length t.answers) || is_too_large t (asked rec)
+          then lent_reply (answer.TooManyOps t.txn p.number) p.port l
+          else option_map_or
+          (λ (weights : ℕ × ℕ). lent_reply (answer.Inaccessible t.txn p.number name weights.0 weights.1) p.port l)
+          (short catalogue held rec (asked rec))
+          (use_record rec l))
+
+      used : (rec : ℕ) → with_found rec ≡ by_record (usable_as catalogue held t p name rec (asked rec)) p.port use_record l
+      used rec = grind (arith, nat_tests)

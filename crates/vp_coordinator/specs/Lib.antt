@@ -1,4 +1,6 @@
 pub mod Answered
+pub mod Changes
+pub mod Deeds
 pub mod Records
 pub mod InPlace
 pub mod Ends

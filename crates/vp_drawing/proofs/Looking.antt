@@ -13,18 +13,18 @@ use Rattle.vp_model.specs.Site.{SiteState}
 use Rattle.vp_model.specs.Step.{start}
 use Rattle.vp_model.specs.World.{Place, WorldState, change_place, place_of, site_of, start_place, start_world}
 use Rattle.vp_pictures.specs.declared.sheet.Look.{Look}
-use Rattle.vp_drawing.specs.Looks.{first_look, held_id, joined, look_of, looked, looks_in, looks_of}
+use Rattle.vp_drawing.specs.Looks.{first_look, held_id, newly_joined, look_of, looks_after, looks_in, looks_of}
 
 -- ---- a place that changes
 
 module _ (id : ℕ) (f : Place → Place) (p : Place) (named : (f p).id ≡ p.id) where
   -- the looks change as the place does
-  pub looks_change : (look : Look) → look_of (f p).up ≡ look → (places : List Place) → place_of id places ≡ Some p → looks_in (change_place id f places) ≡ looked id look (looks_in places)
+  pub looks_change : (look : Look) → look_of (f p).up ≡ look → (places : List Place) → place_of id places ≡ Some p → looks_in (change_place id f places) ≡ looks_after id look (looks_in places)
   looks_change look so [] found = refl
   looks_change look so (q ∷ places) found = go (q.id == id) found (looks_change look so places)
     where
-      go : (b : Bool) → (if b then Some q else place_of id places) ≡ Some p → (place_of id places ≡ Some p → looks_in (change_place id f places) ≡ looked id look (looks_in places))
-          → looks_in (if b then f q ∷ places else q ∷ change_place id f places) ≡ (if b then (q.id, look) ∷ looks_in places else (q.id, look_of q.up) ∷ looked id look (looks_in places))
+      go : (b : Bool) → (if b then Some q else place_of id places) ≡ Some p → (place_of id places ≡ Some p → looks_in (change_place id f places) ≡ looks_after id look (looks_in places))
+          → looks_in (if b then f q ∷ places else q ∷ change_place id f places) ≡ (if b then (q.id, look) ∷ looks_in places else (q.id, look_of q.up) ∷ looks_after id look (looks_in places))
       go true here rest = let same : q ≡ p = cc in rw (same, named, so) refl
       go false here rest = ap (λ (looks : List (ℕ × Look)). (q.id, look_of q.up) ∷ looks) (rest here)
 
@@ -51,7 +51,7 @@ pub same_self : (v : ViewId) → same_view v v ≡ true
 same_self v = rw (same_number v.number, same_number v.site) refl
 
 -- whoever goes on to hold what it held joins nothing
-pub joined_none : (held : Option View) → joined (held_id held) held ≡ None
+pub joined_none : (held : Option View) → newly_joined (held_id held) held ≡ None
 joined_none None = refl
 joined_none (Some v) = rw (same_self v.id) refl
 
@@ -82,5 +82,5 @@ looks_begun catalogue sites i looks so_far whole are = so_far ∙ ap (map (λ (s
 -- ---- a look that changes at its place
 
 pub looked_here : (site i : ℕ) (look : Look) (looks : List (ℕ × Look)) (found : Option ℕ) (d : ℕ × Look) → found ≡ position (λ (pair : ℕ × Look). pair.0 == site) looks → found ≡ Some i
-    → slice_set looks i ((slice_index_or looks i d).0, look) ≡ looked site look looks
+    → slice_set looks i ((slice_index_or looks i d).0, look) ≡ looks_after site look looks
 looked_here site i look looks found d is here = sym (changed_some (λ (pair : ℕ × Look). pair.0 == site) (λ (pair : ℕ × Look). (pair.0, look)) looks i d (sym is ∙ here))

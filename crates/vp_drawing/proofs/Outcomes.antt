@@ -14,7 +14,7 @@ use Rattle.vp_model.specs.World.{Moment, Schedule, moments_of}
 use Rattle.vp_pictures.specs.Heads.{head, record_head, site_head, weight_head, with_opening}
 use Rattle.vp_pictures.specs.Places.{top}
 use Rattle.vp_pictures.specs.Sheets.{add_text, add_text_line, next_line}
-use Rattle.vp_pictures.specs.Steps.{bar_of, cut_of, drawn, event_x, hidden_message, hide_messages, is_drawn, life_of, said_commit, said_event, said_message, said_reply, said_shown, said_view, stepped, with_arrow, with_bar, with_cut, with_lock, with_look, with_looks}
+use Rattle.vp_pictures.specs.Steps.{bar_of, cut_of, line_drawn, event_x, hidden_message, hide_messages, is_drawn, life_of, said_commit, said_event, said_message, said_reply, said_shown, said_view, step_drawn, with_arrow, with_bar, with_cut, with_lock, with_look, with_looks}
 use Rattle.vp_pictures.specs.Words.{commit_words, legend, sent_words, view_words}
 use Rattle.vp_pictures.specs.declared.shape.Ink.{Ink}
 use Rattle.vp_pictures.specs.declared.shape.Ink.TheVariants as ink
@@ -208,8 +208,8 @@ module _ (catalogue : Catalogue) (x : ℕ) (s : Sheet) where
 
 -- ---- a moment, and all of them
 
-stepped_has : (catalogue : Catalogue) (number : ℕ) (line : Line) (looks : List (ℕ × Look)) (joined : Option View) (s : Sheet) → HasOutcomes catalogue line.shown (stepped catalogue number line looks joined s)
-unfolding stepped
+stepped_has : (catalogue : Catalogue) (number : ℕ) (line : Line) (looks : List (ℕ × Look)) (joined : Option View) (s : Sheet) → HasOutcomes catalogue line.shown (step_drawn catalogue number line looks joined s)
+unfolding step_drawn
 stepped_has catalogue number line looks joined s =
     let x = event_x catalogue line.event s in
     let a = said_event x number line.event (with_cut (cut_of catalogue (top s.lines + 18) line.event) s) in
@@ -219,8 +219,8 @@ stepped_has catalogue number line looks joined s =
     (keeps_on b c (with_looks catalogue (top s.lines) looks c) (view_keeps catalogue x joined b) (looks_keep catalogue (top s.lines) looks c))
     (step_has catalogue x a line.shown)
 
-stepped_keeps : (catalogue : Catalogue) (number : ℕ) (line : Line) (looks : List (ℕ × Look)) (joined : Option View) (s : Sheet) → Keeps s (stepped catalogue number line looks joined s)
-unfolding stepped
+stepped_keeps : (catalogue : Catalogue) (number : ℕ) (line : Line) (looks : List (ℕ × Look)) (joined : Option View) (s : Sheet) → Keeps s (step_drawn catalogue number line looks joined s)
+unfolding step_drawn
 stepped_keeps catalogue number line looks joined s =
     let x = event_x catalogue line.event s in
     let cut = with_cut (cut_of catalogue (top s.lines + 18) line.event) s in
@@ -232,16 +232,16 @@ stepped_keeps catalogue number line looks joined s =
     (keeps_on a b _ (shown_keeps catalogue x line.shown a)
     (keeps_on b c _ (view_keeps catalogue x joined b) (looks_keep catalogue (top s.lines) looks c))))
 
-drawn_keeps : (catalogue : Catalogue) (number : ℕ) (line : Line) (looks : List (ℕ × Look)) (joined : Option View) (s : Sheet) → Keeps s (drawn catalogue number line looks joined s)
-unfolding drawn
+drawn_keeps : (catalogue : Catalogue) (number : ℕ) (line : Line) (looks : List (ℕ × Look)) (joined : Option View) (s : Sheet) → Keeps s (line_drawn catalogue number line looks joined s)
+unfolding line_drawn
 drawn_keeps catalogue number line looks joined s = go (is_drawn s number)
   where
-    go : (b : Bool) → Keeps s (let arrived = with_arrow catalogue b line.event line.shown s in if b then stepped catalogue number line looks joined arrived else hide_messages catalogue line.shown arrived)
+    go : (b : Bool) → Keeps s (let arrived = with_arrow catalogue b line.event line.shown s in if b then step_drawn catalogue number line looks joined arrived else hide_messages catalogue line.shown arrived)
     go true = keeps_on s (with_arrow catalogue true line.event line.shown s) _ (arrow_keeps catalogue true line.event line.shown s) (stepped_keeps catalogue number line looks joined (with_arrow catalogue true line.event line.shown s))
     go false = keeps_on s (with_arrow catalogue false line.event line.shown s) _ (arrow_keeps catalogue false line.event line.shown s) (hide_keeps catalogue line.shown (with_arrow catalogue false line.event line.shown s))
 
-drawn_has : (catalogue : Catalogue) (number : ℕ) (line : Line) (looks : List (ℕ × Look)) (joined : Option View) (s : Sheet) → is_drawn s number ≡ true → HasOutcomes catalogue line.shown (drawn catalogue number line looks joined s)
-unfolding drawn
+drawn_has : (catalogue : Catalogue) (number : ℕ) (line : Line) (looks : List (ℕ × Look)) (joined : Option View) (s : Sheet) → is_drawn s number ≡ true → HasOutcomes catalogue line.shown (line_drawn catalogue number line looks joined s)
+unfolding line_drawn
 drawn_has catalogue number line looks joined s is = rw is (stepped_has catalogue number line looks joined (with_arrow catalogue true line.event line.shown s))
 
 moment_keeps : (catalogue : Catalogue) (m : Moment) (s : Sheet) → Keeps s (moment_drawn catalogue m s)

@@ -15,9 +15,9 @@ use Rattle.vp_world.specs.Asked.{Asked, restart_asked}
 use Rattle.vp_world.specs.Places.{Did}
 use Rattle.vp_world.specs.Steps.{DoesEvent, if_up, receiver, step_at, step_by, taker_now}
 use Rattle.vp_pictures.specs.declared.sheet.Look.{Look}
-use Rattle.vp_drawing.specs.Looks.{held_id, joined, look_of, looked, looks_of}
+use Rattle.vp_drawing.specs.Looks.{held_id, newly_joined, look_of, looks_after, looks_of}
 use Rattle.vp_drawing.specs.Moments.{held_at, joined_in}
-use Rattle.vp_drawing.specs.Watching.{Watched, Watches, watched}
+use Rattle.vp_drawing.specs.Watching.{Watched, Watches, watch_asked}
 use Rattle.vp_drawing.proofs.Looking.{joined_none, looks_change, place_changes, place_is, placed}
 
 -- The watch sees what this world came to, and which view was joined.
@@ -47,9 +47,9 @@ module _ (catalogue : Catalogue) (e : Event) (old new : Watched) where
   module _ (id : ℕ) (given : Input) (v : WorldState) where
     -- the view that is joined
     abbrev joins : WorldState → Option View
-    joins after = joined (held_id (held_at v id)) (held_at after id)
+    joins after = newly_joined (held_id (held_at v id)) (held_at after id)
 
-    stepped : (x : SiteState) → site_of v id ≡ Some x → Awaits catalogue (Some id) v old → new ≡ watched (Asked.steps e x given) old → Sees catalogue (joins (site_step catalogue id x given v).world) (site_step catalogue id x given v).world new
+    stepped : (x : SiteState) → site_of v id ≡ Some x → Awaits catalogue (Some id) v old → new ≡ watch_asked (Asked.steps e x given) old → Sees catalogue (joins (site_step catalogue id x given v).world) (site_step catalogue id x given v).world new
     unfolding site_step
     stepped x up awaits done =
         let p = placed (place_of id v.places) x up in
@@ -84,7 +84,7 @@ module _ (catalogue : Catalogue) (e : Event) (old new : Watched) where
     given = input.Message sent.from sent.message
 
     abbrev joins_there : WorldState → Option View
-    joins_there after = joined (held_id (held_at v sent.to)) (held_at after sent.to)
+    joins_there after = newly_joined (held_id (held_at v sent.to)) (held_at after sent.to)
 
     comes : (o : Option SiteState) → site_of v sent.to ≡ o → (b : Bool) → is_cut v sent.from sent.to ≡ b
         → Awaits catalogue (if b then None else (if is_some o then Some sent.to else None)) v old
@@ -159,11 +159,11 @@ module _ (catalogue : Catalogue) (old new : Watched) (w : WorldState) where
   counts taker awaits = record { catalogue_is = awaits.catalogue_is; taker_is = awaits.taker_is; looks_are = awaits.looks_are; joined_is = awaits.joined_is }
 
   abbrev joins_by : Event → WorldState → Option View
-  joins_by e after = option_and_then (λ site. joined (held_id (held_at w site)) (held_at after site)) (site_named w e)
+  joins_by e after = option_and_then (λ site. newly_joined (held_id (held_at w site)) (held_at after site)) (site_named w e)
 
   comes_at : (k : ℕ) (o : Option Sent) → message_at w k ≡ o → Awaits catalogue (option_and_then (λ (sent : Sent). if is_cut w sent.from sent.to then None else if_up w sent.to) o) w old
       → Did Watches (option_and_then (step_by w (event.Deliver k)) o) old new
-      → Sees catalogue (option_and_then (λ site. joined (held_id (held_at w site)) (held_at (option_map_or (λ sent. deliver catalogue k sent counted) o (shows counted shown.NoMessage)).world site)) (option_map (λ (sent : Sent). sent.to) o))
+      → Sees catalogue (option_and_then (λ site. newly_joined (held_id (held_at w site)) (held_at (option_map_or (λ sent. deliver catalogue k sent counted) o (shows counted shown.NoMessage)).world site)) (option_map (λ (sent : Sent). sent.to) o))
       (option_map_or (λ sent. deliver catalogue k sent counted) o (shows counted shown.NoMessage)).world new
   comes_at k None found awaits done = sees_nothing catalogue None w counted old new awaits refl done
   comes_at k (Some sent) found awaits done = at_a_receiver catalogue (event.Deliver k) old new k sent counted (counts (if is_cut w sent.from sent.to then None else if_up w sent.to) awaits) done

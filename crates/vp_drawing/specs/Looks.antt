@@ -29,17 +29,17 @@ abbrev pub first_look : Look
 first_look = record { up = true; held = Some opening; refreshing = [] }
 
 -- the view that is held now, if another one or none was held before
-abbrev pub joined : Option ViewId → Option View → Option View
-joined before None = None
-joined None (Some view) = Some view
-joined (Some old) (Some view) = if same_view old view.id then None else Some view
+abbrev pub newly_joined : Option ViewId → Option View → Option View
+newly_joined before None = None
+newly_joined None (Some view) = Some view
+newly_joined (Some old) (Some view) = if same_view old view.id then None else Some view
 
 -- ---- what changes
 
 -- a site looks so from here on
-abbrev pub looked : ℕ → Look → List (ℕ × Look) → List (ℕ × Look)
-looked site look looks = change_first (λ (pair : ℕ × Look). pair.0 == site) (λ (pair : ℕ × Look). (pair.0, look)) looks
+abbrev pub looks_after : ℕ → Look → List (ℕ × Look) → List (ℕ × Look)
+looks_after site look looks = change_first (λ (pair : ℕ × Look). pair.0 == site) (λ (pair : ℕ × Look). (pair.0, look)) looks
 
 abbrev pub looked_at : Option ℕ → Look → List (ℕ × Look) → List (ℕ × Look)
 looked_at None look looks = looks
-looked_at (Some site) look looks = looked site look looks
+looked_at (Some site) look looks = looks_after site look looks

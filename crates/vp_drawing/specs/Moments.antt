@@ -7,21 +7,21 @@ use Rattle.vp_model.specs.Site.{SiteState}
 use Rattle.vp_model.specs.Justified.{site_named}
 use Rattle.vp_model.specs.World.{WorldState, Moment, Schedule, moments_of, site_of}
 use Rattle.vp_pictures.specs.Heads.{head}
-use Rattle.vp_pictures.specs.Steps.{drawn}
+use Rattle.vp_pictures.specs.Steps.{line_drawn}
 use Rattle.vp_pictures.specs.declared.sheet.Part.{Part}
 use Rattle.vp_pictures.specs.declared.sheet.Sheet.{Sheet}
-use Rattle.vp_drawing.specs.Looks.{held_id, joined, looks_of}
+use Rattle.vp_drawing.specs.Looks.{held_id, newly_joined, looks_of}
 
 abbrev pub held_at : WorldState → ℕ → Option View
 held_at w site = option_and_then (λ (s : SiteState). s.held) (site_of w site)
 
 -- the view that the site of the moment's step holds after it and not before
 abbrev pub joined_in : Moment → Option View
-joined_in m = option_and_then (λ site. joined (held_id (held_at m.before site)) (held_at m.after site)) (site_named m.before m.line.event)
+joined_in m = option_and_then (λ site. newly_joined (held_id (held_at m.before site)) (held_at m.after site)) (site_named m.before m.line.event)
 
 -- a moment: its line, how the sites look after it, and the view that is joined by it
 abbrev pub moment_drawn : Catalogue → Moment → Sheet → Sheet
-moment_drawn catalogue m sheet = drawn catalogue m.number m.line (looks_of m.after) (joined_in m) sheet
+moment_drawn catalogue m sheet = line_drawn catalogue m.number m.line (looks_of m.after) (joined_in m) sheet
 
 abbrev pub moments_drawn : Catalogue → List Moment → Sheet → Sheet
 moments_drawn catalogue moments sheet = for_each moments (moment_drawn catalogue) sheet

@@ -6,7 +6,7 @@ use Rattle.vp_model.specs.Site.{SiteState}
 use Rattle.vp_model.specs.Step.{step}
 use Rattle.vp_pictures.specs.declared.sheet.Look.{Look}
 use Rattle.vp_world.specs.Asked.{Asked}
-use Rattle.vp_drawing.specs.Looks.{held_id, joined, look_of, looked, looked_at}
+use Rattle.vp_drawing.specs.Looks.{held_id, newly_joined, look_of, looks_after, looked_at}
 
 -- the sites of this catalogue, the site whose step comes next, how each looks, and the view that the site of the last step joined
 pub record Watched : Type 0 where
@@ -19,15 +19,15 @@ pub record Watched : Type 0 where
 abbrev pub MayWatch : Catalogue → Asked → Watched → Type 0
 MayWatch catalogue asked w = catalogue ≡ w.catalogue
 
-abbrev pub stepped : SiteState → SiteState → Watched → Watched
-stepped before after w =
-    record w { looks = looked_at w.taker (look_of (Some after)) w.looks; joined = joined (held_id before.held) after.held }
+abbrev pub watch_step : SiteState → SiteState → Watched → Watched
+watch_step before after w =
+    record w { looks = looked_at w.taker (look_of (Some after)) w.looks; joined = newly_joined (held_id before.held) after.held }
 
-abbrev pub watched : Asked → Watched → Watched
-watched (Asked.steps e site given) w = stepped site (step w.catalogue site given).site w
-watched (Asked.crashes site) w = record w { looks = looked site (look_of None) w.looks }
-watched (Asked.restarts id None) w = w
-watched (Asked.restarts id (Some site)) w = record w { looks = looked id (look_of (Some site)) w.looks }
+abbrev pub watch_asked : Asked → Watched → Watched
+watch_asked (Asked.steps e site given) w = watch_step site (step w.catalogue site given).site w
+watch_asked (Asked.crashes site) w = record w { looks = looks_after site (look_of None) w.looks }
+watch_asked (Asked.restarts id None) w = w
+watch_asked (Asked.restarts id (Some site)) w = record w { looks = looks_after id (look_of (Some site)) w.looks }
 
 abbrev pub Watches : Asked → Watched → Watched → Type 0
-Watches asked old new = new ≡ watched asked old
+Watches asked old new = new ≡ watch_asked asked old

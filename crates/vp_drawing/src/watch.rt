@@ -3,7 +3,7 @@
 ghost use Rattle.std.specs.Prelude.{◌≡◌, ◌==◌, ◌<◌, IfOk, IfSome, Some, length, option_copied};
 ghost use Rattle.std.specs.List.{position};
 ghost use Rattle.vp_model.specs.World.{start_world};
-ghost use Rattle.vp_drawing.specs.Looks.{first_look, held_id, joined, look_of, looked, looked_at, looks_of, refreshing};
+ghost use Rattle.vp_drawing.specs.Looks.{first_look, held_id, newly_joined, look_of, looks_after, looked_at, looks_of, refreshing};
 
 use std::alloc::Global;
 use std::marker::Model;
@@ -87,8 +87,8 @@ fn look_of(alloc: Global, site: &Site) -> Result<Look, NoMemory>
 }
 
 /// The view that is held now, if another one or none was held before.
-fn joined(before: Option<ViewId>, held: Option<&View>) -> Result<Option<View>, NoMemory>
-    ensures { IfOk result (λ view. view ≡ joined before (option_copied held.entry)) }
+fn newly_joined(before: Option<ViewId>, held: Option<&View>) -> Result<Option<View>, NoMemory>
+    ensures { IfOk result (λ view. view ≡ newly_joined before (option_copied held.entry)) }
 {
     let Some(view) = held else {
         return Ok(None);
@@ -109,7 +109,7 @@ fn place_of(looks: &[(SiteId, Look)], site: SiteId) -> Option<usize>
 /// Makes the site look so.
 #[tactic(auto, using(vp_lists::proofs::Found::first_changes))]
 fn set_look(looks: &mut [(SiteId, Look)], site: SiteId, look: Look)
-    ensures { looks.new ≡ looked site look looks.old }
+    ensures { looks.new ≡ looks_after site look looks.old }
 {
     match place_of(looks, site) {
         None => {}
@@ -184,7 +184,7 @@ impl Stepper for Watch {
     ) -> Result<(Site, Effects), NoMemory> {
         let before = held_id(&site);
         let (site, effects) = site.step(catalog, input)?;
-        self.joined = joined(before, site.held())?;
+        self.joined = newly_joined(before, site.held())?;
         let look = look_of(self.allocator(), &site)?;
         self.look_at_taker(look);
         Ok((site, effects))

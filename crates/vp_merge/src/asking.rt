@@ -28,7 +28,12 @@ fn asked_by(site: SiteId, frame: Frame) -> Arrival
     ensures what { result ≡ asks_body site frame frame.body }
     ensures form { IsArrival result }
 {
-    let Frame { from, to, body } = frame;
+    let Frame {
+        version: _,
+        from,
+        to,
+        body,
+    } = frame;
     let here = to == site.get();
     match body {
         Body::Message(message) => given(

@@ -78,6 +78,9 @@ abbrev pub refuses : Answer → Bool
 refuses (answer.Begun txn view) = false
 refuses (answer.Value txn number value) = false
 refuses (answer.Written txn number) = false
+refuses (answer.Absent txn number) = false
+refuses (answer.Deleted txn number) = false
+refuses (answer.Weighed txn number) = false
 refuses (answer.Committed txn number) = false
 refuses (answer.Aborted txn number) = false
 refuses (answer.Inviting view) = false
@@ -165,8 +168,8 @@ abbrev pub with_cut : Option Shape → Sheet → Sheet
 with_cut cut s = record s { arrows = s.arrows ++ option_to_list cut }
 
 -- a step that is drawn: each site as it is after it, from its first line to its last one
-unfoldable pub stepped : Catalogue → ℕ → Line → List (ℕ × Look) → Option View → Sheet → Sheet
-stepped catalogue number line looks joined s =
+unfoldable pub step_drawn : Catalogue → ℕ → Line → List (ℕ × Look) → Option View → Sheet → Sheet
+step_drawn catalogue number line looks joined s =
     let x = event_x catalogue line.event s in
     s
     |> with_cut (cut_of catalogue (top s.lines + 18) line.event)
@@ -186,7 +189,7 @@ hide_messages catalogue _ s = s
 abbrev pub is_drawn : Sheet → ℕ → Bool
 is_drawn s number = nat_le s.part.from number && nat_le number s.part.to
 
-unfoldable pub drawn : Catalogue → ℕ → Line → List (ℕ × Look) → Option View → Sheet → Sheet
-drawn catalogue number line looks joined s =
+unfoldable pub line_drawn : Catalogue → ℕ → Line → List (ℕ × Look) → Option View → Sheet → Sheet
+line_drawn catalogue number line looks joined s =
     let arrived = with_arrow catalogue (is_drawn s number) line.event line.shown s in
-    if is_drawn s number then stepped catalogue number line looks joined arrived else hide_messages catalogue line.shown arrived
+    if is_drawn s number then step_drawn catalogue number line looks joined arrived else hide_messages catalogue line.shown arrived

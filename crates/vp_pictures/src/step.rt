@@ -4,7 +4,7 @@ ghost use Rattle.std.specs.Prelude.{◌≡◌, ◌≤◌, ◌^◌, ◌<◌, Bool
 ghost use Rattle.vp_model.specs.Words.{for_each};
 ghost use Rattle.vp_pictures.specs.Sheets.{mark_at};
 ghost use Rattle.vp_pictures.specs.Places.{top};
-ghost use Rattle.vp_pictures.specs.Steps.{arrow_kind, arrow_of, bar_of, colour, cut_of, delivery, drawn, event_x, hide_messages, hidden_message, idle_kind, is_drawn, life_of, lock_of, refuses, said_commit, said_event, said_idle, said_message, said_reply, said_shown, said_view, stepped, with_arrow, with_lock, with_look, words_of_event};
+ghost use Rattle.vp_pictures.specs.Steps.{arrow_kind, arrow_of, bar_of, colour, cut_of, delivery, line_drawn, event_x, hide_messages, hidden_message, idle_kind, is_drawn, life_of, lock_of, refuses, said_commit, said_event, said_idle, said_message, said_reply, said_shown, said_view, step_drawn, with_arrow, with_lock, with_look, words_of_event};
 
 use crate::places::{column, edge, top};
 use crate::shape::{Ink, Shape};
@@ -37,6 +37,9 @@ fn refuses(answer: &Answer) -> bool
         Answer::Begun { .. } => false,
         Answer::Value { .. } => false,
         Answer::Written { .. } => false,
+        Answer::Absent { .. } => false,
+        Answer::Deleted { .. } => false,
+        Answer::Weighed { .. } => false,
         Answer::Committed { .. } => false,
         Answer::Aborted { .. } => false,
         Answer::Inviting { .. } => false,
@@ -164,7 +167,7 @@ impl Sheet {
 
     /// Draws a step: the number of its event line, its line, how each site is after it, and the view that its site joins by it. Of a step
     /// outside the part that is drawn only the messages are kept.
-    #[tactic(auto, unfolding(crate::specs::Steps::drawn))]
+    #[tactic(auto, unfolding(crate::specs::Steps::line_drawn))]
     pub fn draw(
         &mut self,
         catalog: &Catalog,
@@ -173,7 +176,7 @@ impl Sheet {
         looks: &[(SiteId, Look)],
         joined: &Option<View>,
     ) -> Result<(), NoMemory>
-        ensures { OnOk result (self.new ≡ drawn catalog.now number line.now looks.now joined.now self.old) }
+        ensures { OnOk result (self.new ≡ line_drawn catalog.now number line.now looks.now joined.now self.old) }
     {
         let is_drawn = self.is_drawn(number);
         self.draw_delivery(catalog, is_drawn, line)?;
@@ -245,7 +248,7 @@ impl Sheet {
         })
     }
 
-    #[tactic(auto, unfolding(crate::specs::Steps::stepped))]
+    #[tactic(auto, unfolding(crate::specs::Steps::step_drawn))]
     fn draw_step(
         &mut self,
         catalog: &Catalog,
@@ -254,7 +257,7 @@ impl Sheet {
         looks: &[(SiteId, Look)],
         joined: &Option<View>,
     ) -> Result<(), NoMemory>
-        ensures { OnOk result (self.new ≡ stepped catalog.now number line.now looks.now joined.now self.old) }
+        ensures { OnOk result (self.new ≡ step_drawn catalog.now number line.now looks.now joined.now self.old) }
     {
         let y = top(self.lines);
         let x = self.event_x(catalog, &line.event);

@@ -24,7 +24,7 @@ name_in (Wish.write name value) = name
 -- the operation does what was asked
 abbrev pub Fulfils : Catalogue → Wish → Op → Type 0
 Fulfils catalogue (Wish.read name) (op.Read rec value) = find_record catalogue name ≡ Some rec
-Fulfils catalogue (Wish.write name wanted) (op.Write rec value) = (find_record catalogue name ≡ Some rec) × (value ≡ wanted)
+Fulfils catalogue (Wish.write name wanted) (op.Write rec value) = (find_record catalogue name ≡ Some rec) × (value ≡ Some wanted)
 Fulfils catalogue wish operation = ⊥
 
 -- one operation for each wish, in their order, and no other

@@ -180,4 +180,4 @@ commits_within s k d lt j o within =
     let view = used.0 in
     let usable = used.4 operation (j, within, get_or_default e.ops j operation o within) in
     let placed = accessible_is s.catalogue (record_in operation) view.members usable in
-    rw (same_place operation, length-map s.catalogue.records (λ (entry : RecordEntry). entry.start)) placed
+    rw (same_place operation, length-map s.catalogue.records (λ (entry : RecordEntry). Some entry.start)) placed

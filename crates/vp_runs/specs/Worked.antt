@@ -7,6 +7,7 @@ use Rattle.vp_model.specs.Types.log_record
 use Rattle.vp_model.specs.Types.message
 use Rattle.vp_model.specs.Catalogue.{Catalogue, RecordEntry}
 use Rattle.vp_model.specs.Words.{opening}
+use Rattle.vp_model.specs.Worked.{value}
 use Rattle.vp_outside.specs.declared.datagram.Datagram.{Datagram}
 use Rattle.vp_wire.specs.declared.frame.Body.TheVariants as body
 use Rattle.vp_wire.specs.Grammar.{frame_of}
@@ -59,7 +60,7 @@ commit =
 
 -- the decision waits for the other site
 abbrev pub committed_log : List (List LogRecord)
-committed_log = (log_record.Start 1 ∷ []) ∷ (log_record.Commit (txn 1) opening ((0, codes "11") ∷ []) (2 ∷ []) ∷ []) ∷ []
+committed_log = (log_record.Start 1 ∷ []) ∷ (log_record.Commit (txn 1) opening ((0, value (codes "11")) ∷ []) (2 ∷ []) ∷ []) ∷ []
 
 -- ---- an answer
 

@@ -1,6 +1,6 @@
 -- Worked schedules: what they leave in the logs.
 use Rattle.std.specs.List.{range_with_len}
-use Rattle.std.specs.Prelude.{◌+◌, ◌==◌, if◌then◌else◌, map, replicate, ℕ, List, [], ◌∷◌, ◌++◌, codes, true}
+use Rattle.std.specs.Prelude.{◌+◌, ◌==◌, if◌then◌else◌, map, replicate, ℕ, List, [], ◌∷◌, ◌++◌, codes, Some, None, true}
 use Rattle.hex.specs.Hex.{encode_lower}
 use Rattle.vp_model.specs.Types.{Event, LogRecord, Stored}
 use Rattle.vp_model.specs.Types.call
@@ -8,6 +8,7 @@ use Rattle.vp_model.specs.Types.event
 use Rattle.vp_model.specs.Types.log_record
 use Rattle.vp_model.specs.Catalogue.{Catalogue}
 use Rattle.vp_model.specs.Words.{opening}
+use Rattle.vp_model.specs.Worked.{value}
 use Rattle.vp_model.specs.World.{Schedule}
 use Rattle.vp_stable.specs.Log.{open_batches}
 use Rattle.vp_runs.specs.Worked.{alone, both, txn}
@@ -51,10 +52,10 @@ decision =
     ∷ [])
 
 abbrev pub left_at_one : List (List LogRecord)
-left_at_one = start_batch 1 ∷ (log_record.Commit (txn 1) opening ((0, codes "11") ∷ []) (2 ∷ []) ∷ []) ∷ (log_record.Acked (txn 1) 2 ∷ []) ∷ []
+left_at_one = start_batch 1 ∷ (log_record.Commit (txn 1) opening ((0, value (codes "11")) ∷ []) (2 ∷ []) ∷ []) ∷ (log_record.Acked (txn 1) 2 ∷ []) ∷ []
 
 abbrev pub left_at_two : List (List LogRecord)
-left_at_two = start_batch 1 ∷ (log_record.Yes (txn 1) opening ((0, codes "11") ∷ []) ∷ []) ∷ (log_record.Outcome (txn 1) true ∷ []) ∷ []
+left_at_two = start_batch 1 ∷ (log_record.Yes (txn 1) opening ((0, value (codes "11")) ∷ []) ∷ []) ∷ (log_record.Outcome (txn 1) true ∷ []) ∷ []
 
 -- ---- a checkpoint
 
@@ -76,16 +77,17 @@ filling seq lengths =
     ++ event.Call 1 (call.Commit (txn seq) 65) ∷ [])
 
 abbrev pub last_lengths : ℕ → ℕ
-last_lengths n = if n == 0 then 235 else 249
+last_lengths n = if n == 0 then 56 else 36
 
 -- The log is 65,529 bytes long, and 65,543 with the start of the next life: a checkpoint is due then, and made by the next step.
 abbrev pub filling_events : List Event
 filling_events =
-    filling 1 (λ n. 255)
-    ++ (filling 2 (λ n. 255) ++ (filling 3 (λ n. 255) ++ (filling 4 last_lengths ++ event.Crash 1 ∷ event.Restart 1 ∷ [])))
+    filling 1 (λ n. 240)
+    ++ (filling 2 (λ n. 240)
+    ++ (filling 3 (λ n. 240) ++ (filling 4 (λ n. 240) ++ (filling 5 last_lengths ++ event.Crash 1 ∷ event.Restart 1 ∷ []))))
 
 abbrev pub saved_copies : List (ℕ × Stored)
-saved_copies = map (λ n. (n, record { value = long (last_lengths n); date = opening })) numbers
+saved_copies = map (λ n. (n, record { value = Some (long (last_lengths n)); table = None; date = opening })) numbers
 
 abbrev pub saved_log : List (List LogRecord)
 saved_log = (log_record.Checkpoint 1 2 (record { number = 1; site = 1 }) saved_copies [] [] ∷ []) ∷ []
