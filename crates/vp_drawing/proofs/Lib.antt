@@ -3,6 +3,14 @@ pub mod Watching
 pub mod Running
 pub mod Stepping
 pub mod Flowing
-pub mod Outcomes
+pub mod Adding
+pub mod Layers
+pub mod Lists
+pub mod Turns
+pub mod Marks
+pub mod Arrows
+pub mod Bars
+pub mod Texts
+pub mod Whole
 pub mod Ending
 pub mod Numbers

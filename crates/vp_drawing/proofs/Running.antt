@@ -17,7 +17,7 @@ use Rattle.vp_model.specs.Limits.{exceeded, is_over, limit_in}
 use Rattle.vp_model.specs.World.{WorldState, Moment, Moved, Run, at_site, crash, deliver, flow, flowing, happens, is_cut, message_at, moment, next, one_event, one_step, place_of, restart, restart_from, run_from, shows, site_of, site_step}
 use Rattle.vp_pictures.specs.declared.sheet.Sheet.{Sheet}
 use Rattle.vp_drawing.specs.Limits.{picture_limits}
-use Rattle.vp_drawing.specs.Moments.{moment_drawn, moments_drawn}
+use Rattle.vp_drawing.specs.Moments.{draw_moment, draw_moments}
 
 -- ---- an event does not change the count of steps
 
@@ -101,8 +101,8 @@ within_more ms m none few = list_any-append over ms (m ∷ []) ∙ rw (none, few
 
 -- ---- runs
 
-pub drawn_more : (catalogue : Catalogue) (ms : List Moment) (m : Moment) (base : Sheet) → moments_drawn catalogue (ms ++ m ∷ []) base ≡ moment_drawn catalogue m (moments_drawn catalogue ms base)
-drawn_more catalogue ms m base = fold-append (λ sheet m. moment_drawn catalogue m sheet) base ms (m ∷ [])
+pub drawn_more : (catalogue : Catalogue) (ms : List Moment) (m : Moment) (base : Sheet) → draw_moments catalogue (ms ++ m ∷ []) base ≡ draw_moment catalogue m (draw_moments catalogue ms base)
+drawn_more catalogue ms m base = fold-append (λ sheet m. draw_moment catalogue m sheet) base ms (m ∷ [])
 
 -- a run only gets more moments
 abbrev Grows : Run → Run → Type 0

@@ -6,4 +6,5 @@ pub mod Drawings
 pub mod Answers
 pub mod Words
 pub mod Ends
+pub mod Rows
 pub mod Claims
