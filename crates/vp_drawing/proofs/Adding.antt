@@ -4,17 +4,17 @@ use Rattle.std.specs.Prelude.{if◌then◌else◌, is_some, Option, Some, None, 
 use Rattle.std.specs.Fmt.{decimal}
 use Rattle.std.specs.List.{flat_map}
 use Rattle.std.proofs.lemmas.List.{length-map, length_push}
-use Rattle.vp_model.specs.Types.{Commit, Event, Line, Reply, Sent, Shown, View}
+use Rattle.vp_model.specs.Types.{Commit, Event, Reply, Sent, Shown, View}
 use Rattle.vp_model.specs.Types.event
 use Rattle.vp_model.specs.Types.shown
-use Rattle.vp_model.specs.Words.{◌|>◌, for_each}
+use Rattle.vp_model.specs.Words.{for_each}
 use Rattle.vp_model.specs.Catalogue.{Catalogue}
 use Rattle.vp_model.specs.Texts.Answers.{answer_text}
 use Rattle.vp_model.specs.Texts.Messages.{message_text}
 use Rattle.vp_model.specs.World.{Moment}
 use Rattle.vp_pictures.specs.Places.{top}
 use Rattle.vp_pictures.specs.Sheets.{add_text, add_text_line, mark_at}
-use Rattle.vp_pictures.specs.Steps.{bar_of, cut_of, delivery, draw_line, draw_step, event_x, hide_message, hide_messages, idle_kind, is_drawn, life_of, lock_of, refuses, say_commit, say_event, say_message, say_reply, say_shown, say_view, with_arrow, with_cut, with_delivery, with_lock, with_look, with_looks, words_of_event}
+use Rattle.vp_pictures.specs.Steps.{bar_of, cut_of, delivery, draw_line, draw_step, event_x, hide_message, hide_messages, idle_kind, is_drawn, life_of, lock_of, refuses, say_commit, say_event, say_message, say_reply, say_shown, say_view, with_arrow, with_cut, with_delivery, with_lock, with_look, words_of_event}
 use Rattle.vp_pictures.specs.Words.{commit_words, idle_words, sent_words, view_words}
 use Rattle.vp_pictures.specs.declared.shape.Ink.{Ink}
 use Rattle.vp_pictures.specs.declared.shape.Ink.TheVariants as ink

@@ -1,7 +1,7 @@
 -- The arrows of a picture are those of its deliveries, and its stubs those of the messages that never come.
 use Rattle.std.proofs.Common.{◌≡◌, ◌∙◌, ℕ, Bool, true, false, List, [], ◌∷◌, ◌++◌, refl, sym, ap, subst, append_assoc, ⊎_elim, inl, inr, arith, ◌+◌, length}
-use Rattle.std.specs.Prelude.{◌⊎◌, ◌<◌, ◌||◌, not, if◌then◌else◌, is_some, Option, Some, None, option_to_list, slice_get}
-use Rattle.std.specs.List.{Contains, filter_map, flat_map}
+use Rattle.std.specs.Prelude.{◌⊎◌, ◌||◌, not, if◌then◌else◌, is_some, Option, Some, None, option_to_list, slice_get}
+use Rattle.std.specs.List.{Contains, filter_map}
 use Rattle.std.proofs.lemmas.List.Elements.{Contains-append_left, Contains-append_cases}
 use Rattle.std.proofs.lemmas.Option.{slice_get_within}
 use Rattle.vp_model.specs.Types.{Event}
@@ -10,10 +10,9 @@ use Rattle.vp_model.specs.Words.{has}
 use Rattle.vp_model.specs.Catalogue.{Catalogue}
 use Rattle.vp_model.specs.World.{Moment, Schedule, WorldState, moments_of, next, start_world}
 use Rattle.vp_pictures.specs.Pictures.{stub, stub_of}
-use Rattle.vp_pictures.specs.Places.{column, edge, top}
+use Rattle.vp_pictures.specs.Places.{top}
 use Rattle.vp_pictures.specs.Sheets.{mark_at}
 use Rattle.vp_pictures.specs.Steps.{arrow_kind, arrow_of, cut_of, delivery, is_drawn}
-use Rattle.vp_pictures.specs.declared.shape.Ink.{Ink}
 use Rattle.vp_pictures.specs.declared.shape.Ink.TheVariants as ink
 use Rattle.vp_pictures.specs.declared.shape.Shape.{Shape}
 use Rattle.vp_pictures.specs.declared.shape.Shape.TheVariants as shape

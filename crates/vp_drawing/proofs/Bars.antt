@@ -1,5 +1,5 @@
 -- The bars of a picture are those of the sites that are up.
-use Rattle.std.proofs.Common.{◌≡◌, ◌∙◌, ℕ, Bool, true, false, List, [], ◌∷◌, ◌++◌, map, refl, sym, ap, subst, ⊎_elim, inl, inr, arith, ◌+◌, length}
+use Rattle.std.proofs.Common.{◌≡◌, ◌∙◌, ℕ, Bool, true, false, List, [], ◌∷◌, ◌++◌, map, refl, sym, ap, subst, ⊎_elim, inl, inr, arith, ◌+◌}
 use Rattle.std.specs.Prelude.{◌⊎◌, ◌-◌, ◌*◌, ◌%◌, if◌then◌else◌, Option, Some, None, option_to_list}
 use Rattle.std.specs.List.{Contains, flat_map}
 use Rattle.std.proofs.lemmas.List.Elements.{Contains-append_left, Contains-append_right, Contains-append_cases}
@@ -8,7 +8,7 @@ use Rattle.vp_model.specs.Catalogue.{Catalogue}
 use Rattle.vp_model.specs.Site.{SiteState}
 use Rattle.vp_model.specs.World.{Moment, Place, Schedule, moments_of}
 use Rattle.vp_pictures.specs.Places.{column, top}
-use Rattle.vp_pictures.specs.Steps.{bar_in, colour, is_drawn, life_of, lock_of}
+use Rattle.vp_pictures.specs.Steps.{bar_in, colour, is_drawn, lock_of}
 use Rattle.vp_pictures.specs.declared.shape.Ink.TheVariants as ink
 use Rattle.vp_pictures.specs.declared.shape.Shape.{Shape}
 use Rattle.vp_pictures.specs.declared.shape.Shape.TheVariants as shape

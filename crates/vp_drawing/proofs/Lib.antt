@@ -1,5 +1,6 @@
 pub mod Looking
 pub mod Watching
+pub mod Runs
 pub mod Running
 pub mod Stepping
 pub mod Flowing

@@ -1,6 +1,6 @@
 -- The messages on a sheet are those that were sent.
-use Rattle.std.proofs.Common.{◌≡◌, ◌∙◌, ℕ, zero, suc, Bool, true, false, List, [], ◌∷◌, ◌++◌, refl, sym, ap, subst, ⊎_elim, inl, inr, arith, length-append, ◌+◌, length}
-use Rattle.std.specs.Prelude.{⊤, ◌⊎◌, ◌-◌, ◌==◌, if◌then◌else◌, Option, Some, None, slice_get}
+use Rattle.std.proofs.Common.{◌≡◌, ◌∙◌, ℕ, zero, suc, Bool, true, false, List, [], ◌∷◌, ◌++◌, refl, sym, ap, subst, ⊎_elim, arith, length-append, ◌+◌, length}
+use Rattle.std.specs.Prelude.{⊤, if◌then◌else◌, Some, slice_get}
 use Rattle.std.specs.List.{Contains}
 use Rattle.vp_model.specs.Types.{Commit, Reply, Sent, Shown}
 use Rattle.vp_model.specs.Types.shown
@@ -16,7 +16,7 @@ use Rattle.vp_drawing.specs.Moments.{draw_moment, draw_moments}
 use Rattle.vp_drawing.specs.Rows.{Sending, Turn, row_after, row_sent}
 use Rattle.vp_drawing.proofs.Adding.{mark, marks_in, marks_of, marks_shown, turned}
 use Rattle.vp_drawing.proofs.Lists.{at_in, in_cases, in_first, in_none, in_rest}
-use Rattle.vp_drawing.proofs.Turns.{Follows, IsFirst, at_place, follows_split, found, lines_so, messages_in, next_sends, numbered_so, part_so, there, top_sheet, top_tops, world_after}
+use Rattle.vp_drawing.proofs.Turns.{Follows, IsFirst, at_place, follows_split, found, lines_so, messages_in, next_sends, part_so, there, top_sheet, top_tops, world_after}
 
 -- ---- the messages of one step
 

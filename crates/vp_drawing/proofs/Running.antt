@@ -18,6 +18,7 @@ use Rattle.vp_model.specs.World.{WorldState, Moment, Moved, Run, at_site, crash,
 use Rattle.vp_pictures.specs.declared.sheet.Sheet.{Sheet}
 use Rattle.vp_drawing.specs.Limits.{picture_limits}
 use Rattle.vp_drawing.specs.Moments.{draw_moment, draw_moments}
+use Rattle.vp_drawing.proofs.Runs.{flow_keeps, run_keeps}
 
 -- ---- an event does not change the count of steps
 
@@ -115,32 +116,18 @@ step_grows : (catalogue : Catalogue) (n : ℕ) (e : Event) (run : Run) → Grows
 unfolding one_step
 step_grows catalogue n e run = (moment n run.world e (next catalogue e run.world) ∷ [], refl)
 
-flow_grows : (catalogue : Catalogue) (n count : ℕ) (run : Run) → Grows run (flow catalogue n count run)
-unfolding flow
-flow_grows catalogue n zero run = ([], sym (append-nil run.moments))
-flow_grows catalogue n (suc count) run = go (flowing run.world) (λ k. flow_grows catalogue n count (one_step catalogue n (event.Deliver k) run))
-  where
-    go : (o : Option ℕ) → ((k : ℕ) → Grows (one_step catalogue n (event.Deliver k) run) (flow catalogue n count (one_step catalogue n (event.Deliver k) run)))
-        → Grows run (for_some o (λ k run. flow catalogue n count (one_step catalogue n (event.Deliver k) run)) run)
-    go None rest = ([], sym (append-nil run.moments))
-    go (Some k) rest = grows_on run (one_step catalogue n (event.Deliver k) run) (flow catalogue n count (one_step catalogue n (event.Deliver k) run)) (step_grows catalogue n (event.Deliver k) run) (rest k)
+grows_more : (catalogue : Catalogue) (run : Run) (n : ℕ) (e : Event) (after : Run) → Grows run after → Grows run (one_step catalogue n e after)
+grows_more catalogue run n e after grows = grows_on run after (one_step catalogue n e after) grows (step_grows catalogue n e after)
 
-event_grows : (catalogue : Catalogue) (n : ℕ) (e : Event) (run : Run) → Grows run (one_event catalogue n e run)
-unfolding one_event
-event_grows catalogue n (event.Flow count) run = flow_grows catalogue n count run
-event_grows catalogue n e run = step_grows catalogue n e run
-
-run_grows : (catalogue : Catalogue) (n : ℕ) (events : List Event) (run : Run) → Grows run (run_from catalogue n events run)
-unfolding run_from
-run_grows catalogue n [] run = ([], sym (append-nil run.moments))
-run_grows catalogue n (e ∷ events) run = grows_on run (one_event catalogue n e run) (run_from catalogue (n + 1) events (one_event catalogue n e run)) (event_grows catalogue n e run) (run_grows catalogue (n + 1) events (one_event catalogue n e run))
+grows_none : (run : Run) → Grows run run
+grows_none run = ([], sym (append-nil run.moments))
 
 limit_kept : (a b : Run) (what : Counted) → Grows a b → limit_in picture_limits a.moments ≡ Some what → limit_in picture_limits b.moments ≡ Some what
 limit_kept a b what more some = rw more.1 (limit_grows a.moments more.0 what some)
 
 -- what ends a step ends the flow and the schedule
 pub flow_limited : (catalogue : Catalogue) (n count : ℕ) (run : Run) (what : Counted) → limit_in picture_limits run.moments ≡ Some what → limit_in picture_limits (flow catalogue n count run).moments ≡ Some what
-flow_limited catalogue n count run what some = limit_kept run (flow catalogue n count run) what (flow_grows catalogue n count run) some
+flow_limited catalogue n count run what some = limit_kept run (flow catalogue n count run) what (flow_keeps catalogue (Grows run) (grows_more catalogue run) n count run (grows_none run)) some
 
 pub run_limited : (catalogue : Catalogue) (n : ℕ) (events : List Event) (run : Run) (what : Counted) → limit_in picture_limits run.moments ≡ Some what → limit_in picture_limits (run_from catalogue n events run).moments ≡ Some what
-run_limited catalogue n events run what some = limit_kept run (run_from catalogue n events run) what (run_grows catalogue n events run) some
+run_limited catalogue n events run what some = limit_kept run (run_from catalogue n events run) what (run_keeps catalogue (Grows run) (grows_more catalogue run) n events run (grows_none run)) some

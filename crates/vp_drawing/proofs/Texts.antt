@@ -1,6 +1,6 @@
 -- The texts of a picture: each on its row, one below the other.
-use Rattle.std.proofs.Common.{◌≡◌, ◌∙◌, ℕ, zero, suc, Bool, true, false, List, [], ◌∷◌, ◌++◌, map, refl, sym, ap, subst, append_assoc, append-nil, ⊎_elim, inl, inr, arith, ◌+◌, length}
-use Rattle.std.specs.Prelude.{◌⊎◌, ◌≤◌, if◌then◌else◌, Option, Some, None, slice_get}
+use Rattle.std.proofs.Common.{◌≡◌, ◌∙◌, ℕ, zero, suc, Bool, true, false, List, [], ◌∷◌, ◌++◌, map, refl, sym, ap, subst, append_assoc, append-nil, ⊎_elim, arith, ◌+◌, length}
+use Rattle.std.specs.Prelude.{◌≤◌, if◌then◌else◌, Option, Some, None, slice_get}
 use Rattle.std.specs.Fmt.{decimal}
 use Rattle.std.specs.List.{Contains}
 use Rattle.std.specs.Option.{option_map_or}
@@ -14,8 +14,9 @@ use Rattle.vp_model.specs.Texts.Calls.{event_text}
 use Rattle.vp_model.specs.Texts.Messages.{message_text}
 use Rattle.vp_model.specs.World.{Moment, Schedule, moments_of}
 use Rattle.vp_pictures.specs.Places.{top}
-use Rattle.vp_pictures.specs.Steps.{is_drawn, refuses, words_of_event}
-use Rattle.vp_pictures.specs.Words.{arrival_words, commit_words, sent_words, view_words}
+use Rattle.vp_pictures.specs.Sheets.{mark_at}
+use Rattle.vp_pictures.specs.Steps.{idle_kind, is_drawn, refuses, words_of_event}
+use Rattle.vp_pictures.specs.Words.{arrival_words, commit_words, idle_words, sent_words, view_words}
 use Rattle.vp_pictures.specs.declared.shape.Ink.{Ink}
 use Rattle.vp_pictures.specs.declared.shape.Ink.TheVariants as ink
 use Rattle.vp_pictures.specs.declared.shape.Shape.{Shape}
@@ -29,7 +30,7 @@ use Rattle.vp_drawing.specs.Rows.{Sending, Turn, base, effects, height, height_i
 use Rattle.vp_drawing.proofs.Adding.{Said, commit_said, effects_count, message_count, message_said, one, reply_said, rows, said_count, said_in, shown_said, texts_in, turned, view_said, x_in}
 use Rattle.vp_drawing.proofs.Layers.{layer}
 use Rattle.vp_drawing.proofs.Lists.{get_left, get_right, in_cases, in_first, in_none, in_rest, to_map}
-use Rattle.vp_drawing.proofs.Marks.{FollowsAll, first_so, known_mark, sheet}
+use Rattle.vp_drawing.proofs.Marks.{FollowsAll, first_so, known_mark, mark_known, sheet}
 use Rattle.vp_drawing.proofs.Turns.{found, follows_split, lines_so, part_so, schedule_follows, there, top_sheet, top_tops}
 use Rattle.vp_model.specs.World.{start_world}
 
@@ -58,6 +59,16 @@ message_at catalogue x n (m ∷ rest) zero sent e =
     ∙ ap (λ k. Some (one (x + 22) ink.Message (sent_words k sent.to (message_text catalogue sent.message)))) (omega arith)
 message_at catalogue x n (m ∷ rest) (suc i) sent e =
     message_at catalogue x (n + 1) rest i sent e ∙ ap (λ k. Some (one (x + 22) ink.Message (sent_words k sent.to (message_text catalogue sent.message)))) (omega arith)
+
+reason_at : (catalogue : Catalogue) (x n : ℕ) (what : Shown) → (idle_words what ≡ [] → ⊥) → slice_get (shown_said catalogue x n what) 0 ≡ Some (one x (idle_kind what) (idle_words what))
+reason_at catalogue x n (shown.Step commits first messages replies) none = absurd (none refl)
+reason_at catalogue x n shown.Nothing none = absurd (none refl)
+reason_at catalogue x n shown.NoMessage none = refl
+reason_at catalogue x n (shown.Down site) none = refl
+reason_at catalogue x n (shown.Parted from to) none = refl
+reason_at catalogue x n (shown.Up site) none = refl
+reason_at catalogue x n (shown.Life life) none = refl
+reason_at catalogue x n (shown.LivesSpent life) none = refl
 
 -- ---- one below the other
 
@@ -177,19 +188,23 @@ module _ (s : Schedule) (part : Part) where
     event_there : (words : List ℕ) → words_of_event t.now.line.event before ≡ words → There row ink.Event words
     event_there words e = said_there 0 (one (x_in c t.now before) ink.Event words) (ap (λ words. Some (one (x_in c t.now before) ink.Event words)) e) row (omega arith)
 
-    pub other_there : ((k : ℕ) → t.now.line.event ≡ event.Deliver k → ⊥) → There row ink.Event (event_text t.now.line.event)
-    other_there none = event_there (event_text t.now.line.event) (go t.now.line.event none)
+    pub other_there : ((k : ℕ) → t.now.line.event ≡ event.Deliver k → Sending t.earlier k → ⊥) → There row ink.Event (event_text t.now.line.event)
+    other_there none = event_there (event_text t.now.line.event) (go t.now.line.event refl)
       where
-        go : (e : Event) → ((k : ℕ) → e ≡ event.Deliver k → ⊥) → words_of_event e before ≡ event_text e
-        go (event.Deliver k) none = absurd (none k refl)
-        go (event.Call site words) none = refl
-        go (event.Flow count) none = refl
-        go (event.Tick site) none = refl
-        go (event.Probe site) none = refl
-        go (event.Cut a b) none = refl
-        go (event.Heal a b) none = refl
-        go (event.Crash site) none = refl
-        go (event.Restart site) none = refl
+        unknown : (k : ℕ) → t.now.line.event ≡ event.Deliver k → (o : Option Mark) → mark_at before k ≡ o → words_of_event (event.Deliver k) before ≡ event_text (event.Deliver k)
+        unknown k is None e = ap (λ o. option_map_or (λ (m : Mark). arrival_words k m.text) o (event_text (event.Deliver k))) e
+        unknown k is (Some m) e = absurd (none k is (mark_known c part t.earlier follows k m e).0)
+
+        go : (e : Event) → t.now.line.event ≡ e → words_of_event e before ≡ event_text e
+        go (event.Deliver k) is = unknown k is (mark_at before k) refl
+        go (event.Call site words) is = refl
+        go (event.Flow count) is = refl
+        go (event.Tick site) is = refl
+        go (event.Probe site) is = refl
+        go (event.Cut a b) is = refl
+        go (event.Heal a b) is = refl
+        go (event.Crash site) is = refl
+        go (event.Restart site) is = refl
 
     pub delivery_there : (k : ℕ) (x : Sending t.earlier k) → t.now.line.event ≡ event.Deliver k → There row ink.Event (arrival_words k (message_text c x.sent.message))
     delivery_there k x delivers =
@@ -205,6 +220,13 @@ module _ (s : Schedule) (part : Part) where
 
     below : (j : ℕ) (it : Said) → slice_get (shown_in ++ view_in) j ≡ Some it → (r : ℕ) → row + 1 + j ≡ r → There r it.kind it.words
     below j it e r same = said_there (suc j) it e r (omega (arith, same))
+
+    pub reason_there : (idle_words t.now.line.shown ≡ [] → ⊥) → There (row + 1) (idle_kind t.now.line.shown) (idle_words t.now.line.shown)
+    reason_there none =
+        let what = t.now.line.shown in
+        let x = x_in c t.now before in
+        let n = length before.marks in
+        below 0 (one x (idle_kind what) (idle_words what)) (get_left shown_in view_in 0 (one x (idle_kind what) (idle_words what)) (reason_at c x n what none)) (row + 1) (omega arith)
 
     pub view_there : (view : View) → joined_in t.now ≡ Some view → There (row + 1 + effects t.now.line.shown) ink.View (view_words c view)
     view_there view e =

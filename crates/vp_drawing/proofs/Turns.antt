@@ -1,5 +1,5 @@
 -- The moments of a schedule one by one: what a sheet has of each, and how their worlds follow one another.
-use Rattle.std.proofs.Common.{◌≡◌, ◌∙◌, ℕ, zero, suc, Bool, true, false, List, [], ◌∷◌, ◌++◌, refl, sym, ap, subst, append_assoc, append-nil, ⊎_elim, inl, inr, arith, length-append, ◌+◌, length}
+use Rattle.std.proofs.Common.{◌≡◌, ◌∙◌, ℕ, zero, suc, Bool, true, false, List, [], ◌∷◌, ◌++◌, refl, sym, ap, subst, append-nil, ⊎_elim, inl, inr, arith, length-append, ◌+◌, length}
 use Rattle.std.specs.Prelude.{⊤, ◌⊎◌, ◌-◌, ◌^◌, ◌==◌, not, ◌&&◌, if◌then◌else◌, nat_lt, is_some, Option, Some, None, slice_get}
 use Rattle.std.specs.List.{Contains, sum_by}
 use Rattle.std.specs.Option.{option_map_or}
@@ -10,7 +10,7 @@ use Rattle.vp_model.specs.Types.{Event, Input, Sent, Shown}
 use Rattle.vp_model.specs.Types.event
 use Rattle.vp_model.specs.Types.input
 use Rattle.vp_model.specs.Types.shown
-use Rattle.vp_model.specs.Words.{◌|>◌, for_each, for_some, opening}
+use Rattle.vp_model.specs.Words.{for_each, for_some, opening}
 use Rattle.vp_model.specs.Catalogue.{Catalogue, RecordEntry, sites_of}
 use Rattle.vp_model.specs.Site.{SiteState}
 use Rattle.vp_model.specs.World.{Moment, Moved, Run, Schedule, WorldState, at_site, change_place, crash, deliver, flow, flowing, happens, is_cut, message_at, moment, moments_of, next, one_event, one_step, place_of, restart, restart_from, restart_place, run_from, run_of, shows, site_of, site_step, start_world}
@@ -31,6 +31,7 @@ use Rattle.vp_drawing.specs.Rows.{Sending, Turn, height_in, row_after}
 use Rattle.vp_drawing.proofs.Adding.{turned}
 use Rattle.vp_drawing.proofs.Lists.{get_left, get_right, in_one}
 use Rattle.vp_drawing.proofs.Layers.{layer}
+use Rattle.vp_drawing.proofs.Runs.{run_keeps}
 
 -- ---- what is on a sheet is of some moment, or was there before
 
@@ -217,28 +218,9 @@ module _ (catalogue : Catalogue) where
       let more = follows_more (start_world catalogue) run.moments m is.follows (rw is.last refl) in
       record { follows = more.0; last = more.1 }
 
-  flow_runs : (n count : ℕ) (run : Run) → IsRun run → IsRun (flow catalogue n count run)
-  unfolding flow
-  flow_runs n zero run is = is
-  flow_runs n (suc count) run is = go (flowing run.world) (λ k. flow_runs n count (one_step catalogue n (event.Deliver k) run) (step_runs n (event.Deliver k) run is))
-    where
-      go : (o : Option ℕ) → ((k : ℕ) → IsRun (flow catalogue n count (one_step catalogue n (event.Deliver k) run))) → IsRun (for_some o (λ k run. flow catalogue n count (one_step catalogue n (event.Deliver k) run)) run)
-      go None one = is
-      go (Some k) one = one k
-
-  event_runs : (n : ℕ) (e : Event) (run : Run) → IsRun run → IsRun (one_event catalogue n e run)
-  unfolding one_event
-  event_runs n (event.Flow count) run is = flow_runs n count run is
-  event_runs n e run is = step_runs n e run is
-
-  runs : (n : ℕ) (events : List Event) (run : Run) → IsRun run → IsRun (run_from catalogue n events run)
-  unfolding run_from
-  runs n [] run is = is
-  runs n (e ∷ events) run is = runs (n + 1) events (one_event catalogue n e run) (event_runs n e run is)
-
 pub schedule_follows : (s : Schedule) → Follows s.catalogue (start_world s.catalogue) (moments_of s)
 unfolding run_of
-schedule_follows s = (runs s.catalogue 1 s.events _ (record { follows = tt; last = refl })).follows
+schedule_follows s = (run_keeps s.catalogue (IsRun s.catalogue) (step_runs s.catalogue) 1 s.events _ (record { follows = tt; last = refl })).follows
 
 -- ---- what is sent
 

@@ -1,12 +1,12 @@
 -- What there is in a picture, and its text.
-use Rattle.std.proofs.Common.{◌≡◌, ◌∙◌, ℕ, Bool, true, false, List, [], ◌∷◌, ◌++◌, refl, sym, ap, subst, append_assoc, ⊎_elim, inl, inr, arith}
-use Rattle.std.specs.Prelude.{◌⊎◌, ◌↔◌, Option, Some, None}
+use Rattle.std.proofs.Common.{◌≡◌, ◌∙◌, ℕ, true, List, [], ◌∷◌, ◌++◌, refl, sym, ap, subst, append_assoc, ⊎_elim, arith}
+use Rattle.std.specs.Prelude.{Option, Some, None}
 use Rattle.std.specs.List.{Contains, cons_option, filter_map, flat_map}
 use Rattle.std.proofs.lemmas.Grind.{flat_map-append}
 use Rattle.std.specs.Option.{option_map_or}
 use Rattle.vp_model.specs.Catalogue.{Catalogue}
 use Rattle.vp_model.specs.World.{Schedule}
-use Rattle.vp_pictures.specs.Pictures.{edges, picture_text, size_text, stub_of, stub_text, texts_text}
+use Rattle.vp_pictures.specs.Pictures.{edges, size_text, stub_of, stub_text}
 use Rattle.vp_pictures.specs.Shapes.{shape_text}
 use Rattle.vp_pictures.specs.Style.{style}
 use Rattle.vp_pictures.specs.declared.shape.Ink.TheVariants as ink
@@ -15,13 +15,13 @@ use Rattle.vp_pictures.specs.declared.shape.Shape.TheVariants as shape
 use Rattle.vp_pictures.specs.declared.sheet.Mark.{Mark}
 use Rattle.vp_pictures.specs.declared.sheet.Part.{Part}
 use Rattle.vp_pictures.specs.declared.sheet.Sheet.{Sheet}
-use Rattle.vp_drawing.specs.Claims.{ArrowsAreDrawn, BarsAreDrawn, Has, IsArrow, IsBar, IsLife, IsLock, IsStub, OutcomesAreDrawn, ShapesAreWritten, StubsAreDrawn, TextsAreApart, is_arrow, is_bar, is_life, is_stub}
+use Rattle.vp_drawing.specs.Claims.{ArrowsAreDrawn, BarsAreDrawn, Has, OutcomesAreDrawn, ShapesAreWritten, StubsAreDrawn, TextsAreApart, is_arrow, is_bar, is_life, is_stub}
 use Rattle.vp_drawing.specs.Moments.{sheet_of}
 use Rattle.vp_drawing.proofs.Arrows.{arrow_layer, arrow_there, arrows_only, stub_layer, stub_there, stubs_only}
 use Rattle.vp_drawing.proofs.Bars.{IsOfSite, bar_layer, bar_there, bars_only, life_there, lock_there}
 use Rattle.vp_drawing.proofs.Layers.{differs, in_layers, layer, to_arrows, to_bars, to_stubs, to_texts}
 use Rattle.vp_drawing.proofs.Lists.{place_in}
-use Rattle.vp_drawing.proofs.Texts.{commit_there, delivery_there, has_rows, message_there, number_there, other_there, reply_there, texts_layer, view_there}
+use Rattle.vp_drawing.proofs.Texts.{commit_there, delivery_there, has_rows, message_there, number_there, other_there, reason_there, reply_there, texts_layer, view_there}
 
 module _ (s : Schedule) (part : Part) (a : Shape) where
   abbrev sheet : Sheet
@@ -107,6 +107,7 @@ outcomes = record {
   events = λ s part t is. record {
     number_is = text_in s part _ (number_there s part t is);
     event_is = λ none. let it = other_there s part t is none in (it.0, text_in s part _ it.1);
+    reason_is = λ some. let it = reason_there s part t is some in (it.0, text_in s part _ it.1);
     message_is = λ k x delivers. let it = delivery_there s part t is k x delivers in (it.0, text_in s part _ it.1);
   };
   outcomes = λ s part t is commits first messages replies did. record {

@@ -1,5 +1,5 @@
 -- What there is in the picture of a schedule, by its moments.
-use Rattle.std.specs.Prelude.{◌≡◌, ◌≤◌, ◌↔◌, ⊤, ℕ, ◌+◌, ◌-◌, ◌*◌, ◌%◌, ◌==◌, Bool, true, false, ◌&&◌, ◌||◌, not, if◌then◌else◌, is_some, List, [], ◌∷◌, ◌++◌, slice_get, length, Some, None}
+use Rattle.std.specs.Prelude.{◌≡◌, ◌≤◌, ◌↔◌, ℕ, ◌+◌, ◌-◌, ◌*◌, ◌%◌, ◌==◌, Bool, true, false, ◌&&◌, ◌||◌, not, if◌then◌else◌, is_some, List, [], ◌∷◌, ◌++◌, slice_get, length, Some}
 use Rattle.std.specs.Fmt.{decimal}
 use Rattle.std.specs.List.{Contains}
 use Rattle.vp_model.specs.Types.{Commit, Refreshing, Reply, Sent, View}
@@ -14,8 +14,8 @@ use Rattle.vp_pictures.specs.Heads.{head}
 use Rattle.vp_pictures.specs.Pictures.{picture_text, shapes_of}
 use Rattle.vp_pictures.specs.Places.{column, edge, stub_end, top}
 use Rattle.vp_pictures.specs.Shapes.{shape_text}
-use Rattle.vp_pictures.specs.Steps.{colour, is_drawn, refuses}
-use Rattle.vp_pictures.specs.Words.{arrival_words, commit_words, sent_words, view_words}
+use Rattle.vp_pictures.specs.Steps.{colour, idle_kind, is_drawn, refuses}
+use Rattle.vp_pictures.specs.Words.{arrival_words, commit_words, idle_words, sent_words, view_words}
 use Rattle.vp_pictures.specs.declared.shape.Ink.{Ink}
 use Rattle.vp_pictures.specs.declared.shape.Ink.TheVariants as ink
 use Rattle.vp_pictures.specs.declared.shape.Shape.{Shape}
@@ -158,12 +158,13 @@ module _ (s : Schedule) (part : Part) where
     abbrev pub row : ℕ
     row = row_after s.catalogue part turn.earlier
 
-    -- The event of a moment, with its number; a delivery is written as the message that comes.
+    -- The event of a moment, with its number; a delivery is written as the message that comes. Below it, why nothing was done.
     pub record HasEvent : Type 0 where
       pub number_is : Has s part (shape.Text ink.Faint 4 (base row) (decimal turn.now.number))
-      pub event_is : ((k : ℕ) → turn.now.line.event ≡ event.Deliver k → ⊥) → Says row ink.Event (event_text turn.now.line.event)
+      pub event_is : ((k : ℕ) → turn.now.line.event ≡ event.Deliver k → Sending turn.earlier k → ⊥) → Says row ink.Event (event_text turn.now.line.event)
       pub message_is : (k : ℕ) (x : Sending turn.earlier k) → turn.now.line.event ≡ event.Deliver k
           → Says row ink.Event (arrival_words k (message_text s.catalogue x.sent.message))
+      pub reason_is : (idle_words turn.now.line.shown ≡ [] → ⊥) → Says (row + 1) (idle_kind turn.now.line.shown) (idle_words turn.now.line.shown)
 
     -- Below it each commit, each message and each reply of its step, in this order, and last the view that is joined.
     module _ (commits : List Commit) (first : ℕ) (messages : List Sent) (replies : List Reply) where

@@ -8,3 +8,4 @@ pub mod Words
 pub mod Ends
 pub mod Rows
 pub mod Claims
+pub mod Worked

@@ -1,5 +1,5 @@
 -- The rows of a picture: below the head each moment that is drawn has its own, a text on each.
-use Rattle.std.specs.Prelude.{◌≡◌, ℕ, ◌+◌, if◌then◌else◌, is_some, List, [], ◌∷◌, ◌++◌, length, slice_get, Some}
+use Rattle.std.specs.Prelude.{◌≡◌, ℕ, ◌+◌, if◌then◌else◌, is_some, List, ◌∷◌, ◌++◌, length, slice_get, Some}
 use Rattle.std.specs.List.{sum_by}
 use Rattle.vp_model.specs.Types.{Commit, Reply, Sent, Shown}
 use Rattle.vp_model.specs.Types.shown

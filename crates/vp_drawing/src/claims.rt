@@ -1,6 +1,7 @@
 //! What holds of the pictures that the definitions draw, as the contracts of functions that do nothing.
 
 ghost use Rattle.vp_drawing.specs.Claims.{ArrowsAreDrawn, BarsAreDrawn, OutcomesAreDrawn, ShapesAreWritten, StubsAreDrawn, TextsAreApart};
+ghost use Rattle.vp_drawing.specs.Worked.{PictureIsWorked};
 
 /// Each shape of a picture is written in its text.
 pub fn shapes_are_written()
@@ -31,4 +32,9 @@ pub fn outcomes_are_drawn()
 /// Each text is on a row below that of the text before it, but for those of the head and the numbers at the left.
 pub fn texts_are_apart()
     ensures { TextsAreApart }
+{}
+
+/// A schedule has exactly the picture whose lines were written by hand.
+pub fn a_picture_is_worked()
+    ensures { PictureIsWorked }
 {}
