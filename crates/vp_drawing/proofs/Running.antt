@@ -1,20 +1,17 @@
 -- The steps of a run, and the limits on them.
-use Rattle.std.proofs.Common.{◌≡◌, ◌∙◌, ℕ, zero, suc, ◌+◌, ◌<◌, ◌≤◌, Bool, true, false, cond, List, [], ◌∷◌, ◌++◌, length, refl, sym, ap, subst, arith, append_assoc, append-nil}
-use Rattle.std.specs.Prelude.{◌-◌, ◌^◌, ◌==◌, ◌||◌, nat_lt, if◌then◌else◌, is_some, find, Option, Some, None, option_and_then, Result, Ok, Err}
+use Rattle.std.proofs.Common.{◌≡◌, ◌∙◌, ℕ, ◌+◌, Bool, true, false, cond, List, [], ◌∷◌, ◌++◌, refl, sym, ap, append_assoc, append-nil}
+use Rattle.std.specs.Prelude.{◌-◌, ◌^◌, ◌==◌, ◌||◌, if◌then◌else◌, is_some, find, Option, Some, None, option_and_then}
 use Rattle.std.specs.Option.{option_map_or, option_or}
 use Rattle.std.specs.List.{list_any}
-use Rattle.std.proofs.lemmas.Bool.Decides.{nat_tests}
 use Rattle.std.proofs.lemmas.List.Folds.{list_any-append, find-append}
 use Rattle.std.proofs.lemmas.List.Sums.{fold-append}
 use Rattle.vp_model.specs.Types.{Counted, Event, Input, Sent}
-use Rattle.vp_model.specs.Types.counted
 use Rattle.vp_model.specs.Types.event
 use Rattle.vp_model.specs.Types.input
 use Rattle.vp_model.specs.Types.shown
-use Rattle.vp_model.specs.Words.{for_each, for_some}
 use Rattle.vp_model.specs.Catalogue.{Catalogue}
 use Rattle.vp_model.specs.Limits.{exceeded, is_over, limit_in}
-use Rattle.vp_model.specs.World.{WorldState, Moment, Moved, Run, at_site, crash, deliver, flow, flowing, happens, is_cut, message_at, moment, next, one_event, one_step, place_of, restart, restart_from, run_from, shows, site_of, site_step}
+use Rattle.vp_model.specs.World.{WorldState, Moment, Moved, Run, at_site, crash, deliver, flow, happens, is_cut, message_at, moment, next, one_step, place_of, restart, restart_from, run_from, shows, site_of, site_step}
 use Rattle.vp_pictures.specs.declared.sheet.Sheet.{Sheet}
 use Rattle.vp_drawing.specs.Limits.{picture_limits}
 use Rattle.vp_drawing.specs.Moments.{draw_moment, draw_moments}

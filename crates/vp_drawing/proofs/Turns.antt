@@ -1,5 +1,5 @@
 -- The moments of a schedule one by one: what a sheet has of each, and how their worlds follow one another.
-use Rattle.std.proofs.Common.{◌≡◌, ◌∙◌, ℕ, zero, suc, Bool, true, false, List, [], ◌∷◌, ◌++◌, refl, sym, ap, subst, append-nil, ⊎_elim, inl, inr, arith, length-append, ◌+◌, length}
+use Rattle.std.proofs.Common.{◌≡◌, ◌∙◌, ℕ, Bool, true, false, List, [], ◌∷◌, ◌++◌, refl, sym, ap, subst, append-nil, ⊎_elim, inl, inr, arith, length-append, ◌+◌, length}
 use Rattle.std.specs.Prelude.{⊤, ◌⊎◌, ◌-◌, ◌^◌, ◌==◌, not, ◌&&◌, if◌then◌else◌, nat_lt, is_some, Option, Some, None, slice_get}
 use Rattle.std.specs.List.{Contains, sum_by}
 use Rattle.std.specs.Option.{option_map_or}
@@ -10,10 +10,10 @@ use Rattle.vp_model.specs.Types.{Event, Input, Sent, Shown}
 use Rattle.vp_model.specs.Types.event
 use Rattle.vp_model.specs.Types.input
 use Rattle.vp_model.specs.Types.shown
-use Rattle.vp_model.specs.Words.{for_each, for_some, opening}
+use Rattle.vp_model.specs.Words.{for_each, opening}
 use Rattle.vp_model.specs.Catalogue.{Catalogue, RecordEntry, sites_of}
 use Rattle.vp_model.specs.Site.{SiteState}
-use Rattle.vp_model.specs.World.{Moment, Moved, Run, Schedule, WorldState, at_site, change_place, crash, deliver, flow, flowing, happens, is_cut, message_at, moment, moments_of, next, one_event, one_step, place_of, restart, restart_from, restart_place, run_from, run_of, shows, site_of, site_step, start_world}
+use Rattle.vp_model.specs.World.{Moment, Moved, Run, Schedule, WorldState, at_site, change_place, crash, deliver, happens, is_cut, message_at, moment, moments_of, next, one_step, place_of, restart, restart_from, restart_place, run_of, shows, site_of, site_step, start_world}
 use Rattle.vp_pictures.specs.Heads.{head, record_head, site_head, weight_head, with_opening}
 use Rattle.vp_pictures.specs.Places.{top}
 use Rattle.vp_pictures.specs.Sheets.{add_text, add_text_line, next_line}
