@@ -65,7 +65,7 @@ texts =
     ∷ codes "<text class=\"n\" x=\"406\" y=\"25\">port 7002</text>"
     ∷ codes "<text class=\"e\" x=\"56\" y=\"43\">x: weight 1 of 2</text>"
     ∷ codes "<text class=\"e\" x=\"336\" y=\"43\">x: weight 1 of 2</text>"
-    ∷ codes "<text class=\"n\" x=\"56\" y=\"61\">bar: the view that is held; thin bar: a copy locked for its refresh; stub: a message that never comes</text>"
+    ∷ codes "<text class=\"n\" x=\"56\" y=\"61\">bar: the view held; thin, purple bar: a copy locked for its refresh; stub: a message that never comes</text>"
     ∷ codes "<text class=\"w\" x=\"76\" y=\"79\">view 0@0, members 1 2: may use 1 of 1 records</text>"
     ∷ codes "<text class=\"n\" x=\"4\" y=\"97\">1</text>"
     ∷ codes "<text class=\"e\" x=\"76\" y=\"97\">probe 1</text>"
