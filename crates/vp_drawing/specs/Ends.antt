@@ -1,5 +1,5 @@
 -- How a run of the program ends.
-use Rattle.std.specs.Prelude.{◌≡◌, ◌≤◌, ◌<◌, ◌⊎◌, ℕ, List, [], length, codes, Some, None}
+use Rattle.std.specs.Prelude.{◌≡◌, ◌≤◌, ◌<◌, ◌⊎◌, ℕ, List, length, codes, Some, None}
 use Rattle.std.specs.Io.KnownBytes.{Appends}
 use Rattle.vp_outside.specs.Causes.{Rose}
 use Rattle.vp_outside.specs.Input.{SourceState, IsEnded, Took}
@@ -65,9 +65,9 @@ module _ (words : List (List ℕ)) (source source' : SourceState) (sink sink' : 
     pub defines : Defines words source source' end text
     pub appended : AppendsPrefix sink.held sink'.held text
 
-  -- nothing went to the sink
+  -- the sink was not called
   abbrev pub IsSilent : Type 0
-  IsSilent = Appends sink.held sink'.held []
+  IsSilent = sink' ≡ sink
 
   -- what the status says
   abbrev pub Ends : Status → Type 0
