@@ -4,7 +4,8 @@ ghost use Rattle.std.specs.Prelude.{◌≡◌, IsTrue, IfOk};
 ghost use Rattle.vp_base.specs.Calls.{IsCall};
 ghost use Rattle.vp_outside.specs.Links.{Sends, StaysBound};
 ghost use Rattle.vp_runs.specs.Asking.{call_frame};
-ghost use Rattle.vp_wire.specs.Grammar.{frame_bytes, IsAnswer};
+ghost use Rattle.vp_wire.specs.Grammar.{frame_bytes};
+ghost use Rattle.vp_laws.specs.Shapes.{IsAnswer};
 ghost use Rattle.vp_client.specs.Asked.{Asks, of_output};
 ghost use Rattle.vp_client.specs.declared.asking.AskFault.TheVariants.{LinkFault as LinkFailed, NoMemory as OutOfMemory};
 

@@ -34,9 +34,10 @@ datagram_of_call words = datagram_to 7100 (call_frame 1 words)
 
 -- a client begins a transaction
 abbrev pub begin : Datagram
-begin = record { port = 7100; bytes = 86 ∷ 1 ∷ 32 ∷ 0 ∷ 1 ∷ 1 ∷ [] }
+begin = record { port = 7100; bytes = 86 ∷ 2 ∷ 32 ∷ 0 ∷ 1 ∷ 1 ∷ [] }
 
--- A call of another site, a vote that isn't from its sender's port, and bytes that are no frame; then the end, and what comes too late.
+-- A call of another site, a vote that isn't from its sender's port, and bytes that are no frame, of the first version all; then the end,
+-- and what comes too late.
 abbrev pub passed_over : List Datagram
 passed_over =
     record { port = 7100; bytes = 86 ∷ 1 ∷ 32 ∷ 0 ∷ 2 ∷ 1 ∷ [] }

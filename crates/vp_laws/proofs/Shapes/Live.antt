@@ -34,24 +34,24 @@ Content = ℕ × Option (List ℕ)
 abbrev size : List Content → ℕ
 size ws = sum_by (λ (w : Content). content_size w.1) ws
 
--- a delete makes it no larger
-delete_size : (rec : ℕ) (ws : List Content) → size (put_at rec None ws) ≤ size ws
-delete_size rec [] = omega arith
-delete_size rec (w ∷ ws) =
-    let rest = delete_size rec ws in
+-- what is put makes it larger by no more than its own size
+pub put_size : (rec : ℕ) (content : Option (List ℕ)) (ws : List Content) → size (put_at rec content ws) ≤ size ws + content_size content
+put_size rec content [] = let one = sum_by-cons (λ (w : Content). content_size w.1) (rec, content) [] in omega (arith, one)
+put_size rec content (w ∷ ws) =
+    let rest = put_size rec content ws in
     let one = sum_by-cons (λ (w : Content). content_size w.1) w ws in
-    let last = sum_by-cons (λ (w : Content). content_size w.1) w (put_at rec None ws) in
-    let first = sum_by-cons (λ (w : Content). content_size w.1) (rec, None) ws in
-    let both = sum_by-cons (λ (w : Content). content_size w.1) (rec, None) (w ∷ ws) in
-    by_test (λ (zs : List Content). size zs ≤ size (w ∷ ws)) (rec == w.0) ((rec, None) ∷ ws) _ (λ e. omega (arith, one, first))
-    (λ e. by_test (λ (zs : List Content). size zs ≤ size (w ∷ ws)) (nat_lt rec w.0) ((rec, None) ∷ w ∷ ws) (w ∷ put_at rec None ws) (λ f. omega (arith, one, both)) (λ f. omega (arith, rest, one, last)))
+    let last = sum_by-cons (λ (w : Content). content_size w.1) w (put_at rec content ws) in
+    let first = sum_by-cons (λ (w : Content). content_size w.1) (rec, content) ws in
+    let both = sum_by-cons (λ (w : Content). content_size w.1) (rec, content) (w ∷ ws) in
+    by_test (λ (zs : List Content). size zs ≤ size (w ∷ ws) + content_size content) (rec == w.0) ((rec, content) ∷ ws) _ (λ e. omega (arith, one, first))
+    (λ e. by_test (λ (zs : List Content). size zs ≤ size (w ∷ ws) + content_size content) (nat_lt rec w.0) ((rec, content) ∷ w ∷ ws) (w ∷ put_at rec content ws) (λ f. omega (arith, one, both)) (λ f. omega (arith, rest, one, last)))
 
 -- what is done within the limit leaves it so
 done_size : (t : Live) (deed : Deed) → size_of t ≤ 15360 → is_too_large t deed ≡ false → size_of (with_deed deed t) ≤ 15360
 done_size t (Deed.operates (op.Read rec value)) size fits =
     subst (λ (ws : List Content). sum_by (λ (w : Content). content_size w.1) ws + 50 * length t.tables ≤ 15360) (sym (fold-append with_op [] t.ops (op.Read rec value ∷ []))) size
 done_size t (Deed.operates (op.Write rec None)) size fits =
-    let less = delete_size rec (last_writes t.ops) in
+    let less = put_size rec None (last_writes t.ops) in
     subst (λ (ws : List Content). sum_by (λ (w : Content). content_size w.1) ws + 50 * length t.tables ≤ 15360) (sym (fold-append with_op [] t.ops (op.Write rec None ∷ []))) (omega (arith, size, less))
 done_size t (Deed.operates (op.Write rec (Some value))) size fits = within _ fits
   where

@@ -5,12 +5,11 @@ use Rattle.vp_model.specs.Types.{TxnId, Pending, Live}
 use Rattle.vp_model.specs.Types.call
 use Rattle.vp_model.specs.Types.input
 use Rattle.vp_model.specs.Types.message
-use Rattle.vp_model.specs.Types.op
 use Rattle.vp_model.specs.Words.{has, is_empty}
 use Rattle.vp_model.specs.Catalogue.{Catalogue, find_record}
 use Rattle.vp_model.specs.Site.{SiteState, Lent, begin_step, put_back}
 use Rattle.vp_model.specs.Transactions.{Deed, complete, decide, wait_for}
-use Rattle.vp_model.specs.Calls.{answer_read}
+use Rattle.vp_model.specs.Calls.{answer_read, change_asked}
 use Rattle.vp_model.specs.Answers.{with_missing, count_in, read_answered, on_read_answer, write_answered, on_write_answer, voted, on_vote, on_answer}
 use Rattle.vp_model.specs.Messages.{on_message}
 use Rattle.vp_model.specs.Step.{on_input, step}
@@ -34,9 +33,9 @@ module _ (catalogue : Catalogue) (from : ℕ) (t : Live) (p : Pending) (waits : 
   unfolding on_read_answer
   read_is l txn number name value rec live words found = missing_is l (λ t q. read_answered catalogue from p.number value t q q.call) live ∙ rw (words, eq_self p.number, found) refl
 
-  write_is : (l : Lent) (txn : TxnId) (number : ℕ) (name value : List ℕ) (rec : ℕ) → l.live ≡ t ∷ [] → p.call ≡ call.Write txn number name value → find_record catalogue name ≡ Some rec → on_write_answer catalogue from t.txn p.number l ≡ count_in from t p (complete t p (Deed.operates (op.Write rec (Some value)))) l
+  change_is : (l : Lent) (deed : Deed) → l.live ≡ t ∷ [] → change_asked catalogue p.call ≡ Some deed → on_write_answer catalogue from t.txn p.number l ≡ count_in from t p (complete t p deed) l
   unfolding on_write_answer
-  write_is l txn number name value rec live words found = missing_is l (write_answered catalogue from p.number) live ∙ rw (words, eq_self p.number, found) refl
+  change_is l deed live asked = missing_is l (write_answered catalogue from p.number) live ∙ rw (eq_self p.number, asked) refl
 
   vote_is : (id : ℕ) (l : Lent) (txn : TxnId) (number : ℕ) → l.live ≡ t ∷ [] → p.call ≡ call.Commit txn number → on_vote catalogue id from t.txn l ≡ count_in from t p (decide catalogue id t) l
   unfolding on_vote
@@ -48,9 +47,9 @@ module _ (catalogue : Catalogue) (from : ℕ) (t : Live) (p : Pending) (waits : 
   unfolding step on_input on_message on_answer
   reads_answered x txn number name value rec live words found = ap (put_back (begin_step x)) (read_is (lent_at x) txn number name value rec live words found)
 
-  pub writes_answered : (x : SiteState) (txn : TxnId) (number : ℕ) (name value : List ℕ) (rec : ℕ) → x.live ≡ t ∷ [] → p.call ≡ call.Write txn number name value → find_record catalogue name ≡ Some rec → step catalogue x (input.Message from (message.WriteAnswer t.txn p.number)) ≡ put_back (begin_step x) (count_in from t p (complete t p (Deed.operates (op.Write rec (Some value)))) (lent_at x))
+  pub changes_answered : (x : SiteState) (deed : Deed) → x.live ≡ t ∷ [] → change_asked catalogue p.call ≡ Some deed → step catalogue x (input.Message from (message.WriteAnswer t.txn p.number)) ≡ put_back (begin_step x) (count_in from t p (complete t p deed) (lent_at x))
   unfolding step on_input on_message on_answer
-  writes_answered x txn number name value rec live words found = ap (put_back (begin_step x)) (write_is (lent_at x) txn number name value rec live words found)
+  changes_answered x deed live asked = ap (put_back (begin_step x)) (change_is (lent_at x) deed live asked)
 
   pub votes_counted : (x : SiteState) (txn : TxnId) (number : ℕ) → x.live ≡ t ∷ [] → p.call ≡ call.Commit txn number → step catalogue x (input.Message from (message.Vote t.txn)) ≡ put_back (begin_step x) (count_in from t p (decide catalogue x.id t) (lent_at x))
   unfolding step on_input on_message on_answer

@@ -116,6 +116,15 @@ module _ (catalogue : Catalogue) (x : SiteState) (t : Live) (number : ℕ) (live
       let asked : ℕ → Deed = λ rec. Deed.operates (op.Write rec (Some value)) in
       ap (put_back (begin_step x)) (call_is catalogue x.id x.held t (lent_at x) number words live next idle ∙ record_is catalogue x.id x.held t (lent_at x) p name asked rec (change catalogue x.id x.held t p name asked) f refl n small (rw u refl))
 
+  pub deletes : (name : List ℕ) (rec : ℕ) → find_record catalogue name ≡ Some rec → nat_le 64 (length t.answers) ≡ false → is_usable_in catalogue x.held rec ≡ true
+      → step catalogue x (input.Call 0 (call.Delete t.txn number name)) ≡ put_back (begin_step x) (change catalogue x.id x.held t (handled 0 number (call.Delete t.txn number name)) name (λ rec. Deed.operates (op.Write rec None)) rec (lent_at x))
+  unfolding step on_input on_call own_call new_call new_change
+  deletes name rec f n u =
+      let words = call.Delete t.txn number name in
+      let p = handled 0 number words in
+      let asked : ℕ → Deed = λ rec. Deed.operates (op.Write rec None) in
+      ap (put_back (begin_step x)) (call_is catalogue x.id x.held t (lent_at x) number words live next idle ∙ record_is catalogue x.id x.held t (lent_at x) p name asked rec (change catalogue x.id x.held t p name asked) f refl n refl (rw u refl))
+
   pub commits : step catalogue x (input.Call 0 (call.Commit t.txn number)) ≡ put_back (begin_step x) (commit catalogue x.id t (handled 0 number (call.Commit t.txn number)) (lent_at x))
   unfolding step on_input on_call own_call new_call
   commits = ap (put_back (begin_step x)) (call_is catalogue x.id x.held t (lent_at x) number (call.Commit t.txn number) live next idle)
