@@ -1,48 +1,87 @@
 -- The event of a turn by the index is that of the definition.
-use Rattle.std.proofs.Common.{◌≡◌, ◌∙◌, ap, sym, subst, true, ℕ, ◌≤◌, List, Some, None, length, refl, arith}
-use Rattle.std.specs.Prelude.{Option, option_map, option_and_then, is_some, IfSome}
-use Rattle.std.proofs.lemmas.Bool.{false≢true}
-use Rattle.vp_model.specs.Types.{Input, Sent}
+use Rattle.std.proofs.Common.{◌≡◌, ◌∙◌, ap, sym, subst, Bool, true, false, cond, ℕ, ◌≤◌, List, Some, None, Result, Ok, Err, length, refl, arith}
+use Rattle.std.specs.Prelude.{Option, option_map, option_and_then, is_some, IfSome, ◌==◌}
+use Rattle.std.proofs.lemmas.Bool.{false≢true, eqb-true}
+use Rattle.vp_model.specs.Types.{Input, Message, Sent}
 use Rattle.vp_model.specs.Types.event
 use Rattle.vp_model.specs.Types.input
 use Rattle.vp_model.specs.Words.{has}
-use Rattle.vp_runs.specs.Arrivals.{IsArrival}
+use Rattle.vp_wire.specs.declared.frame.Frame.{Frame}
+use Rattle.vp_wire.specs.declared.frame.Body.{Body}
+use Rattle.vp_wire.specs.declared.frame.Body.TheVariants as body
+use Rattle.vp_wire.specs.Decoded.{read_frame}
+use Rattle.vp_wire.specs.Grammar.{frame_bytes, frame_of}
+use Rattle.vp_laws.specs.ShapeLaws.{message_frame}
+use Rattle.vp_laws.proofs.Moves.LocalViews.{letter}
+use Rattle.vp_runs.specs.Arrivals.{IsArrival, arrival_in}
 use Rattle.vp_runs.specs.declared.arrival.Arrival.{Arrival}
 use Rattle.vp_runs.specs.declared.arrival.Arrival.TheVariants.{Bad, Stray, Stops, Gives}
-use Rattle.vp_fitting.specs.Asked.{asks}
+use Rattle.vp_fitting.specs.Asked.{asks, asks_body, asks_of}
 use Rattle.vp_fitting.specs.Merged.{event_of, is_ready, own_events, lowest, events_in}
 use Rattle.vp_fitting.proofs.Messages.{AskedBy, asked_by}
-use Rattle.vp_merge.specs.Numbers.{entry_of, number_in, number_of, IsIndex, HasFrame}
+use Rattle.vp_merge.specs.Numbers.{sent_again, as_sent, entry_of, number_in, number_of, IsIndex, HasFrame, HasTurn}
 use Rattle.vp_merge.specs.Played.{IsPut}
 use Rattle.vp_merge.specs.Tracks.{event_by, own_event, is_ready_by}
 use Rattle.vp_merge.specs.declared.numbers.FrameNumbers.{FrameNumbers}
 use Rattle.vp_merge.proofs.Index.{position-within}
 
-module _ (numbers : FrameNumbers) (all : List Sent) (index : IsIndex numbers all) (site : ℕ) (frame : List ℕ) (there : HasFrame numbers frame) where
+-- the frame of a turn that takes a message is sent as that of the message
+asked_frame : (site : ℕ) (recorded : List ℕ) (from : ℕ) (m : Message) → asks site recorded ≡ Gives (input.Message from m) → as_sent recorded ≡ frame_bytes (message_frame (letter from site m))
+unfolding asks as_sent
+asked_frame site recorded from m e = go (read_frame recorded) refl e
+  where
+    same : (f : Frame) → (here : Bool) → (f.to == site) ≡ here → cond here (arrival_in 0 f.from f.body) Stray ≡ Gives (input.Message from m) → frame_bytes (frame_of f.from f.to f.body) ≡ frame_bytes (message_frame (letter from site m))
+    same f true t q =
+        let to : f.to ≡ site = eqb-true f.to site t in
+        let said = said_by f.from f.body q in
+        ap (λ (n : ℕ). frame_bytes (frame_of n f.to f.body)) said.0 ∙ ap (λ (n : ℕ). frame_bytes (frame_of from n f.body)) to ∙ ap (λ (b : Body). frame_bytes (frame_of from site b)) said.1
+      where
+        said_by : (k : ℕ) (b : Body) → arrival_in 0 k b ≡ Gives (input.Message from m) → (k ≡ from) × (b ≡ body.Message m)
+        said_by k (body.Message n) q = let a : k ≡ from = cc in let b : n ≡ m = cc in (a, ap (λ (n : Message). body.Message n) b)
+        said_by k (body.Call words) q = absurd cc
+        said_by k (body.Reply answer) q = absurd cc
+        said_by k body.Tick q = absurd cc
+        said_by k body.ProbeNow q = absurd cc
+        said_by k body.Stop q = absurd cc
+    same f false t q = absurd cc
+
+    not_stopping : (f : Frame) (b : Body) → asks_body site f b ≡ Gives (input.Message from m) → cond (f.to == site) (arrival_in 0 f.from b) Stray ≡ Gives (input.Message from m)
+    not_stopping f (body.Message n) q = q
+    not_stopping f (body.Call words) q = q
+    not_stopping f (body.Reply answer) q = q
+    not_stopping f body.Tick q = q
+    not_stopping f body.ProbeNow q = q
+    not_stopping f body.Stop q = absurd cc
+
+    go : (read : Result Frame ℕ) → read_frame recorded ≡ read → asks_of site read ≡ Gives (input.Message from m) → sent_again read recorded ≡ frame_bytes (message_frame (letter from site m))
+    go (Ok f) is q = same f (f.to == site) refl (not_stopping f f.body q)
+    go (Err at) is q = absurd cc
+
+module _ (numbers : FrameNumbers) (all : List Sent) (index : IsIndex numbers all) (site : ℕ) (frame recorded : List ℕ) (is : frame ≡ as_sent recorded) (there : HasTurn numbers recorded) where
   number_is : number_in numbers frame ≡ number_of frame all
-  number_is = by (entry_of numbers frame) refl there
+  number_is = by (entry_of numbers frame) refl (subst (HasFrame numbers) (sym is) there)
     where
       by : (o : Option (Option ℕ)) → entry_of numbers frame ≡ o → is_some o ≡ true → option_and_then (λ (number : Option ℕ). number) o ≡ number_of frame all
       by None e some = absurd (false≢true some)
       by (Some number) e some = index frame number e
 
-  by_asked : (given : Input) → AskedBy site frame given → event_by numbers site frame given ≡ event_of all site given
+  by_asked : (given : Input) → AskedBy site recorded given → asks site recorded ≡ Gives given → event_by numbers site frame given ≡ event_of all site given
   unfolding lowest
-  by_asked _ (AskedBy.called words call) = refl
-  by_asked _ (AskedBy.sent from m fr is) = ap (option_map event.Deliver) (number_is ∙ ap (λ bytes. number_of bytes all) is)
-  by_asked _ AskedBy.ticked = refl
-  by_asked _ AskedBy.probed = refl
+  by_asked _ (AskedBy.called words call) e = refl
+  by_asked _ (AskedBy.sent from m form) e = ap (option_map event.Deliver) (number_is ∙ ap (λ bytes. number_of bytes all) (is ∙ asked_frame site recorded from m e))
+  by_asked _ AskedBy.ticked e = refl
+  by_asked _ AskedBy.probed e = refl
 
-  same_event : (given : Input) → asks site frame ≡ Gives given → event_by numbers site frame given ≡ event_of all site given
-  same_event given e = by_asked given (asked_by site frame given e)
+  same_event : (given : Input) → asks site recorded ≡ Gives given → event_by numbers site frame given ≡ event_of all site given
+  same_event given e = by_asked given (asked_by site recorded given e) e
 
-  pub same_ready : (a : Arrival) → asks site frame ≡ a → is_ready_by numbers site frame a ≡ is_ready all site a
+  pub same_ready : (a : Arrival) → asks site recorded ≡ a → is_ready_by numbers site frame a ≡ is_ready all site a
   same_ready (Gives given) e = ap is_some (same_event given e)
   same_ready (Bad at) e = refl
   same_ready Stray e = refl
   same_ready Stops e = refl
 
-  pub same_events : (a : Arrival) → asks site frame ≡ a → events_in (own_event numbers site frame a) ≡ own_events all site a
+  pub same_events : (a : Arrival) → asks site recorded ≡ a → events_in (own_event numbers site frame a) ≡ own_events all site a
   same_events (Gives given) e = ap events_in (same_event given e)
   same_events (Bad at) e = refl
   same_events Stray e = refl
