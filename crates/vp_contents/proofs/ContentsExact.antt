@@ -1,5 +1,5 @@
 -- Contents are read exactly, in each version.
-use Rattle.std.proofs.Common.{◌≡◌, List, ℕ, Option, Some, None, refl, sym, subst}
+use Rattle.std.proofs.Common.{List, ℕ, Option, Some, None, refl, sym, subst}
 use Rattle.vp_text.proofs.Exact.{Exact, Made, made_exact, exact_as}
 use Rattle.vp_bytes.specs.Fields.{Spelled}
 use Rattle.vp_bytes.proofs.Free.{IsFree, made_free, free_as}

@@ -1,5 +1,5 @@
 -- Copies are read exactly, in each version.
-use Rattle.std.proofs.Common.{ℕ, suc, ◌+◌, ◌-◌, ◌≤◌, ◌<◌, List, [], ◌∷◌, ◌++◌, Option, refl, sym, subst, arith}
+use Rattle.std.proofs.Common.{ℕ, suc, ◌+◌, ◌-◌, ◌≤◌, ◌<◌, List, [], ◌∷◌, Option, refl, sym, subst, arith}
 use Rattle.vp_text.proofs.Exact.{Exact, Then, Made, made_exact, exact_as, one_value}
 use Rattle.vp_base.specs.Identifiers.{IsView}
 use Rattle.vp_base.specs.declared.entry.Stored.{Stored}

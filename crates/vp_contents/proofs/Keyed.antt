@@ -1,12 +1,12 @@
 -- Items that are a number and a field are read exactly, after their count; the numbers ascend.
-use Rattle.std.proofs.Common.{◌≡◌, ℕ, zero, suc, ◌+◌, ◌-◌, ◌≤◌, true, List, [], ◌∷◌, ◌++◌, length, flat_map, Result, Ok, refl, sym, ap, subst, ◌∙◌, arith}
+use Rattle.std.proofs.Common.{◌≡◌, ℕ, zero, suc, ◌+◌, ◌-◌, ◌≤◌, true, List, [], ◌∷◌, length, flat_map, Result, Ok, refl, sym, ap, subst, ◌∙◌, arith}
 use Rattle.vp_text.specs.Reading.{◌>>=◌}
 use Rattle.vp_text.proofs.Exact.{Exact, Then, Made, made_exact, exact_as, IsOne, one_value}
 use Rattle.vp_bytes.specs.Fields.{Spelled}
 use Rattle.vp_bytes.specs.Reading.{within, ascending_at, counted_at}
 use Rattle.vp_bytes.proofs.Free.{IsFree, IsByteOf, byte_free, byte_one, free_then, then_free, made_free, free_as}
 use Rattle.vp_bytes.proofs.Identifiers.{within_from, within_to}
-use Rattle.vp_bytes.proofs.Items.{fits, fits_from, fits_to, fits_on, room_exact}
+use Rattle.vp_bytes.proofs.Items.{fits, fits_from, fits_on, room_exact}
 use Rattle.vp_bytes.proofs.Runs.{HasRun, Runs, Counted, counted_exact, counted_free}
 
 module _ {V : Type 0} (top : ℕ) (bytes : V → List ℕ) (Allowed : V → Type 0) (read : List ℕ → Result (V × List ℕ) ℕ) where

@@ -1,5 +1,5 @@
 -- What a version can say, the second one can say.
-use Rattle.std.proofs.Common.{◌≡◌, ℕ, suc, ◌≤◌, List, [], ◌∷◌, Option, Some, None, arith}
+use Rattle.std.proofs.Common.{ℕ, suc, List, [], ◌∷◌, Option, Some, None, arith}
 use Rattle.vp_base.specs.declared.entry.Put.{Put}
 use Rattle.vp_base.specs.declared.entry.Put.TheVariants as puts
 use Rattle.vp_base.specs.declared.entry.Change.{Change}

@@ -1,5 +1,5 @@
 -- Tables of weights are read exactly, and so are those that may be left out, in each version.
-use Rattle.std.proofs.Common.{◌≡◌, ℕ, suc, ◌≤◌, List, [], ◌∷◌, length, Option, Some, None, Result, refl, sym, ap, subst, arith}
+use Rattle.std.proofs.Common.{ℕ, suc, ◌≤◌, List, [], ◌∷◌, length, Option, Some, None, Result, refl, sym, ap, subst, arith}
 use Rattle.vp_text.proofs.Exact.{Exact, exact_as}
 use Rattle.vp_bytes.specs.Fields.{Spelled, number_bytes}
 use Rattle.vp_bytes.specs.Ranges.{number_within_at}

@@ -1,5 +1,5 @@
 -- Values are read exactly, in each version.
-use Rattle.std.proofs.Common.{◌≡◌, ℕ, List, [], ◌∷◌, ◌++◌, length, refl, ap, arith}
+use Rattle.std.proofs.Common.{ℕ, List, length, refl, ap, arith}
 use Rattle.vp_text.specs.Classes.{most}
 use Rattle.vp_text.specs.declared.class.Class.TheVariants as classes
 use Rattle.vp_text.proofs.Exact.{Exact, Then, exact_as, one_value}
@@ -7,7 +7,7 @@ use Rattle.vp_bytes.proofs.Free.{IsFree, even_free, free_then, then_free, free_a
 use Rattle.vp_bytes.proofs.Identifiers.{within_exact, within_from, within_to}
 use Rattle.vp_bytes.proofs.Items.{WordRun, word_to, word_from, word_run_exact, word_run_free}
 use Rattle.vp_bytes.proofs.NumbersWithin.{number_within_exact, number_within_free}
-use Rattle.vp_contents.specs.Values.{length_bytes, most_length, IsLengthBytes, IsValueBytes, length_at, value_at}
+use Rattle.vp_contents.specs.Values.{length_bytes, IsLengthBytes, IsValueBytes, length_at, value_at}
 use Rattle.vp_contents.specs.declared.version.Version.{Version}
 use Rattle.vp_contents.specs.declared.version.Version.TheVariants as versions
 

@@ -1,5 +1,5 @@
 -- What a frame of any version says can be said in the second one, in which it is sent.
-use Rattle.std.proofs.Common.{◌≡◌, ℕ, List}
+use Rattle.std.proofs.Common.{ℕ}
 use Rattle.vp_base.specs.declared.message.Obstacle.{Obstacle}
 use Rattle.vp_base.specs.declared.message.Obstacle.TheVariants as obstacle
 use Rattle.vp_base.specs.declared.message.Message.{Message}

@@ -15,7 +15,7 @@ use Rattle.vp_bytes.proofs.Free.{IsFree, IsByteOf, free_as, byte_free, byte_one,
 use Rattle.vp_bytes.proofs.Identifiers.{within_exact, within_from, within_to}
 use Rattle.vp_bytes.proofs.Marked.{owner_exact, owner_free, maybe_view_exact, maybe_view_free}
 use Rattle.vp_bytes.proofs.Pairs.{pair_bytes, PairAllowed, then_field, pair_free}
-use Rattle.vp_bytes.proofs.Singles.{view_free, IsNumber4, number4_exact, number4_free}
+use Rattle.vp_bytes.proofs.Singles.{view_free, number4_exact, number4_free}
 
 abbrev pub IsObstacleBytes : Version → Obstacle → List ℕ → Type 0
 IsObstacleBytes version = Spelled obstacle_bytes (IsObstacle version)

@@ -1,4 +1,4 @@
-use Rattle.std.proofs.Common.{◌++◌, refl}
+use Rattle.std.proofs.Common.{refl}
 use Rattle.vp_text.proofs.Printing.{begun_err}
 use Rattle.vp_bytes.specs.Fields.{view_bytes}
 use Rattle.vp_bytes.proofs.Writing.{begun_part}
