@@ -1,5 +1,5 @@
 -- The contents that records start with are their values.
-use Rattle.std.proofs.Common.{◌≡◌, ℕ, List, [], ◌∷◌, Some, map, refl, ap}
+use Rattle.std.proofs.Common.{◌≡◌, List, [], ◌∷◌, Some, map, refl, ap}
 use Rattle.vp_model.specs.Catalogue.{Catalogue, RecordEntry, start_values}
 
 are_values : (records : List RecordEntry) → map Some (map (λ (entry : RecordEntry). entry.start) records) ≡ map (λ (entry : RecordEntry). Some entry.start) records

@@ -1,6 +1,6 @@
 -- Printers where there is nothing to print, and the two parts of an answer to a refresh.
-use Rattle.std.proofs.Common.{◌≡◌, ℕ, List, [], ◌∷◌, ◌++◌, Option, Some, None, refl, sym, ap, append_assoc, ◌∙◌}
-use Rattle.std.specs.Prelude.{Ok, codes}
+use Rattle.std.proofs.Common.{◌≡◌, ℕ, List, [], ◌∷◌, ◌++◌, Option, Some, None, refl, sym, ap, subst, append_assoc, ◌∙◌}
+use Rattle.std.specs.Prelude.{⊤, Result, Ok, codes}
 use Rattle.std.proofs.lemmas.List.{append-nil}
 use Rattle.vp_text.specs.Printing.{Appends}
 use Rattle.vp_text.proofs.Printing.{begun_none}
@@ -24,5 +24,5 @@ module _ (catalogue : Catalogue) (view : ViewId) (rec : ℕ) (c : Stored) where
   parts None = refl
   parts (Some value) = ap (λ (t : List ℕ). codes "refresh-answer " ++ t) (sym (append_assoc asked (32 ∷ value) dated))
 
-  pub copy_parts : copy_text asked c.value c ≡ begun_copy catalogue view rec c.value ++ dated
-  copy_parts = parts c.value
+  pub of_parts : {E : Type 0} (result : Result ⊤ E) (old new : List ℕ) → Appends result old (begun_copy catalogue view rec c.value ++ dated) new → Appends result old (copy_text asked c.value c) new
+  of_parts result old new h = subst (λ (t : List ℕ). Appends result old t new) (sym (parts c.value)) h
