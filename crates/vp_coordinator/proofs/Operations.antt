@@ -1,8 +1,7 @@
 -- A row that makes the call wait does the same whatever was in the transaction's place before.
-use Rattle.std.proofs.Common.{◌≡◌, ℕ, List, [], ◌∷◌, ◌++◌, length, if◌then◌else◌, Option, Some, None, Result, Ok, Err, refl, ap, arith}
+use Rattle.std.proofs.Common.{◌≡◌, ℕ, Bool, true, false, List, [], ◌∷◌, ◌++◌, length, if◌then◌else◌, Option, Some, None, Result, Ok, Err, refl, ap}
 use Rattle.std.specs.Prelude.{◌||◌, nat_le}
 use Rattle.std.specs.Option.{option_map_or}
-use Rattle.std.proofs.lemmas.Bool.Decides.{nat_tests}
 use Rattle.vp_model.specs.Types.{View, Live, Pending, Answer}
 use Rattle.vp_model.specs.Types.answer
 use Rattle.vp_model.specs.Types.message
@@ -56,5 +55,15 @@ module _ (catalogue : Catalogue) (held : Option View) (t : Live) (p : Pending) (
           (short catalogue held rec (asked rec))
           (use_record rec l))
 
+      either : (b : Bool) (x y : Lent) (r s : Result ℕ Answer) → x ≡ by_record r p.port use_record l → y ≡ by_record s p.port use_record l → (if b then x else y) ≡ by_record (if b then r else s) p.port use_record l
+      either true x y r s first second = first
+      either false x y r s first second = second
+
+      by_weights : (rec : ℕ) (weights : Option (ℕ × ℕ)) → option_map_or (λ (weights : ℕ × ℕ). lent_reply (answer.Inaccessible t.txn p.number name weights.0 weights.1) p.port l) weights (use_record rec l) ≡ by_record (option_map_or (λ (weights : ℕ × ℕ). Err (answer.Inaccessible t.txn p.number name weights.0 weights.1)) weights (Ok rec)) p.port use_record l
+      by_weights rec None = refl
+      by_weights rec (Some weights) = refl
+
       used : (rec : ℕ) → with_found rec ≡ by_record (usable_as catalogue held t p name rec (asked rec)) p.port use_record l
-      used rec = grind (arith, nat_tests)
+      used rec =
+          either (is_bad_table catalogue (asked rec)) _ _ _ _ refl
+          (either (nat_le 64 (length t.answers) || is_too_large t (asked rec)) _ _ _ _ refl (by_weights rec (short catalogue held rec (asked rec))))

@@ -8,4 +8,4 @@ use Rattle.vp_coordinator.proofs.final_writes.last_changes.Given as goal
 abbrev pub invariant-loop-given : goal.invariant-loop-given
 invariant-loop-given l =
     l.changes.items
-    ≡ for_each (take l.given-index l.tables) (λ (t : ℕ × Table). put_at t.0 (made_of (last_writes l.t.ops) l.t.tables t.0)) (written_changes (last_writes l.t.ops) l.t.tables)
+    ≡ for_each (take l.given-index l.tables) (λ (t : ℕ × Table). put_at t.0 (made_of (last_writes l.fn.t.ops) l.fn.t.tables t.0)) (written_changes (last_writes l.fn.t.ops) l.fn.t.tables)
