@@ -5,8 +5,7 @@ use Rattle.std.proofs.Math.Bool.{or-false}
 use Rattle.vp_model.specs.Types.{Change, Live}
 use Rattle.vp_model.specs.Words.{for_each, put_at, value_at}
 use Rattle.vp_model.specs.Catalogue.{Table}
-use Rattle.vp_model.specs.Transactions.{last_writes, entry_of, last_changes}
-use Rattle.vp_coordinator.specs.Changes.{made_of}
+use Rattle.vp_model.specs.Transactions.{last_writes, change_of, entry_of, last_changes}
 use Rattle.vp_coordinator.proofs.LastWrites.{put_first}
 
 some_chosen : {V : Type 0} (b : Bool) (v : V) (o : Option V) → is_some (if b then Some v else o) ≡ (is_some o || b)
@@ -42,7 +41,7 @@ module _ (rec : ℕ) (f : ℕ → Change) where
 
 changed_there : (t : Live) (rec : ℕ) → is_some (value_at rec (last_changes (entry_of t))) ≡ (is_some (value_at rec (last_writes t.ops)) || is_some (value_at rec t.tables))
 changed_there t rec =
-    let f : ℕ → Change = made_of (last_writes t.ops) t.tables in
+    let f : ℕ → Change = λ n. change_of n t.ops t.tables in
     given_there rec f t.tables (map (λ (w : ℕ × Option (List ℕ)). (w.0, f w.0)) (last_writes t.ops))
     ∙ ap (λ (b : Bool). b || is_some (value_at rec t.tables)) (written_there rec f (last_writes t.ops))
 
