@@ -11,7 +11,7 @@ ghost use Rattle.vp_model.specs.Catalogue.{sites_of, find_record, weights_of, ho
 use crate::entry::Entry;
 use crate::fault::CatalogFault;
 use crate::others::{least_other, others_in};
-use crate::placed::{CatalogRecord, has_site, holders_of, number_of};
+use crate::placed::{CatalogRecord, has_site, number_of};
 use indexmap::IndexSet;
 use std::alloc::Global;
 use std::marker::Model;
@@ -266,11 +266,9 @@ impl Catalog {
         ensures same { IfOk result (λ same. same ≡ has_holders self.now rec table.now) }
         ensures few { IfOk result (λ same. IsTrue same → length table.now ≤ 16) }
     {
-        let alloc = *self.records.allocator();
-        let sites = holders_of(alloc, table)?;
-        match self.holders(rec) {
-            Some(holders) => Ok(sites.as_slice() == holders.as_slice()),
-            None => Ok(sites.as_slice().is_empty()),
+        match self.placed(rec) {
+            None => Ok(table.is_empty()),
+            Some(placed) => placed.has_holders(table),
         }
     }
 

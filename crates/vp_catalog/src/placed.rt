@@ -1,6 +1,7 @@
 //! A record of the catalogue with the weights of its copies.
 
-ghost use Rattle.std.specs.Prelude.{◌≡◌, ◌≤◌, ◌<◌, ◌^◌, length, filter, sum_by, IfOk};
+ghost use Rattle.std.specs.Prelude.{◌≡◌, ◌≤◌, ◌<◌, ◌^◌, length, filter, sum_by, IfOk, IsTrue};
+ghost use Rattle.std.specs.Str.{bytes_eq};
 ghost use Rattle.std.specs.Option.{option_map_or};
 ghost use Rattle.vp_model.specs.Words.{has, keys, value_at};
 ghost use Rattle.vp_model.specs.Catalogue.{weight_inside, weight_total};
@@ -117,6 +118,15 @@ impl CatalogRecord {
         has_site(self.holders.as_slice(), site)
     }
 
+    /// Whether the table has a weight for each holder, and for no other site.
+    pub fn has_holders(&self, table: &[(SiteId, u16)]) -> Result<bool, NoMemory>
+        ensures same { IfOk result (λ same. same ≡ bytes_eq (keys table.now) (keys self.now.weights)) }
+        ensures few { IfOk result (λ same. IsTrue same → length table.now ≤ 16) }
+    {
+        let sites = holders_of(*self.weights.allocator(), table)?;
+        Ok(sites.as_slice() == self.holders.as_slice())
+    }
+
     /// The weight of the copies at the members.
     pub fn inside(&self, members: &Sites) -> u32
         ensures { result ≡ weight_inside members.now self.now.weights }
@@ -132,8 +142,7 @@ impl CatalogRecord {
     }
 }
 
-/// The sites of a table.
-pub(crate) fn holders_of(alloc: Global, weights: &[(SiteId, u16)]) -> Result<Sites, NoMemory>
+fn holders_of(alloc: Global, weights: &[(SiteId, u16)]) -> Result<Sites, NoMemory>
     ensures { IfOk result (λ holders. holders ≡ keys weights.now) }
 {
     let mut holders = Sites::new(alloc);

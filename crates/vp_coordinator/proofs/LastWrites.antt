@@ -1,5 +1,5 @@
 -- The last content of a record is that of the last write to it.
-use Rattle.std.proofs.Common.{◌≡◌, ◌∙◌, ℕ, Bool, true, false, cond, List, [], ◌∷◌, reverse, Option, Some, None, refl, sym, ap, arith, if◌then◌else◌}
+use Rattle.std.proofs.Common.{◌≡◌, ◌∙◌, ℕ, Bool, true, false, cond, List, [], ◌∷◌, ◌++◌, reverse, Option, Some, None, refl, sym, ap, arith, if◌then◌else◌}
 use Rattle.std.specs.Prelude.{◌==◌, find, option_and_then}
 use Rattle.std.proofs.lemmas.Bool.Decides.{nat_tests}
 use Rattle.std.proofs.lemmas.List.{reverse-append, reverse-reverse}
@@ -11,7 +11,7 @@ use Rattle.vp_model.specs.Transactions.{with_op, last_writes}
 use Rattle.vp_coordinator.specs.Records.{writes}
 
 module _ {V : Type 0} (rec n : ℕ) (v : V) where
-  put_first : (pairs : List (ℕ × V)) → value_at rec (put_at n v pairs) ≡ (if n == rec then Some v else value_at rec pairs)
+  pub put_first : (pairs : List (ℕ × V)) → value_at rec (put_at n v pairs) ≡ (if n == rec then Some v else value_at rec pairs)
   put_first [] = grind (arith, nat_tests)
   put_first (p ∷ pairs) = let rest = put_first pairs in grind (arith, nat_tests, rest)
 
@@ -48,3 +48,6 @@ module _ (rec : ℕ) where
 
   pub none_found : (ops : List Op) → None ≡ find (writes rec) (reverse ops) → None ≡ value_at rec (last_writes ops)
   none_found ops found = ap (option_and_then written) found ∙ last_write_is ops
+
+pub written_next : (ops : List Op) (operation : Op) → last_writes (ops ++ operation ∷ []) ≡ with_op (last_writes ops) operation
+written_next ops operation = fold-append with_op [] ops (operation ∷ [])

@@ -3,7 +3,7 @@ pub mod Operations
 pub mod Presence
 pub mod LastWrites
 pub mod HasChanged
-pub mod Sizes
+pub mod Sums
 pub mod Some
 pub mod Ascending
 pub mod Each

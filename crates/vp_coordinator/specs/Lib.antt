@@ -1,5 +1,4 @@
 pub mod Answered
-pub mod Changes
 pub mod Deeds
 pub mod Records
 pub mod InPlace

@@ -1,9 +1,8 @@
 //! The last changes that a transaction makes, and the parts that hold their records.
 
-ghost use Rattle.std.specs.Prelude.{◌≡◌, not, OnOk, IfOk, option_copied};
-ghost use Rattle.vp_model.specs.Words.{is_empty};
-ghost use Rattle.vp_model.specs.Transactions.{with_op, last_writes, last_put, entry_of, last_changes, writes_held, writing_parts};
-ghost use Rattle.vp_coordinator.specs.Changes.{made_of, written_changes};
+ghost use Rattle.std.specs.Prelude.{◌≡◌, not, OnOk, IfOk, map, option_copied};
+ghost use Rattle.vp_model.specs.Words.{is_empty, put_at};
+ghost use Rattle.vp_model.specs.Transactions.{with_op, last_writes, last_put, change_of, entry_of, last_changes, writes_held, writing_parts};
 
 use std::alloc::Global;
 use vp_base::{
@@ -58,34 +57,47 @@ fn copy_of_table(table: Option<&Table>) -> Result<Option<Table>, NoMemory>
     }
 }
 
-/// What these contents and tables last made of the record.
-fn change_of(
-    rec: RecId,
-    contents: &[(RecId, Option<Value>)],
-    tables: &[(RecId, Table)],
-) -> Result<Change, NoMemory>
-    ensures { IfOk result (λ change. change ≡
-        made_of contents.now tables.now rec) }
+/// What the transaction, which last wrote these contents, last made of the record.
+fn change_of(t: &Live, contents: &[(RecId, Option<Value>)], rec: RecId) -> Result<Change, NoMemory>
+    requires { contents.now ≡ last_writes t.now.ops }
+    ensures { IfOk result (λ change. change ≡ change_of rec t.now.ops t.now.tables) }
 {
     Ok(Change {
         put: last_put(value_at(contents, rec))?,
-        table: copy_of_table(value_at(tables, rec))?,
+        table: copy_of_table(value_at(t.tables.as_slice(), rec))?,
     })
 }
 
-/// The last changes of the records that the operations wrote.
+/// The last changes of the records whose contents the transaction wrote.
 fn written_changes(
     alloc: Global,
+    t: &Live,
     contents: &[(RecId, Option<Value>)],
-    tables: &[(RecId, Table)],
 ) -> Result<Vec<(RecId, Change)>, NoMemory>
-    ensures { IfOk result (λ changes. changes.items ≡ written_changes contents.now tables.now) }
+    requires { contents.now ≡ last_writes t.now.ops }
+    ensures { IfOk result (λ changes. changes.items ≡
+        map (λ w. (w.0, change_of w.0 t.now.ops t.now.tables)) contents.now) }
 {
     let mut changes = Vec::new(alloc);
     for write in contents {
-        changes.push((write.0, change_of(write.0, contents, tables)?))?;
+        changes.push((write.0, change_of(t, contents, write.0)?))?;
     }
     Ok(changes)
+}
+
+/// Puts the last change of the record in its place.
+fn put_change(
+    changes: &mut Vec<(RecId, Change)>,
+    t: &Live,
+    contents: &[(RecId, Option<Value>)],
+    rec: RecId,
+) -> Result<(), NoMemory>
+    requires { contents.now ≡ last_writes t.now.ops }
+    ensures { OnOk result (changes.new.items ≡
+        put_at rec (change_of rec t.now.ops t.now.tables) changes.old.items) }
+{
+    let change = change_of(t, contents, rec)?;
+    put(changes, (rec, change))
 }
 
 /// The last change of each record that the transaction changed, ascending by record.
@@ -93,13 +105,9 @@ pub fn last_changes(alloc: Global, t: &Live) -> Result<Writes, NoMemory>
     ensures { IfOk result (λ changes. changes ≡ last_changes (entry_of t.now)) }
 {
     let contents = last_writes(alloc, t.ops.as_slice())?;
-    let tables = t.tables.as_slice();
-    let mut changes = written_changes(alloc, &contents, tables)?;
-    for given in tables {
-        put(
-            &mut changes,
-            (given.0, change_of(given.0, &contents, tables)?),
-        )?;
+    let mut changes = written_changes(alloc, t, &contents)?;
+    for given in t.tables.as_slice() {
+        put_change(&mut changes, t, &contents, given.0)?;
     }
     Ok(Writes::from_vec(changes))
 }

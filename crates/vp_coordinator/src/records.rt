@@ -170,12 +170,24 @@ fn last_write<'a>(ops: &'a [Op], rec: RecId) -> Option<&'a Option<Value>>
     }
 }
 
+fn has_written(t: &Live, rec: RecId) -> bool
+    ensures { result ≡ is_some (value_at rec (last_writes t.now.ops)) }
+{
+    last_write(t.ops.as_slice(), rec).is_some()
+}
+
+fn has_weighed(t: &Live, rec: RecId) -> bool
+    ensures { result ≡ is_some (value_at rec t.now.tables) }
+{
+    value_at(t.tables.as_slice(), rec).is_some()
+}
+
 /// Whether the transaction has changed the record.
-#[tactic(auto, using(crate::proofs::HasChanged::changed_there))]
+#[tactic(auto, using(crate::proofs::HasChanged::by_write, crate::proofs::HasChanged::by_table))]
 pub fn has_changed(t: &Live, rec: RecId) -> bool
     ensures { result ≡ is_some (value_at rec (last_changes (entry_of t.now))) }
 {
-    last_write(t.ops.as_slice(), rec).is_some() || value_at(t.tables.as_slice(), rec).is_some()
+    has_written(t, rec) || has_weighed(t, rec)
 }
 
 /// Copies the content that the transaction last wrote to the record.

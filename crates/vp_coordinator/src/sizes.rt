@@ -1,13 +1,13 @@
 //! How large the prepare messages of a transaction may get.
 
-ghost use Rattle.std.specs.Prelude.{◌≡◌, ◌+◌, ◌*◌, ◌≤◌, IfOk, OnOk, nat_lt, length, sum_by};
-ghost use Rattle.vp_model.specs.Transactions.{with_deed, last_writes};
+ghost use Rattle.std.specs.Prelude.{◌≡◌, ◌++◌, ◌∷◌, [], ◌+◌, ◌*◌, ◌≤◌, IfOk, nat_lt, sum_by};
+ghost use Rattle.vp_model.specs.Words.{put_at};
 ghost use Rattle.vp_model.specs.Calls.{content_size, size_of, is_too_large};
 ghost use Rattle.vp_coordinator.specs.Deeds.{as_deed};
 
 use crate::deeds::Deed;
 use crate::final_writes::{add_op, last_writes};
-use vp_base::{CopyOf, Live, NoMemory, Op, RecId, Value};
+use vp_base::{CopyOf, Live, NoMemory, Op, RecId, Table, Value};
 use vp_lists::put_in;
 
 /// The most bytes of values that a transaction may last write, with 50 for each table.
@@ -44,16 +44,25 @@ fn exceeds(contents: &[(RecId, Option<Value>)], tables: usize) -> bool
     false
 }
 
-/// Whether the transaction would have more than it may have, if it did this too.
-fn exceeds_with(t: &Live, deed: &Deed) -> Result<bool, NoMemory>
-    ensures { IfOk result (λ over. over ≡ nat_lt 15360 (size_of (with_deed (as_deed deed.now) t.now))) }
+/// Whether the transaction would have more than it may have, if it did this operation too.
+#[tactic(auto, using(crate::proofs::LastWrites::written_next))]
+fn exceeds_with_op(t: &Live, operation: &Op) -> Result<bool, NoMemory>
+    ensures { IfOk result (λ over. over ≡
+        nat_lt 15360 (size_of (record t.now { ops = t.now.ops ++ operation.now ∷ [] }))) }
 {
     let mut contents = last_writes(t.ops.allocator(), t.ops.as_slice())?;
+    add_op(&mut contents, operation)?;
+    Ok(exceeds(&contents, t.tables.as_slice().len()))
+}
+
+/// Whether the transaction would have more than it may have, if it gave this table too.
+fn exceeds_with_table(t: &Live, rec: RecId, table: &Table) -> Result<bool, NoMemory>
+    ensures { IfOk result (λ over. over ≡
+        nat_lt 15360 (size_of (record t.now { tables = put_at rec table.now t.now.tables }))) }
+{
+    let contents = last_writes(t.ops.allocator(), t.ops.as_slice())?;
     let mut tables = t.tables.copy_of()?;
-    match deed {
-        Deed::Operates { operation } => add_op(&mut contents, operation)?,
-        Deed::Weighs { rec, table } => put_in(&mut tables, (*rec, table.copy_of()?))?,
-    }
+    put_in(&mut tables, (rec, table.copy_of()?))?;
     Ok(exceeds(&contents, tables.as_slice().len()))
 }
 
@@ -62,11 +71,11 @@ pub fn is_too_large(t: &Live, deed: &Deed) -> Result<bool, NoMemory>
     ensures { IfOk result (λ over. over ≡ is_too_large t.now (as_deed deed.now)) }
 {
     match deed {
-        Deed::Weighs { .. } => exceeds_with(t, deed),
+        Deed::Weighs { rec, table } => exceeds_with_table(t, *rec, table),
         Deed::Operates { operation } => match operation {
             Op::Read { .. } => Ok(false),
             Op::Write { value: None, .. } => Ok(false),
-            Op::Write { value: Some(_), .. } => exceeds_with(t, deed),
+            Op::Write { value: Some(_), .. } => exceeds_with_op(t, operation),
         },
     }
 }

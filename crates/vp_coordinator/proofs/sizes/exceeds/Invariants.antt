@@ -5,6 +5,6 @@ use Rattle.vp_coordinator.proofs.sizes.exceeds.Given as goal
 
 abbrev pub invariant-loop-write : goal.invariant-loop-write
 invariant-loop-write l = record {
-  sum : l.size ≡ sum_by (λ (w : ℕ × Option (List ℕ)). content_size w.1) (take l.write-index l.contents) + 50 * l.tables;
-  most : l.size ≤ 15400;
+  sum : l.size ≡ sum_by (λ (w : ℕ × Option (List ℕ)). content_size w.1) (take l.write-index l.contents) + 50 * l.fn.tables;
+  most : l.size ≤ 15360;
 }
