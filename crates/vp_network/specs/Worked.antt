@@ -1,5 +1,5 @@
 -- A worked cluster of two sites: a commit, a kill within the turn that decides it, and what the network repeats.
-use Rattle.std.specs.Prelude.{ℕ, List, [], ◌∷◌, Some, true, codes}
+use Rattle.std.specs.Prelude.{ℕ, List, [], ◌∷◌, Some, None, true, codes}
 use Rattle.vp_model.specs.Types.{LogRecord, ViewId, TxnId, Change, Call, Commit, Message}
 use Rattle.vp_model.specs.Types.call
 use Rattle.vp_model.specs.Types.log_record
@@ -103,7 +103,7 @@ forgotten_run =
     ∷ Happening.Comes 1 (datagram_to 7100 (frame_of 0 1 body.Tick))
     ∷ Happening.Comes 2 (from_one (message.ViewCommit view (1 ∷ 2 ∷ [])))
     ∷ Happening.Comes 2 (from_one (message.RefreshRequest view 0))
-    ∷ Happening.Comes 1 (from_two (message.RefreshAnswer view 0 (record { value = codes "11"; date = opening })))
+    ∷ Happening.Comes 1 (from_two (message.RefreshAnswer view 0 (record { value = Some (codes "11"); table = None; date = opening })))
     ∷ Happening.Comes 1 (datagram_of_call call.Begin)
     ∷ Happening.Comes 1 (datagram_of_call (call.Read next_life 1 (codes "x")))
     ∷ Happening.Comes 1 (datagram_of_call (call.Commit next_life 2))
