@@ -20,11 +20,11 @@ returns-in-Checkpoint-clause-held c =
 
 pub returns-in-CommitOfValues-clause-held : goal.returns-in-CommitOfValues-clause-held
 returns-in-CommitOfValues-clause-held c =
-    held_by _ _ _ c.commit-in-CommitOfValues.result (applied_keys (log_record.CommitOfValues c.in-CommitOfValues.txn c.in-CommitOfValues.view c.in-CommitOfValues.writes c.in-CommitOfValues.waiting) c.args.self.now) c.commit-in-CommitOfValues.ensures.ok c.commit-in-CommitOfValues.ensures.err
+    held_by _ _ _ c.commit-in-CommitOfValues.result (applied_keys (log_record.Commit c.in-CommitOfValues.txn c.in-CommitOfValues.view c.in-CommitOfValues.writes c.in-CommitOfValues.waiting) c.args.self.now) c.commit-in-CommitOfValues.ensures.ok c.commit-in-CommitOfValues.ensures.err
 
 pub returns-in-CopyOfValue-clause-held : goal.returns-in-CopyOfValue-clause-held
 returns-in-CopyOfValue-clause-held c =
-    held_by _ _ _ c.set_copy-in-CopyOfValue.result (applied_keys (log_record.CopyOfValue c.in-CopyOfValue.rec c.in-CopyOfValue.stored) c.args.self.now) c.set_copy-in-CopyOfValue.ensures.ok c.set_copy-in-CopyOfValue.ensures.err
+    held_by _ _ _ c.set_copy-in-CopyOfValue.result (applied_keys (log_record.Copy c.in-CopyOfValue.rec c.in-CopyOfValue.stored) c.args.self.now) c.set_copy-in-CopyOfValue.ensures.ok c.set_copy-in-CopyOfValue.ensures.err
 
 pub returns-in-CheckpointOfValues-clause-held : goal.returns-in-CheckpointOfValues-clause-held
 returns-in-CheckpointOfValues-clause-held c =
