@@ -7,4 +7,4 @@ use Rattle.vp_coordinator.proofs.final_writes.last_changes.Given as goal
 abbrev pub invariant-loop-given : goal.invariant-loop-given
 invariant-loop-given l =
     l.changes.items
-    ≡ for_each (take l.given-index l.t.tables) (λ (g : ℕ × Table). put_at g.0 (change_of g.0 l.t.ops l.t.tables)) (map (λ (w : ℕ × Option (List ℕ)). (w.0, change_of w.0 l.t.ops l.t.tables)) (last_writes l.t.ops))
+    ≡ for_each (take l.given-index l.fn.t.tables) (λ (g : ℕ × Table). put_at g.0 (change_of g.0 l.fn.t.ops l.fn.t.tables)) (map (λ (w : ℕ × Option (List ℕ)). (w.0, change_of w.0 l.fn.t.ops l.fn.t.tables)) (last_writes l.fn.t.ops))
