@@ -1,6 +1,7 @@
 -- What a procedure does: each statement is passed once, from the first to the last.
-use Rattle.std.specs.Prelude.{ℕ, zero, suc, ◌+◌, ◌-◌, ◌^◌, Bool, true, false, ◌==◌, ◌&&◌, nat_lt, nat_le, if◌then◌else◌, List, [], ◌∷◌, ◌++◌, replicate, get_or, set, slice_index_or, slice_set, Option, Some, None}
+use Rattle.std.specs.Prelude.{ℕ, zero, suc, ◌+◌, ◌-◌, ◌^◌, Bool, true, false, ◌==◌, ◌&&◌, nat_lt, nat_le, if◌then◌else◌, List, [], ◌∷◌, ◌++◌, replicate, get_or, set, slice_get, slice_set, Option, Some, None}
 use Rattle.std.specs.Fmt.{decimal}
+use Rattle.std.specs.Option.{option_map_or}
 use Rattle.std.specs.Str.{bytes_eq}
 use Rattle.std.specs.Str.Parse.{digits_value}
 use Rattle.vp_model.specs.Types.{Op}
@@ -108,9 +109,13 @@ pub record Evaluated : Type 0 where
   pub last : Values
   pub end : End
 
+-- the content of a record; none if the map lacks it
+abbrev pub content_at : Values → ℕ → Option (List ℕ)
+content_at m rec = option_map_or (λ content. content) (slice_get m rec) None
+
 -- The script on this map, after these operations. A read is one of them also if its content is no number.
 unfoldable pub eval_after : List Op → Values → Script → Evaluated
-eval_after ops m (Script.reads rec name go) = let content = slice_index_or m rec None in eval_after (ops ++ op.Read rec content ∷ []) m (go content)
+eval_after ops m (Script.reads rec name go) = let content = content_at m rec in eval_after (ops ++ op.Read rec content ∷ []) m (go content)
 eval_after ops m (Script.writes rec name value more) = eval_after (ops ++ op.Write rec (Some value) ∷ []) (slice_set m rec (Some value)) more
 eval_after ops m (Script.gives n) = record { ops = ops; last = m; end = ends.Done n }
 eval_after ops m (Script.stops end) = record { ops = ops; last = m; end = end }

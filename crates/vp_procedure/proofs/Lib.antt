@@ -1,0 +1,3 @@
+pub mod KeywordWords
+pub mod TermTexts
+pub mod ExprTexts

@@ -1,10 +1,9 @@
 //! Reading statements, each with its newline.
 
-ghost use Rattle.std.specs.Prelude.{◌≡◌};
-ghost use Rattle.std.specs.List.{starts_with};
+ghost use Rattle.std.specs.Prelude.{◌≡◌, ◌<◌, length, IfOk, IfSome};
 ghost use Rattle.vp_text.specs.Reading.{Reads, Tries};
 ghost use Rattle.vp_base.specs.Faults.{line_left};
-ghost use Rattle.vp_base.specs.Reading.{starts_any, place_of};
+ghost use Rattle.vp_base.specs.Reading.{among_at, place_of, starts_any};
 ghost use Rattle.vp_procedure.specs.Procedures.{names_of};
 ghost use Rattle.vp_procedure.specs.StatementReading as reading;
 
@@ -15,24 +14,38 @@ use vp_base::{CopyOf, LineFault, Name, RecId};
 use vp_catalog::Catalog;
 use vp_text::{Cursor, Unexpected};
 
-/// Reads the longest prefix that begins the name of a record, which must be a whole name, and finds that record.
+/// Reads the name of a record, and finds that record.
+#[tactic(auto, unfolding(crate::specs::StatementReading::record_at))]
 fn parse_record(cursor: &mut Cursor, catalog: &Catalog) -> Result<(Name, RecId), LineFault>
     ensures { Tries (λ record. record) line_left result cursor.new
         (reading.record_at (names_of catalog.now) cursor.old) }
+{
+    let place = parse_place(cursor, catalog)?;
+    let name = catalog.records()[place].name().copy_of()?;
+    Ok((name, RecId::new(place as u8)))
+}
+
+/// Reads the longest prefix that begins the name of some record, and gives the place of the record. Fails where the prefix is not a
+/// whole name.
+fn parse_place(cursor: &mut Cursor, catalog: &Catalog) -> Result<usize, Unexpected>
+    ensures read { Reads (λ place. place) (λ e. e.left) result cursor.new
+        (among_at (names_of catalog.now) cursor.old) }
+    ensures within { IfOk result (λ place. place < length catalog.now.records) }
 {
     let bytes = cursor.rest();
     let mut count = 0;
     while count < bytes.len() && some_starts(catalog, &bytes[..count + 1]) {
         count += 1;
     }
-    let Some(place) = place(catalog, &bytes[..count]) else {
-        return Err(LineFault::Unexpected(Unexpected {
+    match place(catalog, &bytes[..count]) {
+        Some(place) => {
+            cursor.advance(count);
+            Ok(place)
+        }
+        None => Err(Unexpected {
             left: bytes.len() - count,
-        }));
-    };
-    cursor.advance(count);
-    let name = catalog.records()[place].name().copy_of()?;
-    Ok((name, RecId::new(place as u8)))
+        }),
+    }
 }
 
 /// Whether the name of some record begins with this prefix.
@@ -49,7 +62,8 @@ fn some_starts(catalog: &Catalog, prefix: &[u8]) -> bool
 
 /// The place of the record with this name.
 fn place(catalog: &Catalog, word: &[u8]) -> Option<usize>
-    ensures { result ≡ place_of (names_of catalog.now) word.now }
+    ensures place { result ≡ place_of (names_of catalog.now) word.now }
+    ensures within { IfSome result (λ place. place < length catalog.now.records) }
 {
     for (place, placed) in catalog.records().iter().enumerate() {
         if placed.name().is(word) {
