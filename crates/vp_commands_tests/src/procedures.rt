@@ -23,25 +23,42 @@ const BELOW: &[u8] = b"set a 0 - 1\nresult a\n";
 
 // Frames to site 1, after the bytes that all of them begin with. Those of 1.1.1 have the number of the call in their last bytes.
 const BEGIN: &[u8] = b"\x01";
+
 const READ: &[u8] = b"\x03\x01\0\0\0\x01\0\0\0\x01\0\0\0\x01\x01x";
+
 const WRITE: &[u8] = b"\x04\x01\0\0\0\x01\0\0\0\x01\0\0\0\x02\x01x\0\x0211";
+
 const COMMIT: &[u8] = b"\x05\x01\0\0\0\x01\0\0\0\x01\0\0\0\x03";
+
 const ABORT_1: &[u8] = b"\x06\x01\0\0\0\x01\0\0\0\x01\0\0\0\x01";
+
 const ABORT_2: &[u8] = b"\x06\x01\0\0\0\x01\0\0\0\x01\0\0\0\x02";
+
 const ABORT_3: &[u8] = b"\x06\x01\0\0\0\x01\0\0\0\x01\0\0\0\x03";
 
 // Replies of site 1, after the bytes that all of them begin with.
 const BEGUN: &[u8] = b"\x01\x01\0\0\0\x01\0\0\0\x01\0\0\0\0\0\0\0\0\0";
+
 const NO_VIEW: &[u8] = b"\x07\0\0\0\0\0\0\0\0\0";
+
 const TEN: &[u8] = b"\x02\x01\0\0\0\x01\0\0\0\x01\0\0\0\x01\0\x0210";
+
 const SEVEN: &[u8] = b"\x02\x01\0\0\0\x01\0\0\0\x01\0\0\0\x01\0\x03007";
+
 const ABSENT: &[u8] = b"\x13\x01\0\0\0\x01\0\0\0\x01\0\0\0\x01";
+
 const LOCK_HELD: &[u8] = b"\x0e\x01\0\0\0\x01\0\0\0\x01\0\0\0\x01\x01x\x01\0";
+
 const BUSY: &[u8] = b"\x0a\x01\0\0\0\x01\0\0\0\x01\0\0\0\x02";
+
 const WRITTEN: &[u8] = b"\x03\x01\0\0\0\x01\0\0\0\x01\0\0\0\x02";
+
 const COMMITTED: &[u8] = b"\x04\x01\0\0\0\x01\0\0\0\x01\0\0\0\x03";
+
 const TIMED_OUT: &[u8] = b"\x10\x01\0\0\0\x01\0\0\0\x01\0\0\0\x03\x02";
+
 const UNKNOWN: &[u8] = b"\x08\x01\0\0\0\x01\0\0\0\x01";
+
 const ABORTED: &[u8] = b"\x05\x01\0\0\0\x01\0\0\0\x01\0\0\0\x01";
 
 /// The statements of a procedure, what the site replies, which call of the link fails (1 binds, and 0 is none), the frames that come to the
@@ -57,27 +74,153 @@ type Row<'a> = (
 
 const ROWS: &[Row] = &[
     // the ends by itself
-    (COUNTER, &[BEGUN, TEN, WRITTEN, COMMITTED], 0, &[BEGIN, READ, WRITE, COMMIT], Status::Done, b"done 11\n"),
-    (FLOOR, &[BEGUN, TEN, ABORTED], 0, &[BEGIN, READ, ABORT_2], Status::NoResult, b"failed 7\n"),
-    (BELOW, &[BEGUN, ABORTED], 0, &[BEGIN, ABORT_1], Status::NoResult, b"overflow 4\n"),
-    (COUNTER, &[BEGUN, ABSENT], 0, &[BEGIN, READ, ABORT_2], Status::NoResult, b"notnumber 4\n"),
-    (COUNTER, &[BEGUN, SEVEN], 0, &[BEGIN, READ, ABORT_2], Status::NoResult, b"notnumber 4\n"),
+    (
+        COUNTER,
+        &[BEGUN, TEN, WRITTEN, COMMITTED],
+        0,
+        &[BEGIN, READ, WRITE, COMMIT],
+        Status::Done,
+        b"done 11\n",
+    ),
+    (
+        FLOOR,
+        &[BEGUN, TEN, ABORTED],
+        0,
+        &[BEGIN, READ, ABORT_2],
+        Status::NoResult,
+        b"failed 7\n",
+    ),
+    (
+        BELOW,
+        &[BEGUN, ABORTED],
+        0,
+        &[BEGIN, ABORT_1],
+        Status::NoResult,
+        b"overflow 4\n",
+    ),
+    (
+        COUNTER,
+        &[BEGUN, ABSENT],
+        0,
+        &[BEGIN, READ, ABORT_2],
+        Status::NoResult,
+        b"notnumber 4\n",
+    ),
+    (
+        COUNTER,
+        &[BEGUN, SEVEN],
+        0,
+        &[BEGIN, READ, ABORT_2],
+        Status::NoResult,
+        b"notnumber 4\n",
+    ),
     // a call that is refused: the first one, a read, a write, the commit
-    (COUNTER, &[NO_VIEW], 0, &[BEGIN], Status::NoResult, b"noview 0@0\n"),
-    (COUNTER, &[BEGUN, LOCK_HELD], 0, &[BEGIN, READ], Status::NoResult, b"lockheld 1.1.1 1 x at 1 by refresh\n"),
-    (COUNTER, &[BEGUN, TEN, BUSY], 0, &[BEGIN, READ, WRITE, ABORT_2], Status::NoResult, b"busy 1.1.1 2\n"),
-    (COUNTER, &[BEGUN, TEN, WRITTEN, TIMED_OUT], 0, &[BEGIN, READ, WRITE, COMMIT], Status::NoResult, b"timedout 1.1.1 3 at 2\n"),
-    (COUNTER, &[BEGUN, TEN, WRITTEN, UNKNOWN], 0, &[BEGIN, READ, WRITE, COMMIT, ABORT_3], Status::NoResult, b"unknown 1.1.1\n"),
+    (
+        COUNTER,
+        &[NO_VIEW],
+        0,
+        &[BEGIN],
+        Status::NoResult,
+        b"noview 0@0\n",
+    ),
+    (
+        COUNTER,
+        &[BEGUN, LOCK_HELD],
+        0,
+        &[BEGIN, READ],
+        Status::NoResult,
+        b"lockheld 1.1.1 1 x at 1 by refresh\n",
+    ),
+    (
+        COUNTER,
+        &[BEGUN, TEN, BUSY],
+        0,
+        &[BEGIN, READ, WRITE, ABORT_2],
+        Status::NoResult,
+        b"busy 1.1.1 2\n",
+    ),
+    (
+        COUNTER,
+        &[BEGUN, TEN, WRITTEN, TIMED_OUT],
+        0,
+        &[BEGIN, READ, WRITE, COMMIT],
+        Status::NoResult,
+        b"timedout 1.1.1 3 at 2\n",
+    ),
+    (
+        COUNTER,
+        &[BEGUN, TEN, WRITTEN, UNKNOWN],
+        0,
+        &[BEGIN, READ, WRITE, COMMIT, ABORT_3],
+        Status::NoResult,
+        b"unknown 1.1.1\n",
+    ),
     // two datagrams without the answer: of the first call, and of the last one
-    (COUNTER, &[ABORTED, ABORTED], 0, &[BEGIN], Status::NoAnswer, b"no answer\n"),
-    (COUNTER, &[BEGUN, TEN, WRITTEN, BUSY, BUSY], 0, &[BEGIN, READ, WRITE, COMMIT], Status::NoAnswer, b"no answer\n"),
+    (
+        COUNTER,
+        &[ABORTED, ABORTED],
+        0,
+        &[BEGIN],
+        Status::NoAnswer,
+        b"no answer\n",
+    ),
+    (
+        COUNTER,
+        &[BEGUN, TEN, WRITTEN, BUSY, BUSY],
+        0,
+        &[BEGIN, READ, WRITE, COMMIT],
+        Status::NoAnswer,
+        b"no answer\n",
+    ),
     // a link that fails: when it binds, sends and receives; in the abort it changes nothing
-    (COUNTER, &[BEGUN], 1, &[], Status::LinkFault, b"link fault\n"),
-    (COUNTER, &[BEGUN], 2, &[BEGIN], Status::LinkFault, b"link fault\n"),
-    (COUNTER, &[BEGUN], 3, &[BEGIN], Status::LinkFault, b"link fault\n"),
-    (COUNTER, &[BEGUN, TEN], 4, &[BEGIN, READ], Status::LinkFault, b"link fault\n"),
-    (BELOW, &[BEGUN, ABORTED], 4, &[BEGIN, ABORT_1], Status::NoResult, b"overflow 4\n"),
-    (BELOW, &[BEGUN], 5, &[BEGIN, ABORT_1], Status::NoResult, b"overflow 4\n"),
+    (
+        COUNTER,
+        &[BEGUN],
+        1,
+        &[],
+        Status::LinkFault,
+        b"link fault\n",
+    ),
+    (
+        COUNTER,
+        &[BEGUN],
+        2,
+        &[BEGIN],
+        Status::LinkFault,
+        b"link fault\n",
+    ),
+    (
+        COUNTER,
+        &[BEGUN],
+        3,
+        &[BEGIN],
+        Status::LinkFault,
+        b"link fault\n",
+    ),
+    (
+        COUNTER,
+        &[BEGUN, TEN],
+        4,
+        &[BEGIN, READ],
+        Status::LinkFault,
+        b"link fault\n",
+    ),
+    (
+        BELOW,
+        &[BEGUN, ABORTED],
+        4,
+        &[BEGIN, ABORT_1],
+        Status::NoResult,
+        b"overflow 4\n",
+    ),
+    (
+        BELOW,
+        &[BEGUN],
+        5,
+        &[BEGIN, ABORT_1],
+        Status::NoResult,
+        b"overflow 4\n",
+    ),
 ];
 
 /// Statements, and the line that refuses them.
@@ -129,7 +272,9 @@ fn ran(
     let mut datagrams = Vec::new(alloc);
     for reply in replies {
         let frame = joined(rt, alloc, &[b"\x56\x02\x21\x01\0", reply]);
-        datagrams.push(datagram(alloc, PORT, &frame).expect(rt, "memory")).expect(rt, "memory");
+        datagrams
+            .push(datagram(alloc, PORT, &frame).expect(rt, "memory"))
+            .expect(rt, "memory");
     }
     let calls = vec![in alloc; call].expect(rt, "memory");
     let mut source = TextSource::new(joined(rt, alloc, &[HEAD, statements]), Vec::new(alloc));
@@ -148,7 +293,10 @@ fn are_frames(handed: &[Dispatch], frames: &[&[u8]]) -> bool {
     }
     for (dispatch, frame) in handed.iter().zip(frames) {
         let bytes = dispatch.datagram.bytes.as_slice();
-        if dispatch.datagram.port != PORT || !bytes.starts_with(b"\x56\x02\x20\0\x01") || &bytes[5..] != *frame {
+        if dispatch.datagram.port != PORT
+            || !bytes.starts_with(b"\x56\x02\x20\0\x01")
+            || &bytes[5..] != *frame
+        {
             return false;
         }
     }
@@ -169,7 +317,10 @@ fn a_procedure_runs_by_its_answers(rt: HostRuntime) {
 fn what_is_no_procedure_is_refused(rt: HostRuntime) {
     for (place, row) in REFUSED.iter().enumerate() {
         let (end, sink, link) = ran(&rt, rt.alloc(), row.0, &[], 0);
-        assert!(rt; end == Status::BadLine && sink.bytes() == row.1, "end of row {place}");
+        assert!(rt;
+            end == Status::BadLine && sink.bytes() == row.1,
+            "end of row {place}"
+        );
         assert!(rt; link.handed().is_empty(), "frames of row {place}");
     }
 }
@@ -188,8 +339,8 @@ fn long(rt: &impl Abort, alloc: Global, count: usize) -> Vec<u8> {
 fn a_procedure_has_at_most_256_statements(rt: HostRuntime) {
     let whole = long(&rt, rt.alloc(), 255);
     let (end, sink, _) = ran(&rt, rt.alloc(), &whole, &[NO_VIEW], 0);
-    assert!(rt; end == Status::NoResult && sink.bytes() == b"noview 0@0\n");
+    assert!(rt; end == Status::NoResult && sink.bytes() == b"noview 0@0\n".as_slice());
     let longer = long(&rt, rt.alloc(), 256);
     let (end, sink, _) = ran(&rt, rt.alloc(), &longer, &[], 0);
-    assert!(rt; end == Status::BadLine && sink.bytes() == b"bad line 260 at 1\n");
+    assert!(rt; end == Status::BadLine && sink.bytes() == b"bad line 260 at 1\n".as_slice());
 }

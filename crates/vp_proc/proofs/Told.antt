@@ -16,8 +16,7 @@ use Rattle.vp_proc.specs.Ran.{HasTold, AsksNext}
 tells_more : (txn : TxnId) (number n : ℕ) (s : Script) (xs : List Exchange) (ops : List Op) (left after : Script) (a : Answer) (operation : Op) → n ≡ number + length ops
     → Tells txn number s xs ops left → told left a ≡ Some (operation, after) → Tells txn number s (xs ++ (next_call txn n left, Some a) ∷ []) (ops ++ operation ∷ []) after
 tells_more txn number n s [] ops left after a operation is t e =
-    let same : n ≡ number = omega (arith, is, ap length t.0) in
-    (
+    let same : n ≡ number = omega (arith, is, ap length t.0) in (
       a,
       ap (λ (c : Call). (c, Some a)) (ap (λ (k : ℕ). next_call txn k left) same ∙ ap (next_call txn number) t.1),
       operation,

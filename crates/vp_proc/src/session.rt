@@ -259,12 +259,7 @@ impl Session {
     }
 
     /// Ends with a refusal. The transaction is aborted, unless that ended it.
-    fn refuse<L: Link>(
-        &self,
-        alloc: Global,
-        link: &mut L,
-        answer: Answer,
-    ) -> Result<End, AskFault>
+    fn refuse<L: Link>(&self, alloc: Global, link: &mut L, answer: Answer) -> Result<End, AskFault>
         requires bound { IsTrue (L.state link.old).bound }
         requires txn { IsTxn self.now.txn }
         requires room { length self.now.ops < 2 ^ 16 }

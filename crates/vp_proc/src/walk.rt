@@ -37,7 +37,11 @@ pub enum Step {
     /// Nothing more: the next statement follows.
     Next,
     /// This record is read into the variable.
-    Read { var: u8, name: Name, rec: RecId },
+    Read {
+        var: u8,
+        name: Name,
+        rec: RecId,
+    },
     /// This value is written to the record.
     Write {
         name: Name,
@@ -45,7 +49,9 @@ pub enum Step {
         value: Value,
     },
     /// The transaction is committed, with this result.
-    Give { number: u64 },
+    Give {
+        number: u64,
+    },
     /// It is aborted.
     Stop(End),
 }
@@ -136,13 +142,7 @@ impl Walk {
     }
 
     /// Makes the value that is to be written.
-    fn write(
-        &self,
-        alloc: Global,
-        name: &Name,
-        rec: RecId,
-        expr: &Expr,
-    ) -> Result<Step, NoMemory>
+    fn write(&self, alloc: Global, name: &Name, rec: RecId, expr: &Expr) -> Result<Step, NoMemory>
         requires expr { IsExpr expr.now }
         requires doing { self.now.mode ≡ mode.Doing }
         ensures { IfOk result (StepsSo self.now (statement.Write name.now rec expr.now) self.now) }

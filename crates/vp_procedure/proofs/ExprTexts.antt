@@ -1,11 +1,11 @@
 -- Expressions are read exactly, each with the word after it.
 use Rattle.std.proofs.Common.{◌≡◌, ℕ, ◌^◌, ◌-◌, Bool, true, false, List, [], ◌∷◌, ◌++◌, length, Result, Ok, Err, refl, sym, ap, subst, ◌∙◌, arith, inl, inr, append_assoc}
 use Rattle.std.specs.Prelude.{codes}
-use Rattle.std.proofs.lemmas.List.{append-nil}
+use Rattle.std.proofs.lemmas.List.{append-nil, length-append}
 use Rattle.vp_text.specs.Reading.{is_digit}
-use Rattle.vp_text.proofs.Exact.{IsRead, IsFault, Exact, Then, Made, Follows, made_exact, then_exact, exact_as, ok_value, at_err, Apart}
+use Rattle.vp_text.proofs.Exact.{IsRead, IsFault, Exact, Then, Made, Follows, one_value, made_exact, then_exact, exact_as, ok_value, at_err, Apart}
 use Rattle.vp_text.proofs.Fields.{Outside, IsOutside}
-use Rattle.vp_text.proofs.Choices.{follows_from}
+use Rattle.vp_text.proofs.Choices.{GoesOn, follows_from, then_goes}
 use Rattle.vp_procedure.specs.declared.procedure.Term.{Term}
 use Rattle.vp_procedure.specs.declared.procedure.Expr.{Expr}
 use Rattle.vp_procedure.specs.declared.procedure.Expr.TheVariants as expr
@@ -19,10 +19,10 @@ use Rattle.vp_procedure.proofs.TermTexts.{TermText, term_exact, term_goes}
 
 -- ---- nothing is read
 
-abbrev Nothing : {A : Type 0} → A → A → List ℕ → Type 0
+abbrev pub Nothing : {A : Type 0} → A → A → List ℕ → Type 0
 Nothing x a text = (a ≡ x) × (text ≡ [])
 
-nothing_exact : {A : Type 0} (x : A) → Exact (Nothing x) (λ bytes. Ok (x, bytes))
+pub nothing_exact : {A : Type 0} (x : A) → Exact (Nothing x) (λ bytes. Ok (x, bytes))
 nothing_exact {A = A} x = record {
   ok = λ bytes a rest e.
       let same : (x, bytes) ≡ (a, rest) = ok_value (x, bytes) (a, rest) e in
@@ -142,7 +142,7 @@ second_to make sign a compared first made spelled it front back rest text e f g 
     let m = h.after in
     let rest_is : rest ≡ term_text h.first ++ word m.from = h.parts ∙ rw (h.before.1, m.spelled.is) refl in
     let whole : text ≡ expr_text (make h.first) ++ word m.from =
-        joined (term_text a) sign (term_text h.first) (word m.from) front back rest text e f g rest_is ∙ ap (λ (x : List ℕ). x ++ word m.from) (sym (spelled h.first)) in
+    joined (term_text a) sign (term_text h.first) (word m.from) front back rest text e f g rest_is ∙ ap (λ (x : List ℕ). x ++ word m.from) (sym (spelled h.first)) in
     subst (λ (it : Ended). ExprText compared it text) (sym m.is) (record { expr_is = made h.first h.before.0; among = m.spelled.among; is = whole })
 
 just_to : (a : Term) (compared : Bool) (k : Keyword) → IsTerm a → Among (ends_of compared) k → (it : Ended) (front back rest text : List ℕ) → text ≡ front ++ back → front ≡ term_text a → back ≡ word k ++ rest
@@ -236,3 +236,44 @@ expr_from compared (expr.Difference a b) k t h =
 
 pub expr_exact : (compared : Bool) → Exact (ExprText compared) (expr_at compared)
 expr_exact compared = exact_as (parts_to compared) (λ it t h. expr_from compared it.0 it.1 t h) (parts_exact compared)
+
+-- ---- none goes on to a longer one
+
+nothing_ends : {A : Type 0} (x : A) → GoesOn (λ c. false) (Nothing x)
+nothing_ends x a b text y r before longer = absurd (omega (arith, ap length longer.1, length-append text (y ∷ r)))
+
+word_ends : {B : Type 0} (compared : Bool) (make : Keyword → B) → GoesOn (λ c. false) (Made (IsKeyword (ends_of compared)) make)
+word_ends compared make a b text x r before longer = absurd (keywords_end (ends_of compared) (ends_apart compared) before.from longer.from text x r before.spelled longer.spelled)
+  where
+    ends_apart : (compared : Bool) → all_apart (ends_of compared) ≡ true
+    ends_apart true = refl
+    ends_apart false = refl
+
+second_ends : (make : Term → Expr) (compared : Bool) → GoesOn (λ c. false) (SecondText make compared)
+second_ends make compared = then_goes (λ c. false) (one_value term_exact) (second_follows make compared) (λ b. word_ends compared (λ end. (make b, end)))
+
+after_ends : (a : Term) (compared : Bool) (k : Keyword) → GoesOn (λ c. false) (AfterText a compared k)
+after_ends a compared kw.Plus = second_ends (λ b. expr.Sum a b) compared
+after_ends a compared kw.Minus = second_ends (λ b. expr.Difference a b) compared
+after_ends a compared kw.Read = nothing_ends (expr.Just a, kw.Read)
+after_ends a compared kw.Set = nothing_ends (expr.Just a, kw.Set)
+after_ends a compared kw.Write = nothing_ends (expr.Just a, kw.Write)
+after_ends a compared kw.If = nothing_ends (expr.Just a, kw.If)
+after_ends a compared kw.Else = nothing_ends (expr.Just a, kw.Else)
+after_ends a compared kw.End = nothing_ends (expr.Just a, kw.End)
+after_ends a compared kw.Fail = nothing_ends (expr.Just a, kw.Fail)
+after_ends a compared kw.Result = nothing_ends (expr.Just a, kw.Result)
+after_ends a compared kw.Less = nothing_ends (expr.Just a, kw.Less)
+after_ends a compared kw.Equal = nothing_ends (expr.Just a, kw.Equal)
+after_ends a compared kw.Newline = nothing_ends (expr.Just a, kw.Newline)
+
+sign_follows : (a : Term) (compared : Bool) → Follows (IsKeyword (signs_of compared)) (AfterText a compared)
+sign_follows a compared = λ k k2 text x r b t before longer after. absurd (keywords_end (signs_of compared) (signs_apart compared) k k2 text x r before longer)
+
+parts_end : (compared : Bool) → GoesOn (λ c. false) (PartsText compared)
+parts_end compared =
+    then_goes (λ c. false) (one_value term_exact) (follows_from is_digit term_goes (λ a. signs_outside compared (AfterText a compared)))
+    (λ a. then_goes (λ c. false) (one_value (signs_exact compared)) (sign_follows a compared) (after_ends a compared))
+
+pub expr_ends : (compared : Bool) → GoesOn (λ c. false) (ExprText compared)
+expr_ends compared a b text x r before longer = parts_end compared a b text x r (expr_from compared a.0 a.1 text before) (expr_from compared b.0 b.1 (text ++ x ∷ r) longer)

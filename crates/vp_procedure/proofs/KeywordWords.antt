@@ -40,7 +40,7 @@ pub record IsKeyword (keywords : List Keyword) (keyword : Keyword) (text : List 
   pub among : Among keywords keyword
 
 -- no word of the keywords begins as the key does, nor the key as one of the words
-abbrev apart_from : List ℕ → List Keyword → Bool
+abbrev pub apart_from : List ℕ → List Keyword → Bool
 apart_from key [] = true
 apart_from key (k ∷ keywords) = (differ key (word k) && differ (word k) key) && apart_from key keywords
 

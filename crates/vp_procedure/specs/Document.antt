@@ -1,35 +1,27 @@
 -- The texts of procedures, and the places of their faults.
-use Rattle.std.specs.Prelude.{◌≡◌, ◌≢◌, ◌⊎◌, ⊤, ℕ, ◌+◌, ◌-◌, ◌<◌, true, List, ◌++◌, length, Result, Ok, Err}
-use Rattle.vp_text.specs.Documents.{IsBadLine, IsFaultyLine, LinesText, reached}
+use Rattle.std.specs.Prelude.{◌≡◌, ◌≢◌, ◌⊎◌, ⊤, ℕ, ◌+◌, ◌-◌, ◌<◌, List, length, Result, Ok, Err}
+use Rattle.vp_text.specs.Documents.{IsBadLine, IsFaultyLine}
 use Rattle.vp_procedure.specs.declared.draft.ProcedureDraft.{ProcedureDraft}
 use Rattle.vp_procedure.specs.declared.draft.ProcedureInput.{ProcedureInput}
 use Rattle.vp_procedure.specs.declared.fault.ProcedureFault.{ProcedureFault}
 use Rattle.vp_procedure.specs.declared.fault.ProcedureFault.TheVariants as faults
 use Rattle.vp_procedure.specs.declared.line.ProcedureLine.{ProcedureLine}
 use Rattle.vp_procedure.specs.Procedures.{IsProcedureOf, procedure_text}
-use Rattle.vp_procedure.specs.Drafts.{blank, after, LineText, Onward, Overruns, Repeats, Overfills}
+use Rattle.vp_procedure.specs.Drafts.{blank, after, LineText, Onward, Closes, Overruns, Repeats, Overfills, input_of}
 use Rattle.vp_procedure.specs.LineReading.{line_at}
 
 abbrev pub IsProcedureText : ProcedureInput → List ℕ → Type 0
 IsProcedureText it text = IsProcedureOf it.catalog it.procedure × (procedure_text it.catalog it.procedure ≡ text)
 
--- More comes after the line `result`.
-pub record IsTooLong (text : List ℕ) (line : ℕ) : Type 0 where
-  pub lines : List ProcedureLine
-  pub front : List ℕ
-  pub rest : List ℕ
-  pub lines_are : LinesText blank after LineText Onward lines front
-  pub done : (reached blank after LineText Onward lines).done ≡ true
-  pub parts : text ≡ front ++ rest
-  pub more : 0 < length rest
-  pub number : length lines + 1 ≡ line
+-- More comes after the line `result`, which is the line of this number.
+abbrev pub IsTooLong : List ℕ → ℕ → Type 0
+IsTooLong text line = (f : IsFaultyLine blank after LineText Onward Closes text line) × (0 < length f.rest)
 
--- No line that is allowed is there; or none can be allowed there, since 256 statements came before it without a `result`, or since
--- `result` did.
+-- No line that is allowed is there; or none can be, since 256 statements came before it without a `result`, or since `result` did.
 abbrev pub IsBadPlace : List ℕ → ℕ → ℕ → Type 0
 IsBadPlace text line at =
     IsBadLine blank after LineText Onward text line at
-    ⊎ ((at ≡ 1) × (((before : ℕ) × (line ≡ before + 1) × IsFaultyLine blank after LineText Onward Overruns text before) ⊎ IsTooLong text line))
+    ⊎ ((before : ℕ) × (line ≡ before + 1) × (at ≡ 1) × (IsFaultyLine blank after LineText Onward Overruns text before ⊎ IsTooLong text before))
 
 -- What is returned for a text.
 abbrev pub Answered : List ℕ → Result ProcedureInput ProcedureFault → Type 0
@@ -56,3 +48,9 @@ NextLine draft number old new (Err (faults.BadLine line at)) = (line ≡ number)
 NextLine draft number old new (Err (faults.Twice line)) = ⊥
 NextLine draft number old new (Err (faults.TooMany line limit)) = ⊥
 NextLine draft number old new (Err faults.NoMemory) = ⊤
+
+-- nothing is left, or the next line is one too many
+abbrev pub Finishes : ProcedureDraft → ℕ → List ℕ → Result ProcedureInput ProcedureFault → Type 0
+Finishes draft number rest (Ok it) = (it ≡ input_of draft) × (length rest ≡ 0)
+Finishes draft number rest (Err (faults.BadLine line at)) = (line ≡ number + 1) × (at ≡ 1) × (0 < length rest)
+Finishes draft number rest (Err fault) = ⊥

@@ -1,9 +1,8 @@
 -- The lines of a procedure's input, each allowed by the lines before it.
-use Rattle.std.specs.Prelude.{◌≡◌, ⊤, ℕ, ◌+◌, ◌<◌, Bool, true, false, List, [], ◌∷◌, ◌++◌, length, Result, Ok, Err}
+use Rattle.std.specs.Prelude.{◌≡◌, ⊤, ℕ, ◌+◌, ◌<◌, ◌≤◌, true, false, [], ◌∷◌, ◌++◌, List, length, Bool, Result, Ok, Err}
 use Rattle.vp_catalog.specs.declared.fault.CatalogFault.{CatalogFault}
 use Rattle.vp_catalog.specs.declared.fault.CatalogFault.TheVariants as catalog_faults
 use Rattle.vp_heads.specs.Heads as heads
-use Rattle.vp_procedure.specs.declared.procedure.Statement.{Statement}
 use Rattle.vp_procedure.specs.declared.line.ProcedureLine.{ProcedureLine}
 use Rattle.vp_procedure.specs.declared.line.ProcedureLine.TheVariants as kind
 use Rattle.vp_procedure.specs.declared.draft.ProcedureDraft.{ProcedureDraft}
@@ -14,11 +13,10 @@ use Rattle.vp_procedure.specs.Procedures.{key, statement_line, IsStatement, IsIn
 
 -- ---- the lines
 
--- A statement comes after the line `procedure`, and not after the line `result`.
+-- The statements come after the line `procedure`, and that after the lines of the catalogue.
 abbrev pub LineText : ProcedureDraft → ProcedureLine → List ℕ → Type 0
 LineText d (kind.Head line) text = heads.LineText key d.head line text
-LineText d (kind.Statement s) text =
-    (d.head.opened ≡ true) × (d.done ≡ false) × IsStatement d.head.catalog s × IsInPlace d.ifs s × (text ≡ statement_line s)
+LineText d (kind.Statement s) text = (d.head.opened ≡ true) × IsStatement d.head.catalog s × IsInPlace d.ifs s × (text ≡ statement_line s)
 
 -- The lines before it allow the line to be added.
 abbrev pub Allows : ProcedureDraft → ProcedureLine → Type 0
@@ -28,24 +26,26 @@ Allows d (kind.Statement s) = ⊤
 -- ---- from one line to the next
 
 abbrev pub blank : ProcedureDraft
-blank = record { head = heads.blank; statements = []; ifs = []; done = false }
-
-abbrev pub with_statement : ProcedureDraft → Statement → ProcedureDraft
-with_statement d s = record d { statements = d.statements ++ s ∷ []; ifs = opened_by s d.ifs; done = is_result s }
+blank = record { head = heads.blank; statements = []; ifs = [] }
 
 abbrev pub after : ProcedureDraft → ProcedureLine → ProcedureDraft
 after d (kind.Head line) = record d { head = heads.after d.head line }
-after d (kind.Statement s) = with_statement d s
+after d (kind.Statement s) = record d { statements = d.statements ++ s ∷ []; ifs = opened_by s d.ifs }
+
+-- It is the line `result`: the text ends with it.
+abbrev pub Closes : ProcedureDraft → ProcedureLine → Type 0
+Closes d (kind.Head line) = ⊥
+Closes d (kind.Statement s) = is_result s ≡ true
 
 -- It is the last of 256 statements, and not `result`: no line can follow it, though one has to.
 abbrev pub Overruns : ProcedureDraft → ProcedureLine → Type 0
 Overruns d (kind.Head line) = ⊥
-Overruns d (kind.Statement s) = (is_result s ≡ false) × (length d.statements + 1 ≡ 256)
+Overruns d (kind.Statement s) = (is_result s ≡ false) × (256 ≤ length d.statements + 1)
 
--- A line may follow this one, or the text ends with it.
+-- A line may follow this one.
 abbrev pub Onward : ProcedureDraft → ProcedureLine → Type 0
 Onward d (kind.Head line) = heads.Onward d.head line
-Onward d (kind.Statement s) = Overruns d (kind.Statement s) → ⊥
+Onward d (kind.Statement s) = (is_result s ≡ false) × (length d.statements + 1 < 256)
 
 -- It repeats a port or a name.
 abbrev pub Repeats : ProcedureDraft → ProcedureLine → Type 0
@@ -63,18 +63,16 @@ fault_of (catalog_faults.Twice line) = faults.Twice line
 fault_of (catalog_faults.TooMany line limit) = faults.TooMany line limit
 fault_of catalog_faults.NoMemory = faults.NoMemory
 
--- The line of this number was added.
-abbrev pub Adds : ProcedureDraft → ProcedureLine → ℕ → ProcedureDraft → Result ⊤ ProcedureFault → Type 0
-Adds old line number new (Ok u) = (new ≡ after old line) × Onward old line
+-- The line of this number was added, and another one may follow, or none.
+abbrev pub Adds : ProcedureDraft → ProcedureLine → ℕ → ProcedureDraft → Result Bool ProcedureFault → Type 0
+Adds old line number new (Ok true) = (new ≡ after old line) × Onward old line
+Adds old line number new (Ok false) = (new ≡ after old line) × Closes old line
 Adds old line number new (Err (faults.BadLine l at)) = (l ≡ number + 1) × (at ≡ 1) × Overruns old line
 Adds old line number new (Err (faults.Twice l)) = (l ≡ number) × Repeats old line
 Adds old line number new (Err (faults.TooMany l limit)) = (l ≡ number) × (limit ≡ 256) × Overfills old line
 Adds old line number new (Err faults.NoMemory) = ⊤
 
-abbrev pub AddsStatement : ProcedureDraft → Statement → ℕ → ProcedureDraft → Result ⊤ ProcedureFault → Type 0
-AddsStatement old s number new result = Adds old (kind.Statement s) number new result
-
--- what the lines say, if no more come
+-- what the lines say, after the last one
 abbrev pub input_of : ProcedureDraft → ProcedureInput
 input_of d = record {
   catalog = d.head.catalog;

@@ -1,8 +1,8 @@
 //! Reading procedures.
 
-ghost use Rattle.std.specs.Prelude.{◌≡◌, ◌≤◌, ◌<◌, ◌^◌, ℕ, length, Err};
+ghost use Rattle.std.specs.Prelude.{◌≡◌, ◌≤◌, ◌<◌, ◌^◌, ◌-◌, ℕ, length, Err};
 ghost use Rattle.vp_procedure.specs.LineReading.{line_at};
-ghost use Rattle.vp_procedure.specs.Document.{Answered, IsOnly, IsTaken, NextLine};
+ghost use Rattle.vp_procedure.specs.Document.{Answered, Finishes, IsOnly, IsTaken, NextLine};
 
 use crate::draft::{ProcedureDraft, ProcedureInput};
 use crate::fault::ProcedureFault;
@@ -34,6 +34,25 @@ fn next_line(
     }
 }
 
+/// Checks that nothing follows the line `result`, which is the line of this number.
+fn finish(
+    draft: ProcedureDraft,
+    cursor: &Cursor,
+    line: usize,
+) -> Result<ProcedureInput, ProcedureFault>
+    requires few { length draft.head.catalog.sites ≤ 16 }
+    requires room { line < 2 ^ 64 - 1 }
+    ensures { Finishes draft line cursor.now result }
+{
+    if cursor.left() > 0 {
+        return Err(ProcedureFault::BadLine {
+            line: line + 1,
+            at: 1,
+        });
+    }
+    Ok(draft.into_input())
+}
+
 /// Reads the whole text as a procedure: the lines of a catalogue, the line `procedure`, and statements up to `result`. An error names
 /// the first faulty line; a text that ends before that has a bad line at its end.
 pub fn parse(alloc: Global, text: &[u8]) -> Result<ProcedureInput, ProcedureFault>
@@ -44,13 +63,11 @@ pub fn parse(alloc: Global, text: &[u8]) -> Result<ProcedureInput, ProcedureFaul
     let mut draft = ProcedureDraft::new(alloc);
     let mut cursor = Cursor::new(text);
     let mut line = 1;
-    while !draft.done {
+    loop {
         let next = next_line(alloc, &mut cursor, &draft, line)?;
-        draft.add(next, line)?;
+        if !draft.add(next, line)? {
+            return finish(draft, &cursor, line);
+        }
         line += 1;
     }
-    if cursor.left() > 0 {
-        return Err(ProcedureFault::BadLine { line, at: 1 });
-    }
-    Ok(draft.into_input())
 }

@@ -1,8 +1,9 @@
 //! What the first lines of a procedure's input say.
 
-ghost use Rattle.std.specs.Prelude.{◌≡◌, ◌+◌, ◌<◌, ◌^◌, ◌-◌, length, IfOk, OnOk, true};
-ghost use Rattle.vp_procedure.specs.Procedures.{opened_by, is_result};
-ghost use Rattle.vp_procedure.specs.Drafts.{blank, Allows, Adds, AddsStatement, input_of};
+ghost use Rattle.std.specs.Prelude.{◌≡◌, ◌<◌, ◌≤◌, ◌^◌, ◌-◌, length, OnOk};
+ghost use Rattle.vp_procedure.specs.declared.line.ProcedureLine.TheVariants as kind;
+ghost use Rattle.vp_procedure.specs.Procedures.{opened_by};
+ghost use Rattle.vp_procedure.specs.Drafts.{blank, Allows, Adds, input_of};
 
 use crate::fault::ProcedureFault;
 use crate::line::ProcedureLine;
@@ -29,8 +30,6 @@ pub struct ProcedureDraft {
     pub head: Head,
     pub statements: Statements,
     pub ifs: OpenIfs,
-    /// Whether the line `result` has come.
-    pub done: bool,
 }
 
 impl ProcedureDraft {
@@ -42,57 +41,57 @@ impl ProcedureDraft {
             head: Head::new(alloc),
             statements: Statements::new(alloc),
             ifs: OpenIfs::new(alloc),
-            done: false,
         }
     }
 
-    /// Adds what the line of this number says.
-    pub fn add(&mut self, line: ProcedureLine, number: usize) -> Result<(), ProcedureFault>
+    /// Adds what the line of this number says, and returns whether another one may follow.
+    pub fn add(&mut self, line: ProcedureLine, number: usize) -> Result<bool, ProcedureFault>
         requires allowed { Allows self.old line }
         requires room { number < 2 ^ 64 - 1 }
         ensures { Adds self.old line number self.new result }
     {
         match line {
-            ProcedureLine::Head(line) => self.head.add(line, number)?,
-            ProcedureLine::Statement(statement) => self.add_statement(statement, number)?,
+            ProcedureLine::Head(line) => {
+                self.head.add(line, number)?;
+                Ok(true)
+            }
+            ProcedureLine::Statement(statement) => self.add_statement(statement, number),
         }
-        Ok(())
     }
 
-    /// Adds a statement. One that no line can follow, though it isn't the last one, makes the next line a bad one.
-    fn add_statement(&mut self, statement: Statement, number: usize) -> Result<(), ProcedureFault>
+    /// Adds a statement. If no line can follow it though it isn't the last one, the next line is a bad one.
+    fn add_statement(&mut self, statement: Statement, number: usize) -> Result<bool, ProcedureFault>
         requires { number < 2 ^ 64 - 1 }
-        ensures { AddsStatement self.old statement number self.new result }
+        ensures { Adds self.old (kind.Statement statement) number self.new result }
     {
+        let is_result = matches!(&statement, Statement::Give { .. });
         self.note(&statement)?;
         self.statements.push(statement)?;
-        if !self.done && self.statements.as_slice().len() == MOST_STATEMENTS {
+        if !is_result && self.statements.as_slice().len() >= MOST_STATEMENTS {
             return Err(ProcedureFault::BadLine {
                 line: number + 1,
                 at: 1,
             });
         }
-        Ok(())
+        Ok(!is_result)
     }
 
-    /// Notes which `if`s are open after the statement, and whether it is the last one.
+    /// Notes which `if`s are open after the statement.
     fn note(&mut self, statement: &Statement) -> Result<(), NoMemory>
-        ensures { OnOk result (self.new ≡ record self.old {
-            ifs = opened_by statement.now self.old.ifs; done = is_result statement.now }) }
+        ensures { OnOk result (self.new ≡ record self.old { ifs = opened_by statement.now self.old.ifs }) }
     {
-        self.done = false;
         match statement {
             Statement::IfLess { .. } | Statement::IfEqual { .. } => self.ifs.open()?,
             Statement::Else => self.ifs.note_else(),
             Statement::End => self.ifs.close(),
-            Statement::Give { .. } => self.done = true,
             _ => {}
         }
         Ok(())
     }
 
-    /// What the lines say, if no more come.
+    /// What the lines say, after the last one.
     pub fn into_input(self) -> ProcedureInput
+        requires few { length self.head.catalog.sites ≤ 16 }
         ensures { result ≡ input_of self }
     {
         let catalog = self.head.catalog;

@@ -17,7 +17,7 @@ use vp_text::{Cursor, Unexpected};
 /// Reads the name of a record, and finds that record.
 #[tactic(auto, unfolding(crate::specs::StatementReading::record_at))]
 fn parse_record(cursor: &mut Cursor, catalog: &Catalog) -> Result<(Name, RecId), LineFault>
-    ensures { Tries (λ record. record) line_left result cursor.new
+    ensures { Tries (λ it. it) line_left result cursor.new
         (reading.record_at (names_of catalog.now) cursor.old) }
 {
     let place = parse_place(cursor, catalog)?;
