@@ -4,3 +4,6 @@ pub mod ExprTexts
 pub mod StatementTexts
 pub mod StatementSpelled
 pub mod LineTexts
+pub mod Steps
+pub mod Answering
+pub mod Spelled
