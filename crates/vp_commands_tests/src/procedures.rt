@@ -235,7 +235,7 @@ const REFUSED: &[(&[u8], &[u8])] = &[
     (b"if a > 1\n", b"bad line 4 at 6\n"),
     (b"if a - b - 1\n", b"bad line 4 at 10\n"),
     (b"fail 256\n", b"bad line 4 at 8\n"),
-    (b"else\n", b"bad line 4 at 2\n"),
+    (b"else\n", b"bad line 4 at 1\n"),
     (b"end\n", b"bad line 4 at 1\n"),
     (b"if a = 1\nelse\nelse\n", b"bad line 6 at 2\n"),
     (b"if a = 1\nresult a\n", b"bad line 5 at 3\n"),

@@ -1,6 +1,6 @@
 //! The transaction of a procedure, and its calls.
 
-ghost use Rattle.std.specs.Prelude.{◌≡◌, ◌+◌, ◌<◌, ◌^◌, [], length, IsTrue, IfOk, List};
+ghost use Rattle.std.specs.Prelude.{◌≡◌, ◌+◌, ◌<◌, ◌^◌, [], length, IsTrue, IfOk, OnErr, List, Option, Some, ℕ};
 ghost use Rattle.vp_base.specs.Identifiers.{IsTxn};
 ghost use Rattle.vp_base.specs.Words.{IsName, IsValue};
 ghost use Rattle.vp_outside.specs.Links.{LinkState, StaysBound};
@@ -44,7 +44,9 @@ pub fn begun_in(answer: &Answer) -> Option<TxnId>
 
 /// The content that a read is told by the answer; none if it tells none.
 fn content_in(answer: &Answer) -> Result<Option<Option<Value>>, NoMemory>
-    ensures { IfOk result (λ content. content ≡ telling.content_in answer.now) }
+    ensures content { IfOk result (λ content. content ≡ telling.content_in answer.now) }
+    ensures no_memory { OnErr result
+        ((content : Option (List ℕ)) × (telling.content_in answer.now ≡ Some content)) }
 {
     match answer {
         Answer::Value { value, .. } => Ok(Some(Some(value.copy_of()?))),

@@ -7,3 +7,4 @@ pub mod LineTexts
 pub mod Steps
 pub mod Answering
 pub mod Spelled
+pub mod Only

@@ -80,7 +80,7 @@ text_said (kind.Head line ∷ es) t h =
     h.5 ∙ ap (λ (x : List ℕ). x ++ h.1) before ∙ sym (append-nil ((head_text es h.0 h.2).0 ++ h.1)) ∙ ap (λ (ss : List Statement). ((head_text es h.0 h.2).0 ++ h.1) ++ flat_map statement_line ss) (sym none)
 text_said (kind.Statement s ∷ es) t h =
     h.5 ∙ ap (λ (x : List ℕ). x ++ h.1) (text_said es h.0 h.2) ∙ ap (λ (x : List ℕ). ((head_text es h.0 h.2).0 ++ flat_map statement_line (said es).statements) ++ x) h.3.3
-    ∙ sym (flat_map_more statement_line (head_text es h.0 h.2).0 (said es).statements s)
+    ∙ flat_map_more statement_line (head_text es h.0 h.2).0 (said es).statements s
 
 leads_said : (es : List ProcedureLine) (t : List ℕ) → Lines es t → Leads (said es).head.catalog [] (said es).statements (said es).ifs
 leads_said [] t h = refl
@@ -114,7 +114,7 @@ module _ (text : List ℕ) (line : ℕ) (f : Stopped Closes text line) where
           statements_are = lead_end d.head.catalog [] d.ifs d.statements s (leads_said f.lines f.front f.lines_are) h.1 h.2 c;
           few = (let room = few_said f.lines f.front f.lines_are in omega (arith, room, length-append d.statements (s ∷ [])));
         },
-        sym (append_assoc (catalogue_text d.head.catalog) key (flat_map statement_line (d.statements ++ s ∷ []))) ∙ lines
+        sym (append_assoc (catalogue_text d.head.catalog) key (flat_map statement_line (d.statements ++ s ∷ []))) ∙ sym lines
         ∙ ap (λ (x : List ℕ). (x ++ flat_map statement_line d.statements) ++ statement_line s) (sym spelled)
         ∙ ap (λ (x : List ℕ). x ++ statement_line s) (sym (text_said f.lines f.front f.lines_are))
         ∙ ap (λ (x : List ℕ). f.front ++ x) (sym h.3) ∙ sym (f.parts ∙ ap (λ (x : List ℕ). f.front ++ (f.faulty ++ x)) none ∙ ap (λ (x : List ℕ). f.front ++ x) (append-nil f.faulty)),
@@ -122,3 +122,99 @@ module _ (text : List ℕ) (line : ℕ) (f : Stopped Closes text line) where
 
   pub closed_spells : f.rest ≡ [] → IsProcedureText (input_of (after d f.entry)) text
   closed_spells = closed_says f.entry f.faulty_is f.fault
+
+-- ---- the lines of a procedure
+
+-- some lines that say the draft
+record LinesOf (d : ProcedureDraft) (text : List ℕ) : Type 0 where
+  lines : List ProcedureLine
+  lines_are : Lines lines text
+  says : said lines ≡ d
+
+abbrev as_lines : List HeadLine → List ProcedureLine
+as_lines [] = []
+as_lines (line ∷ es) = kind.Head line ∷ as_lines es
+
+said_head : (es : List HeadLine) → said (as_lines es) ≡ record blank { head = head.said key es }
+said_head [] = refl
+said_head (line ∷ es) = ap (λ (d : ProcedureDraft). after d (kind.Head line)) (said_head es)
+
+lines_head : (es : List HeadLine) (t : List ℕ) → head.Lines key es t → Lines (as_lines es) t
+lines_head [] t h = h
+lines_head (line ∷ es) t h =
+    let back = sym (said_head es) in
+    (h.0, h.1, lines_head es h.0 h.2, subst (λ (d : ProcedureDraft). LineText d (kind.Head line) h.1) back h.3, subst (λ (d : ProcedureDraft). Onward d (kind.Head line)) back h.4, h.5)
+
+abbrev draft_of : Catalogue → List Statement → List Bool → ProcedureDraft
+draft_of c ss ifs = record { head = record { catalog = c; opened = true }; statements = ss; ifs = ifs }
+
+-- one more statement
+statement_more : (c : Catalogue) (ss : List Statement) (ifs : List Bool) (text : List ℕ) (s : Statement) → LinesOf (draft_of c ss ifs) text → IsStatement c s → IsInPlace ifs s → is_result s ≡ false → length ss + 1 < 256
+    → LinesOf (draft_of c (ss ++ s ∷ []) (opened_by s ifs)) (text ++ statement_line s)
+statement_more c ss ifs text s l is place other room =
+    let back = sym l.says in
+    record {
+      lines = kind.Statement s ∷ l.lines;
+      lines_are = (
+        text,
+        statement_line s,
+        l.lines_are,
+        subst (λ (d : ProcedureDraft). LineText d (kind.Statement s) (statement_line s)) back (refl, is, place, refl),
+        subst (λ (d : ProcedureDraft). Onward d (kind.Statement s)) back (other, room),
+        refl,
+      );
+      says = ap (λ (d : ProcedureDraft). after d (kind.Statement s)) l.says;
+    }
+
+statements_more : (c : Catalogue) (ss more : List Statement) (ifs mid : List Bool) (text : List ℕ) → LinesOf (draft_of c ss ifs) text → Leads c ifs more mid → length ss + length more < 256
+    → LinesOf (draft_of c (ss ++ more) mid) (text ++ flat_map statement_line more)
+statements_more c ss [] ifs mid text l h few =
+    subst (λ (ss : List Statement). LinesOf (draft_of c ss mid) (text ++ [])) (sym (append-nil ss))
+    (subst (LinesOf (draft_of c ss mid)) (sym (append-nil text)) (subst (λ (ifs : List Bool). LinesOf (draft_of c ss ifs) text) (sym h) l))
+statements_more c ss (s ∷ more) ifs mid text l h few =
+    let next = statement_more c ss ifs text s l h.0 h.1 h.2 (omega (arith, few)) in
+    let all = statements_more c (ss ++ s ∷ []) more (opened_by s ifs) mid (text ++ statement_line s) next h.3 (omega (arith, few, length-append ss (s ∷ []))) in
+    let text_all : (text ++ statement_line s) ++ flat_map statement_line more ≡ text ++ flat_map statement_line (s ∷ more) =
+        append_assoc text (statement_line s) (flat_map statement_line more) ∙ ap (λ (x : List ℕ). text ++ x) (sym (flat_map-cons statement_line s more)) in
+    subst (λ (ss : List Statement). LinesOf (draft_of c ss mid) (text ++ flat_map statement_line (s ∷ more))) (append_assoc ss (s ∷ []) more) (subst (LinesOf (draft_of c ((ss ++ s ∷ []) ++ more) mid)) text_all all)
+
+-- a text that `result` closes, with nothing after it
+pub record IsClosed (text : List ℕ) (it : ProcedureInput) : Type 0 where
+  pub line : ℕ
+  pub closes : Stopped Closes text line
+  pub none : closes.rest ≡ []
+  pub says : input_of (after (said closes.lines) closes.entry) ≡ it
+
+input_is : (it : ProcedureInput) (ss : List Statement) → it.procedure.first ≡ length it.catalog.sites + length it.catalog.records + 2 → it.procedure.statements ≡ ss
+    → record { catalog = it.catalog; procedure = record { first = length it.catalog.sites + length it.catalog.records + 2; statements = ss } } ≡ it
+input_is it ss first is = rw (← first, ← is) refl
+
+pub text_closes : (text : List ℕ) (it : ProcedureInput) → IsProcedureText it text → IsClosed text it
+text_closes text it h =
+    let c = it.catalog in
+    let e = ending c [] it.procedure.statements h.0.statements_are in
+    let l = head_lines key c h.0.catalogue_is in
+    let opened : LinesOf (draft_of c [] []) (catalogue_text c ++ key) =
+        record { lines = as_lines l.lines; lines_are = lines_head l.lines (catalogue_text c ++ key) l.lines_are; says = said_head l.lines ∙ ap (λ (h : Head). record blank { head = h }) l.says } in
+    let count = ap length e.parts in
+    let all = statements_more c [] e.front [] e.mid (catalogue_text c ++ key) opened e.leads (let few = h.0.few in omega (arith, few, count, length-append e.front (e.last ∷ []))) in
+    let back = sym all.says in
+    let front : List ℕ = (catalogue_text c ++ key) ++ flat_map statement_line e.front in
+    record {
+      line = length all.lines + 1;
+      closes = record {
+        lines = all.lines;
+        front = front;
+        faulty = statement_line e.last;
+        rest = [];
+        entry = kind.Statement e.last;
+        lines_are = all.lines_are;
+        faulty_is = subst (λ (d : ProcedureDraft). LineText d (kind.Statement e.last) (statement_line e.last)) back (refl, e.is, e.place, refl);
+        fault = e.result;
+        parts = sym h.1 ∙ ap (λ (ss : List Statement). catalogue_text c ++ (key ++ flat_map statement_line ss)) e.parts ∙ sym (append_assoc (catalogue_text c) key (flat_map statement_line (e.front ++ e.last ∷ [])))
+            ∙ sym (flat_map_more statement_line (catalogue_text c ++ key) e.front e.last) ∙ ap (λ (x : List ℕ). front ++ x) (sym (append-nil (statement_line e.last)));
+        number = refl;
+      };
+      none = refl;
+      says = ap (λ (d : ProcedureDraft). input_of (after d (kind.Statement e.last))) all.says ∙ input_is it (e.front ++ e.last ∷ []) h.0.first_is e.parts;
+    }
