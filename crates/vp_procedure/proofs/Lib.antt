@@ -1,3 +1,4 @@
+pub mod OpenIfs
 pub mod KeywordWords
 pub mod TermTexts
 pub mod ExprTexts

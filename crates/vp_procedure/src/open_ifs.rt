@@ -58,11 +58,13 @@ impl OpenIfs {
     }
 
     /// Notes the `else` of the innermost.
+    #[tactic(auto, using(crate::proofs::OpenIfs::noted, crate::proofs::OpenIfs::none_noted))]
     pub fn note_else(&mut self)
         ensures { self.new ≡ with_else self.old }
     {
-        if let Some(has_else) = self.elses.last_mut() {
-            *has_else = true;
+        let count = self.elses.len();
+        if count > 0 {
+            self.elses[count - 1] = true;
         }
     }
 
