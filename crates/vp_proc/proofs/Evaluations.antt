@@ -44,7 +44,7 @@ first_is m now operation later e = go (play_one m operation) refl e
     go (Some next) is e = (next, is, e)
 
 -- what an answer to a read tells
-read_told : (rec : ℕ) (go : Option (List ℕ) → Script) (c : Option (Option (List ℕ))) (operation : Op) (after : Script) → option_map (λ content. (op.Read rec content, go content)) c ≡ Some (operation, after)
+read_told : (rec : ℕ) (go : Option (List ℕ) → Script) (c : Option (Option (List ℕ))) (operation : Op) (after : Script) → option_map {U = Op × Script} (λ content. (op.Read rec content, go content)) c ≡ Some (operation, after)
     → (content : Option (List ℕ)) × (operation ≡ op.Read rec content) × (after ≡ go content)
 read_told rec go None operation after e = absurd cc
 read_told rec go (Some content) operation after e =

@@ -88,7 +88,7 @@ module _ (s : Session) (p : Procedure) (old : LinkState) where
   module _ (rec : ℕ) (name : List ℕ) (go : Option (List ℕ) → Script) (now new : LinkState) (at : IsAt s p old (Script.reads rec name go) now) where
     pub read_told : (a : Answer) (content : Option (List ℕ)) → AsksFor (call.Read s.txn (length s.ops + 1) name) now new (Ok a) → content_in a ≡ Some content → IsAt (grown s (op.Read rec content)) p old (go content) new
     read_told a content asks is =
-        told_more s.port s.site s.turns p old s.txn s.ops (Script.reads rec name go) (go content) now new a (op.Read rec content) at asks (ap (option_map (λ (c : Option (List ℕ)). (op.Read rec c, go c))) is)
+        told_more s.port s.site s.turns p old s.txn s.ops (Script.reads rec name go) (go content) now new a (op.Read rec content) at asks (ap (option_map {U = Op × Script} (λ (c : Option (List ℕ)). (op.Read rec c, go c))) is)
 
     pub read_refused : (a : Answer) → AsksFor (call.Read s.txn (length s.ops + 1) name) now new (Ok a) → content_in a ≡ None → IsRefused s p old a new
     read_refused a asks none = record { left = Script.reads rec name go; now = now; has_told = at; asks = asks; refuses = none }
