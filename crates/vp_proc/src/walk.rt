@@ -165,19 +165,20 @@ impl Walk {
         ensures { StepsSo self.old (if less then statement.IfLess a.now b.now else statement.IfEqual a.now b.now)
             self.new result }
     {
-        match (self.value(a), self.value(b)) {
-            (Some(x), Some(y)) => {
-                let holds = if less { x < y } else { x == y };
-                if !holds {
-                    self.mode = Mode::Passing {
-                        to_else: true,
-                        depth: 0,
-                    };
-                }
-                Step::Next
-            }
-            _ => self.overflow(),
+        let Some(x) = self.value(a) else {
+            return self.overflow();
+        };
+        let Some(y) = self.value(b) else {
+            return self.overflow();
+        };
+        let holds = if less { x < y } else { x == y };
+        if !holds {
+            self.mode = Mode::Passing {
+                to_else: true,
+                depth: 0,
+            };
         }
+        Step::Next
     }
 
     fn overflow(&self) -> Step

@@ -22,18 +22,21 @@ use Rattle.vp_procedure.proofs.TermTexts.{TermText, term_exact, term_goes}
 abbrev pub Nothing : {A : Type 0} → A → A → List ℕ → Type 0
 Nothing x a text = (a ≡ x) × (text ≡ [])
 
+abbrev at_once : {A : Type 0} → A → List ℕ → Result (A × List ℕ) ℕ
+at_once x bytes = Ok (x, bytes)
+
 pub nothing_exact : {A : Type 0} (x : A) → Exact (Nothing x) (λ bytes. Ok (x, bytes))
 nothing_exact {A = A} x = record {
   ok = λ bytes a rest e.
-      let same : (x, bytes) ≡ (a, rest) = ok_value (x, bytes) (a, rest) e in
+      let same = ok_value {A = A × List ℕ} (x, bytes) (a, rest) e in
       record {
         text = [];
         spelled = (sym (ap (λ (p : A × List ℕ). p.0) same), refl);
         parts = ap (λ (p : A × List ℕ). p.1) same;
         ends = λ b r h. subst (λ (r : List ℕ). Apart r rest) (sym h.1) tt;
       };
-  err = λ bytes left e. absurd (at_err (Ok (x, bytes)) (x, bytes) left refl e);
-  again = λ a text rest h ends. subst (λ (t : List ℕ). Ok (x, t ++ rest) ≡ Ok (a, rest)) (sym h.1) (ap (λ (a : A). Ok (a, rest)) (sym h.0));
+  err = λ bytes left e. absurd (at_err {A = A × List ℕ} (Ok (x, bytes)) (x, bytes) left refl e);
+  again = λ a text rest h ends. subst (λ (t : List ℕ). at_once x (t ++ rest) ≡ at_once a rest) (sym h.1) (ap (λ (a : A). at_once a rest) (sym h.0));
 }
 
 -- ---- the words
@@ -92,7 +95,7 @@ AfterText a compared end = Nothing (expr.Just a, end)
 abbrev PartsText : Bool → Ended → List ℕ → Type 0
 PartsText compared = Then TermText (λ a. Then (IsKeyword (signs_of compared)) (AfterText a compared))
 
-second_follows : (make : Term → Expr) (compared : Bool) → Follows TermText (λ b. Made (IsKeyword (ends_of compared)) (λ end. (make b, end)))
+second_follows : (make : Term → Expr) (compared : Bool) → Follows {B = Ended} TermText (λ b. Made (IsKeyword (ends_of compared)) (λ end. (make b, end)))
 second_follows make compared = follows_from is_digit term_goes (λ b. ends_outside compared (λ end. (make b, end)))
 
 sum_exact : (a : Term) (compared : Bool) → Exact (SecondText (λ b. expr.Sum a b) compared) (sum_at a compared)

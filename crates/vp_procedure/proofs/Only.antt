@@ -1,8 +1,9 @@
 -- Only one result is possible for a text, apart from want of memory.
-use Rattle.std.proofs.Common.{◌≡◌, ◌≢◌, ◌⊎◌, ℕ, ◌+◌, ◌<◌, List, ◌++◌, length, Result, Ok, Err, refl, sym, ap, subst, ◌∙◌, arith, inl, inr, true, false}
+use Rattle.std.proofs.Common.{◌≡◌, ◌≢◌, ◌⊎◌, ℕ, ◌+◌, ◌<◌, ◌≤◌, List, ◌++◌, length, Result, Ok, Err, refl, sym, ap, subst, ◌∙◌, arith, inl, inr, true, false}
 use Rattle.vp_text.specs.Documents.{IsBadLine}
 use Rattle.vp_text.proofs.Determined.{Stops, bad_same, bad_not_faulty, faulty_same}
 use Rattle.vp_procedure.specs.declared.line.ProcedureLine.{ProcedureLine}
+use Rattle.vp_procedure.specs.declared.line.ProcedureLine.TheVariants as kind
 use Rattle.vp_procedure.specs.declared.draft.ProcedureDraft.{ProcedureDraft}
 use Rattle.vp_procedure.specs.declared.draft.ProcedureInput.{ProcedureInput}
 use Rattle.vp_procedure.specs.declared.fault.ProcedureFault.{ProcedureFault}
@@ -10,7 +11,7 @@ use Rattle.vp_procedure.specs.declared.fault.ProcedureFault.TheVariants as fault
 use Rattle.vp_procedure.specs.Drafts.{LineText, blank, after, Onward, Closes, Overruns, Repeats, Overfills, Adds, input_of}
 use Rattle.vp_procedure.specs.LineReading.{line_at}
 use Rattle.vp_procedure.specs.Document.{IsProcedureText, IsTooLong, IsBadPlace, Answered, IsOnly, IsTaken, NextLine, Finishes}
-use Rattle.vp_procedure.proofs.Steps.{said, Stands, readable}
+use Rattle.vp_procedure.proofs.Steps.{said, Stands, readable, stands_few}
 use Rattle.vp_procedure.proofs.Answering.{Stopped, AreApart, lines_plain, closes_stop, overruns_stop, repeats_stop, overfills_stop, twice_many, overruns_twice, overruns_many, closes_twice, closes_many, closes_overruns, one_fault, two_faults, faulty}
 use Rattle.vp_procedure.proofs.Spelled.{IsClosed, text_closes, closed_spells}
 use Rattle.vp_text.proofs.Lists.{so_far_bad, so_far_exact}
@@ -148,3 +149,11 @@ answered_finish text rest new d k next line (Err (faults.BadLine l at)) s read n
 answered_finish text rest new d k next line (Err (faults.Twice l)) s read n f = absurd f
 answered_finish text rest new d k next line (Err (faults.TooMany l limit)) s read n f = absurd f
 answered_finish text rest new d k next line (Err faults.NoMemory) s read n f = absurd f
+
+-- the sites of what is taken are few
+pub closed_few : (text rest new : List ℕ) (d k : ProcedureDraft) (next : ProcedureLine) (line : ℕ) → Stands text rest d line → line_at d rest ≡ Ok (next, new) → Adds d next line k (Ok false) → length k.head.catalog.sites ≤ 16
+closed_few text rest new d k (kind.Head l) line s read n = absurd n.1
+closed_few text rest new d k (kind.Statement st) line s read n =
+    let same : length k.head.catalog.sites ≡ length d.head.catalog.sites = ap (λ (k : ProcedureDraft). length k.head.catalog.sites) n.0 in
+    let few = stands_few text rest d line s in
+    omega (arith, same, few)

@@ -73,6 +73,7 @@ closed d heads_kind.Key t h = h.0
 
 -- the head, and then the lines of the statements
 text_said : (es : List ProcedureLine) (t : List ℕ) (h : Lines es t) → t ≡ (head_text es t h).0 ++ flat_map statement_line (said es).statements
+unfolding head_text
 text_said [] t h = h
 text_said (kind.Head line ∷ es) t h =
     let none = (no_statements es h.0 h.2 (closed (said es) line h.1 h.3)).0 in

@@ -96,7 +96,9 @@ module _ (d : ProcedureDraft) where
       b = h.after.from.0
 
       text : (k : Keyword) → h.first.1 ≡ k → back ≡ expr_text h.first.0 ++ (word k ++ (expr_text b ++ 10 ∷ []))
-      text k e = h.parts ∙ rw (h.before.is, e, line_end h.after.from h.back h.after.spelled) (append_assoc (expr_text h.first.0) (word k) (expr_text b ++ 10 ∷ []))
+      text k e =
+          h.parts ∙ ap (λ (x : List ℕ). x ++ h.back) h.before.is ∙ ap (λ (x : List ℕ). (expr_text h.first.0 ++ word h.first.1) ++ x) (line_end h.after.from h.back h.after.spelled)
+          ∙ ap (λ (k : Keyword). (expr_text h.first.0 ++ word k) ++ (expr_text b ++ 10 ∷ [])) e ∙ append_assoc (expr_text h.first.0) (word k) (expr_text b ++ 10 ∷ [])
 
       go : Among (ends_of true) h.first.1 → Spells kw.If s back
       go (inl e) =

@@ -32,25 +32,25 @@ use Rattle.vp_procedure.proofs.ExprTexts.{Nothing, nothing_exact, ExprText, expr
 -- ---- the fields
 
 module _ (names : List (List ℕ)) where
-  abbrev RecordText : List ℕ × ℕ → List ℕ → Type 0
+  abbrev pub RecordText : List ℕ × ℕ → List ℕ → Type 0
   RecordText = Made (IsPlace names) (λ place. (slice_index_or names place [], place))
 
-  abbrev ReadText : Statement → List ℕ → Type 0
+  abbrev pub ReadText : Statement → List ℕ → Type 0
   ReadText = Then LetterText (λ var. Then (IsLiteral (32 ∷ [])) (λ _. Then RecordText (λ rec. Made (IsLiteral (10 ∷ [])) (λ u. statement.Read var rec.0 rec.1))))
 
-  abbrev WriteText : Statement → List ℕ → Type 0
+  abbrev pub WriteText : Statement → List ℕ → Type 0
   WriteText = Then RecordText (λ rec. Then (IsLiteral (32 ∷ [])) (λ _. Made (ExprText false) (λ e. statement.Write rec.0 rec.1 e.0)))
 
-abbrev SetText : Statement → List ℕ → Type 0
+abbrev pub SetText : Statement → List ℕ → Type 0
 SetText = Then LetterText (λ var. Then (IsLiteral (32 ∷ [])) (λ _. Made (ExprText false) (λ e. statement.Set var e.0)))
 
-abbrev IfText : Statement → List ℕ → Type 0
+abbrev pub IfText : Statement → List ℕ → Type 0
 IfText = Then (ExprText true) (λ a. Made (ExprText false) (λ b. comparison a.1 a.0 b.0))
 
-abbrev FailText : Statement → List ℕ → Type 0
+abbrev pub FailText : Statement → List ℕ → Type 0
 FailText = Then (IsNumber 0 255) (λ code. Made (IsLiteral (10 ∷ [])) (λ u. statement.Fail code))
 
-abbrev ResultText : Statement → List ℕ → Type 0
+abbrev pub ResultText : Statement → List ℕ → Type 0
 ResultText = Made (ExprText false) (λ e. statement.Give e.0)
 
 -- ---- they are read exactly
@@ -59,42 +59,42 @@ letter_follows : {B : Type 0} (M : ℕ → B → List ℕ → Type 0) → Follow
 letter_follows M = λ a a2 text x r b t before longer after. absurd (false≢true (letter_goes (λ c. false) a a2 text x r before longer))
 
 module _ (names : List (List ℕ)) (all : AllByRecursion (λ n. IsName n n) names) (some : starts_any names [] ≡ true) where
-  record_exact : Exact (RecordText names) (record_at names)
+  pub record_exact : Exact (RecordText names) (record_at names)
   unfolding record_at
   record_exact = made_exact (λ place. (slice_index_or names place [], place)) (among_exact names some)
 
   record_follows : {B : Type 0} (M : List ℕ × ℕ → B → List ℕ → Type 0) → ((rec : List ℕ × ℕ) → IsOutside (has classes.Name) (M rec)) → Follows (RecordText names) M
   record_follows M outside = follows_from (has classes.Name) (made_goes (has classes.Name) (place_goes names all)) outside
 
-  read_exact : Exact (ReadText names) (read_at names)
+  pub read_exact : Exact (ReadText names) (read_at names)
   unfolding read_at
   read_exact =
       then_exact (letter_follows (λ var. Then (IsLiteral (32 ∷ [])) (λ _. Then (RecordText names) (λ rec. Made (IsLiteral (10 ∷ [])) (λ u. statement.Read var rec.0 rec.1))))) letter_exact
       (λ var. literal_then (32 ∷ []) (then_exact (record_follows (λ rec. Made (IsLiteral (10 ∷ [])) (λ u. statement.Read var rec.0 rec.1)) (λ rec. made_outside (has classes.Name) (10 ∷ []) refl)) record_exact
       (λ rec. made_exact (λ u. statement.Read var rec.0 rec.1) (literal_exact (10 ∷ [])))))
 
-  write_exact : Exact (WriteText names) (write_at names)
+  pub write_exact : Exact (WriteText names) (write_at names)
   unfolding write_at
   write_exact =
       then_exact (record_follows (λ rec. Then (IsLiteral (32 ∷ [])) (λ _. Made (ExprText false) (λ e. statement.Write rec.0 rec.1 e.0))) (λ rec. literal_outside (has classes.Name) (32 ∷ []) refl)) record_exact
       (λ rec. literal_then (32 ∷ []) (made_exact (λ e. statement.Write rec.0 rec.1 e.0) (expr_exact false)))
 
-set_exact : Exact SetText set_at
+pub set_exact : Exact SetText set_at
 unfolding set_at
 set_exact =
     then_exact (letter_follows (λ var. Then (IsLiteral (32 ∷ [])) (λ _. Made (ExprText false) (λ e. statement.Set var e.0)))) letter_exact
     (λ var. literal_then (32 ∷ []) (made_exact (λ e. statement.Set var e.0) (expr_exact false)))
 
-if_exact : Exact IfText if_at
+pub if_exact : Exact IfText if_at
 unfolding if_at
 if_exact =
     then_exact (λ a a2 text x r b t before longer after. absurd (false≢true (expr_ends true a a2 text x r before longer))) (expr_exact true)
     (λ a. made_exact (λ b. comparison a.1 a.0 b.0) (expr_exact false))
 
-fail_exact : Exact FailText fail_at
+pub fail_exact : Exact FailText fail_at
 unfolding fail_at
 fail_exact = number_then 0 255 (omega arith) (omega arith) (λ n. made_outside is_digit (10 ∷ []) refl) (λ code. made_exact (λ u. statement.Fail code) (literal_exact (10 ∷ [])))
 
-result_exact : Exact ResultText result_at
+pub result_exact : Exact ResultText result_at
 unfolding result_at
 result_exact = made_exact (λ e. statement.Give e.0) (expr_exact false)

@@ -3,6 +3,9 @@ use Rattle.std.proofs.Common.{◌≡◌, ℕ, ◌+◌, ◌-◌, ◌≤◌, ◌<�
 use Rattle.std.specs.Prelude.{codes, map}
 use Rattle.std.specs.List.{AllByRecursion}
 use Rattle.std.specs.Fmt.{decimal}
+use Rattle.std.proofs.lemmas.Bool.Decides.{nat_tests}
+use Rattle.vp_text.specs.Classes.{has}
+use Rattle.vp_text.specs.declared.class.Class.TheVariants as classes
 use Rattle.vp_text.specs.Documents.{HasNoNewline, IsLine, reached, LinesText}
 use Rattle.vp_text.proofs.Exact.{Exact}
 use Rattle.vp_text.proofs.Items.{all_each}
@@ -12,7 +15,7 @@ use Rattle.vp_base.specs.Words.{IsName, IsPlace}
 use Rattle.vp_base.specs.Reading.{starts_any}
 use Rattle.vp_base.proofs.Among.{place_is_name}
 use Rattle.vp_model.specs.Catalogue.{Catalogue, RecordEntry, sites_of}
-use Rattle.vp_catalog.specs.Document.{IsCatalogueSoFar, IsCatalogue}
+use Rattle.vp_catalog.specs.Document.{AreSites, IsCatalogueSoFar, IsCatalogue}
 use Rattle.vp_catalog.specs.Entries.{IsRecord}
 use Rattle.vp_heads.specs.Heads as heads
 use Rattle.vp_heads.specs.HeadReading.{head_at}
@@ -62,7 +65,7 @@ head_said [] = refl
 head_said (kind.Head line ∷ es) = ap (λ (h : Head). heads.after h line) (head_said es)
 head_said (kind.Statement s ∷ es) = head_said es
 
-pub head_text : (es : List ProcedureLine) (t : List ℕ) → Lines es t → (front : List ℕ) × head.Lines key (heads_of es) front
+unfoldable pub head_text : (es : List ProcedureLine) (t : List ℕ) → Lines es t → (front : List ℕ) × head.Lines key (heads_of es) front
 head_text [] t h = ([], refl)
 head_text (kind.Head line ∷ es) t h =
     let front = head_text es h.0 h.2 in
@@ -105,8 +108,12 @@ expr_clean (expr.Just a) h = term_clean a h
 expr_clean (expr.Sum a b) h = both (term_text a) _ (term_clean a h.0) (both (codes " + ") (term_text b) (key_clean (codes " + ") refl) (term_clean b h.1))
 expr_clean (expr.Difference a b) h = both (term_text a) _ (term_clean a h.0) (both (codes " - ") (term_text b) (key_clean (codes " - ") refl) (term_clean b h.1))
 
+-- no newline is in a name
+name_byte : (c : ℕ) → has classes.Name c ≡ true → c ≡ 10 → ⊥
+name_byte c a e = grind (arith, nat_tests, a, e)
+
 name_clean : (name : List ℕ) → IsName name name → HasNoNewline name
-name_clean name h = all_each (λ c. _) (λ c. c ≡ 10 → ⊥) (λ c a e. let f = subst (λ (c : ℕ). _ ≡ true) e a in absurd cc) name h.each
+name_clean name h = all_each (λ c. has classes.Name c ≡ true) (λ c. c ≡ 10 → ⊥) name_byte name h.each
 
 expr_end : (e : Expr) → IsExpr e → IsLine (expr_text e ++ 10 ∷ [])
 expr_end e h = line_push (expr_text e) (10 ∷ []) (expr_clean e h) last_line
@@ -150,6 +157,19 @@ readable most = record {
 
 pub stands_room : (text rest : List ℕ) (d : ProcedureDraft) (line : ℕ) → Stands text rest d line → (left : ℕ) → line_at d rest ≡ Err left → left ≤ length rest
 stands_room text rest d line s left read = (so_far_bad blank after LineText Onward line_at text rest d line left (readable (length text)) s read).0
+
+-- sites ascend to at most 16
+sites_most : (above : ℕ) (sites : List (ℕ × ℕ)) → AreSites above sites → above ≤ 16 → length sites + above ≤ 16
+sites_most above [] h low = omega (arith, low)
+sites_most above (s ∷ sites) h low =
+    let more = sites_most s.0 sites h.1 h.0.fits in
+    let higher = h.0.higher in
+    omega (arith, more, higher)
+
+pub stands_few : (text rest : List ℕ) (d : ProcedureDraft) (line : ℕ) → Stands text rest d line → length d.head.catalog.sites ≤ 16
+stands_few text rest d line s =
+    let most = sites_most 0 (said s.lines).head.catalog.sites (part s.lines s.front s.lines_are).sites_are (omega arith) in
+    subst (λ (d : ProcedureDraft). length d.head.catalog.sites ≤ 16) s.state_is (omega (arith, most))
 
 allows : (d : ProcedureDraft) (e : ProcedureLine) (t : List ℕ) → LineText d e t → Allows d e
 allows d (kind.Head line) t h = head_allows line h

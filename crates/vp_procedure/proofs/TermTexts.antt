@@ -1,5 +1,5 @@
 -- Variables and terms are read exactly.
-use Rattle.std.proofs.Common.{◌≡◌, ℕ, ◌^◌, ◌-◌, ◌≤◌, Bool, true, false, ◌&&◌, cond, List, [], ◌∷◌, ◌++◌, length, Result, Ok, Err, refl, sym, ap, subst, ◌∙◌, arith, inl, inr}
+use Rattle.std.proofs.Common.{◌≡◌, ℕ, ◌^◌, ◌-◌, ◌≤◌, ◌<◌, Bool, true, false, ◌&&◌, cond, List, [], ◌∷◌, ◌++◌, length, Result, Ok, Err, refl, sym, ap, subst, ◌∙◌, arith, inl, inr}
 use Rattle.std.specs.Prelude.{nat_le}
 use Rattle.std.specs.Fmt.{decimal}
 use Rattle.std.specs.List.{AllByRecursion}
@@ -32,9 +32,9 @@ letter_test c h = and_from _ _ (le-leb 97 c h.0) (le-leb c 122 h.1)
 one_byte : (a x : ℕ) (r : List ℕ) → a ∷ r ≡ x ∷ [] → r ≡ []
 one_byte a x r e = cc
 
-letter_read : (c a : ℕ) (cs rest : List ℕ) (b : Bool) → is_letter c ≡ b → cond b (Ok (c, cs)) (Err (length (c ∷ cs))) ≡ Ok (a, rest) → IsRead LetterText (c ∷ cs) a rest
+letter_read : (c a : ℕ) (cs rest : List ℕ) (b : Bool) → is_letter c ≡ b → cond {A = Result (ℕ × List ℕ) ℕ} b (Ok (c, cs)) (Err (length (c ∷ cs))) ≡ Ok (a, rest) → IsRead LetterText (c ∷ cs) a rest
 letter_read c a cs rest true is e =
-    let same : (c, cs) ≡ (a, rest) = ok_value (c, cs) (a, rest) e in
+    let same = ok_value {A = ℕ × List ℕ} (c, cs) (a, rest) e in
     let first : c ≡ a = ap (λ (p : ℕ × List ℕ). p.0) same in
     record {
       text = a ∷ [];
@@ -42,13 +42,13 @@ letter_read c a cs rest true is e =
       parts = ap (λ (p : ℕ × List ℕ). p.0 ∷ p.1) same;
       ends = λ b r h. subst (λ (r : List ℕ). Apart r rest) (sym (one_byte a b r h.1)) tt;
     }
-letter_read c a cs rest false is e = absurd (at_err (Err (length (c ∷ cs))) (a, rest) (length (c ∷ cs)) e refl)
+letter_read c a cs rest false is e = absurd (at_err {A = ℕ × List ℕ} (Err (length (c ∷ cs))) (a, rest) (length (c ∷ cs)) e refl)
 
 no_letter : (c x : ℕ) (r cs : List ℕ) → is_letter c ≡ false → LetterText x r → Parts r (c ∷ cs)
 no_letter c x r cs is h = subst (λ (r : List ℕ). Parts r (c ∷ cs)) (sym h.1) (λ same. false≢true (sym is ∙ letter_test c (subst IsLetter same h.0)))
 
-letter_fault : (c left : ℕ) (cs : List ℕ) (b : Bool) → is_letter c ≡ b → cond b (Ok (c, cs)) (Err (length (c ∷ cs))) ≡ Err left → IsFault LetterText (c ∷ cs) left
-letter_fault c left cs true is e = absurd (at_err (Ok (c, cs)) (c, cs) left refl e)
+letter_fault : (c left : ℕ) (cs : List ℕ) (b : Bool) → is_letter c ≡ b → cond {A = Result (ℕ × List ℕ) ℕ} b (Ok (c, cs)) (Err (length (c ∷ cs))) ≡ Err left → IsFault LetterText (c ∷ cs) left
+letter_fault c left cs true is e = absurd (at_err {A = ℕ × List ℕ} (Ok (c, cs)) (c, cs) left refl e)
 letter_fault c left cs false is e = record {
   front = [];
   rest = c ∷ cs;
@@ -59,7 +59,7 @@ letter_fault c left cs false is e = record {
 }
 
 letter_ok : (bytes : List ℕ) (a : ℕ) (rest : List ℕ) → letter_at bytes ≡ Ok (a, rest) → IsRead LetterText bytes a rest
-letter_ok [] a rest e = absurd (at_err (Err 0) (a, rest) 0 e refl)
+letter_ok [] a rest e = absurd (at_err {A = ℕ × List ℕ} (Err 0) (a, rest) 0 e refl)
 letter_ok (c ∷ cs) a rest e = letter_read c a cs rest (is_letter c) refl e
 
 letter_err : (bytes : List ℕ) (left : ℕ) → letter_at bytes ≡ Err left → IsFault LetterText bytes left

@@ -1,10 +1,10 @@
 //! Reading the lines of a procedure's input.
 
-ghost use Rattle.std.specs.Prelude.{◌≡◌};
+ghost use Rattle.std.specs.Prelude.{◌≡◌, ◌≤◌, filter, length};
 ghost use Rattle.vp_text.specs.Reading.{Reads, Tries};
 ghost use Rattle.vp_base.specs.Faults.{line_left};
 ghost use Rattle.vp_procedure.specs.Keywords.{keyword_at};
-ghost use Rattle.vp_procedure.specs.LineReading.{may_begin, first_words, head_line_at, statement_line_at, line_at};
+ghost use Rattle.vp_procedure.specs.LineReading.{may_begin, head_line_at, statement_line_at, line_at};
 
 use crate::draft::ProcedureDraft;
 use crate::keyword::{Keyword, parse_keyword};
@@ -48,16 +48,21 @@ fn may_begin(draft: &ProcedureDraft, keyword: Keyword) -> bool
     }
 }
 
-/// Reads the first word of a statement that may come after what the lines say.
-fn parse_first_word(cursor: &mut Cursor, draft: &ProcedureDraft) -> Result<Keyword, Unexpected>
+/// Reads one of the words, which a statement that may come after what the lines say begins with.
+fn parse_first_word(
+    cursor: &mut Cursor,
+    draft: &ProcedureDraft,
+    words: &[Keyword],
+) -> Result<Keyword, Unexpected>
+    requires { length words.now ≤ 8 }
     ensures { Reads (λ keyword. keyword) (λ e. e.left) result cursor.new
-        (keyword_at (first_words draft.now) cursor.old) }
+        (keyword_at (filter (may_begin draft.now) words.now) cursor.old) }
 {
     let mut allowed = [Keyword::Set; 8];
     let mut count = 0;
-    for keyword in FIRST_WORDS {
-        if may_begin(draft, keyword) {
-            allowed[count] = keyword;
+    for keyword in words {
+        if may_begin(draft, *keyword) {
+            allowed[count] = *keyword;
             count += 1;
         }
     }
@@ -71,7 +76,7 @@ fn parse_statement_line(
 ) -> Result<ProcedureLine, LineFault>
     ensures { Tries (λ line. line) line_left result cursor.new (statement_line_at draft.now cursor.old) }
 {
-    let keyword = parse_first_word(cursor, draft)?;
+    let keyword = parse_first_word(cursor, draft, &FIRST_WORDS)?;
     let statement = parse_fields(cursor, &draft.head.catalog, keyword)?;
     Ok(ProcedureLine::Statement(statement))
 }

@@ -31,6 +31,7 @@ fn parse_place(cursor: &mut Cursor, catalog: &Catalog) -> Result<usize, Unexpect
     ensures read { Reads (λ place. place) (λ e. e.left) result cursor.new
         (among_at (names_of catalog.now) cursor.old) }
     ensures within { IfOk result (λ place. place < length catalog.now.records) }
+    ensures fits { IfOk result (λ place. place < 256) }
 {
     let bytes = cursor.rest();
     let mut count = 0;
@@ -64,9 +65,10 @@ fn some_starts(catalog: &Catalog, prefix: &[u8]) -> bool
 fn place(catalog: &Catalog, word: &[u8]) -> Option<usize>
     ensures place { result ≡ place_of (names_of catalog.now) word.now }
     ensures within { IfSome result (λ place. place < length catalog.now.records) }
+    ensures fits { IfSome result (λ place. place < 256) }
 {
-    for (place, placed) in catalog.records().iter().enumerate() {
-        if placed.name().is(word) {
+    for place in 0..catalog.count() {
+        if catalog.records()[place].name().is(word) {
             return Some(place);
         }
     }
