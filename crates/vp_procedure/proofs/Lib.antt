@@ -1,3 +1,4 @@
+pub mod FirstWords
 pub mod OpenIfs
 pub mod KeywordWords
 pub mod TermTexts
