@@ -64,7 +64,7 @@ module _ (s : Session) (p : Procedure) (old : LinkState) where
   refused_closed a new h closed = inr (inl (record { txn = s.txn; refused = h; closed = closed }))
 
   pub refused_due : (a : Answer) (now : LinkState) → IsRefused s p old a now → is_end a ≡ false → IsToAbort s p old (ends.Refused a) now
-  refused_due a now h open = (h, open)
+  refused_due a now h on = (h, on)
 
   -- ---- the commit
 

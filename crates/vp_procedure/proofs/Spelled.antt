@@ -107,8 +107,7 @@ module _ (text : List ℕ) (line : ℕ) (f : Stopped Closes text line) where
       let front = head_text f.lines f.front f.lines_are in
       let on : (head.said key (heads_of f.lines)).opened ≡ true = subst (λ (h : Head). h.opened ≡ true) (head_said f.lines) h.0 in
       let spelled = (head.head_spelled key (heads_of f.lines) front.0 front.1 on).1 ∙ ap (λ (h : Head). catalogue_text h.catalog ++ key) (sym (head_said f.lines)) in
-      let lines = flat_map_more statement_line (catalogue_text d.head.catalog ++ key) d.statements s in
-      (
+      let lines = flat_map_more statement_line (catalogue_text d.head.catalog ++ key) d.statements s in (
         record {
           catalogue_is = catalogue_said f.lines f.front f.lines_are h.0;
           first_is = refl;
@@ -116,9 +115,9 @@ module _ (text : List ℕ) (line : ℕ) (f : Stopped Closes text line) where
           few = (let room = few_said f.lines f.front f.lines_are in omega (arith, room, length-append d.statements (s ∷ [])));
         },
         sym (append_assoc (catalogue_text d.head.catalog) key (flat_map statement_line (d.statements ++ s ∷ []))) ∙ sym lines
-        ∙ ap (λ (x : List ℕ). (x ++ flat_map statement_line d.statements) ++ statement_line s) (sym spelled)
-        ∙ ap (λ (x : List ℕ). x ++ statement_line s) (sym (text_said f.lines f.front f.lines_are))
-        ∙ ap (λ (x : List ℕ). f.front ++ x) (sym h.3) ∙ sym (f.parts ∙ ap (λ (x : List ℕ). f.front ++ (f.faulty ++ x)) none ∙ ap (λ (x : List ℕ). f.front ++ x) (append-nil f.faulty)),
+            ∙ ap (λ (x : List ℕ). (x ++ flat_map statement_line d.statements) ++ statement_line s) (sym spelled)
+            ∙ ap (λ (x : List ℕ). x ++ statement_line s) (sym (text_said f.lines f.front f.lines_are))
+            ∙ ap (λ (x : List ℕ). f.front ++ x) (sym h.3) ∙ sym (f.parts ∙ ap (λ (x : List ℕ). f.front ++ (f.faulty ++ x)) none ∙ ap (λ (x : List ℕ). f.front ++ x) (append-nil f.faulty)),
       )
 
   pub closed_spells : f.rest ≡ [] → IsProcedureText (input_of (after d f.entry)) text
@@ -176,7 +175,7 @@ statements_more c ss (s ∷ more) ifs mid text l h few =
     let next = statement_more c ss ifs text s l h.0 h.1 h.2 (omega (arith, few)) in
     let all = statements_more c (ss ++ s ∷ []) more (opened_by s ifs) mid (text ++ statement_line s) next h.3 (omega (arith, few, length-append ss (s ∷ []))) in
     let text_all : (text ++ statement_line s) ++ flat_map statement_line more ≡ text ++ flat_map statement_line (s ∷ more) =
-        append_assoc text (statement_line s) (flat_map statement_line more) ∙ ap (λ (x : List ℕ). text ++ x) (sym (flat_map-cons statement_line s more)) in
+    append_assoc text (statement_line s) (flat_map statement_line more) ∙ ap (λ (x : List ℕ). text ++ x) (sym (flat_map-cons statement_line s more)) in
     subst (λ (ss : List Statement). LinesOf (draft_of c ss mid) (text ++ flat_map statement_line (s ∷ more))) (append_assoc ss (s ∷ []) more) (subst (LinesOf (draft_of c ((ss ++ s ∷ []) ++ more) mid)) text_all all)
 
 -- a text that `result` closes, with nothing after it
@@ -196,7 +195,7 @@ text_closes text it h =
     let e = ending c [] it.procedure.statements h.0.statements_are in
     let l = head_lines key c h.0.catalogue_is in
     let opened : LinesOf (draft_of c [] []) (catalogue_text c ++ key) =
-        record { lines = as_lines l.lines; lines_are = lines_head l.lines (catalogue_text c ++ key) l.lines_are; says = said_head l.lines ∙ ap (λ (h : Head). record blank { head = h }) l.says } in
+    record { lines = as_lines l.lines; lines_are = lines_head l.lines (catalogue_text c ++ key) l.lines_are; says = said_head l.lines ∙ ap (λ (h : Head). record blank { head = h }) l.says } in
     let count = ap length e.parts in
     let all = statements_more c [] e.front [] e.mid (catalogue_text c ++ key) opened e.leads (let few = h.0.few in omega (arith, few, count, length-append e.front (e.last ∷ []))) in
     let back = sym all.says in
