@@ -11,14 +11,12 @@ are cut, split, joined or left out; lives skip some; `out` lines are left out, s
 of eight the text has a fault. Bytes and exit statuses have to agree. What is merged is replayed by PROGRAM, too, and its check has to find it serial. Seeds are shared
 out over the processors; the first that differs is printed, and ends the run.
 """
-import multiprocessing
-import os
 import random
 import subprocess
 import sys
 
 from compare_replay import COUNT, FOLDER, PROGRAM, SEED, Busy
-from comparison import modules, with_byte_changed, with_lines_moved
+from comparison import compare_seeds, modules, with_byte_changed, with_lines_moved
 
 base, fuzz, merge, reachtest, schedule, wire = modules(FOLDER, "base", "fuzz", "merge", "reachtest", "schedule", "wire")
 INSERTED = b" \n0123456789abcdefinoutstrd"
@@ -212,14 +210,4 @@ def differs(seed):
 
 
 if __name__ == "__main__":
-    ends, events = {}, 0
-    with multiprocessing.Pool(int(os.environ.get("JOBS", os.cpu_count()))) as pool:
-        for found in pool.imap_unordered(differs, range(SEED, SEED + COUNT), 4):
-            if len(found) == 4:
-                print("differs at seed", found[0])
-                sys.stdout.buffer.write(found[1] + b"\n----\n" + found[2][1] + b"----\n" + found[3][1])
-                print(found[2][0], found[3][0])
-                sys.exit(1)
-            ends[found[1]] = ends.get(found[1], 0) + 1
-            events += found[2]
-    print(f"{COUNT} recorded runs from seed {SEED} agree, with {events} events; by status: {dict(sorted(ends.items()))}")
+    sys.exit(compare_seeds(differs, SEED, COUNT, "recorded runs", "events", 4))

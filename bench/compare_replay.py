@@ -8,13 +8,11 @@ the reference's `fuzz`, which drives a world so that much of what it draws takes
 faults in its text; and one in five is made here, for many commits in several views, with crashes while transactions are in doubt. Bytes
 and exit statuses have to agree. Seeds are shared out over the processors; the first input that differs is printed, and ends the run.
 """
-import multiprocessing
-import os
 import random
 import subprocess
 import sys
 
-from comparison import arguments, modules
+from comparison import arguments, compare_seeds, modules
 
 
 class Busy:
@@ -117,14 +115,4 @@ PROGRAM, SEED, COUNT, FOLDER = arguments(1000)
 base, fuzz, replay, schedule = modules(FOLDER, "base", "fuzz", "replay", "schedule")
 
 if __name__ == "__main__":
-    ends, commits = {}, 0
-    with multiprocessing.Pool(int(os.environ.get("JOBS", os.cpu_count()))) as pool:
-        for found in pool.imap_unordered(differs, range(SEED, SEED + COUNT), 20):
-            if len(found) == 4:
-                print("differs at seed", found[0])
-                sys.stdout.buffer.write(found[1] + b"\n----\n" + found[2][1] + b"----\n" + found[3][1])
-                print(found[2][0], found[3][0])
-                sys.exit(1)
-            ends[found[1]] = ends.get(found[1], 0) + 1
-            commits += found[2]
-    print(f"{COUNT} inputs from seed {SEED} agree, with {commits} commits; by status: {dict(sorted(ends.items()))}")
+    sys.exit(compare_seeds(differs, SEED, COUNT, "inputs", "commits", 20))

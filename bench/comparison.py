@@ -1,5 +1,7 @@
 """Runs a program on random inputs, each made from its own seed, up to the first where another program or a reference differs."""
 import importlib
+import multiprocessing
+import os
 import pathlib
 import random
 import subprocess
@@ -119,6 +121,26 @@ def compare(command, made, wanted=lambda text, answer: answer):
             print(mine[0], other_answer[0])
             return 1
     print(f"{count} inputs from seed {seed} agree; by status: {dict(sorted(ends.items()))}")
+    return 0
+
+
+def compare_seeds(differs, seed, count, inputs, counted, chunk):
+    """Calls `differs` for each seed, shared out over the processors, and reports the statuses that were met, with the sum of what was counted.
+
+    `differs` gives the seed, its status and a count; or where two programs differ, the seed, the text and both answers, each a status with its
+    output. The answer is the exit status of the comparison: 1 where an input tells them apart.
+    """
+    ends, total = {}, 0
+    with multiprocessing.Pool(int(os.environ.get("JOBS", os.cpu_count()))) as pool:
+        for found in pool.imap_unordered(differs, range(seed, seed + count), chunk):
+            if len(found) == 4:
+                print("differs at seed", found[0])
+                sys.stdout.buffer.write(found[1] + b"\n----\n" + found[2][1] + b"----\n" + found[3][1])
+                print(found[2][0], found[3][0])
+                return 1
+            ends[found[1]] = ends.get(found[1], 0) + 1
+            total += found[2]
+    print(f"{count} {inputs} from seed {seed} agree, with {total} {counted}; by status: {dict(sorted(ends.items()))}")
     return 0
 
 

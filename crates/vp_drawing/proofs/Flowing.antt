@@ -16,7 +16,7 @@ use Rattle.vp_pictures.specs.declared.sheet.Sheet.{Sheet}
 use Rattle.vp_world.specs.Known.{Known}
 use Rattle.vp_drawing.specs.Drawings.{Draws, DrawsMoment, DrawsSchedule, IsDrawing, IsSoFar}
 use Rattle.vp_drawing.specs.Limits.{picture_limits}
-use Rattle.vp_drawing.specs.Moments.{blank, moment_drawn, moments_drawn}
+use Rattle.vp_drawing.specs.Moments.{blank, draw_moment, draw_moments}
 use Rattle.vp_drawing.specs.declared.drawing.Drawing.{Drawing}
 use Rattle.vp_drawing.specs.declared.end.DrawingEnd.{DrawingEnd}
 use Rattle.vp_drawing.specs.declared.end.DrawingEnd.TheVariants as end
@@ -41,7 +41,7 @@ step_draws catalogue n e run base known (Ok after) old new so_far draws =
       known_is = done.1;
       within = within_more run.moments m so_far.within done.0;
       is = done.2;
-      sheet_is = done.3 ∙ ap (moment_drawn catalogue m) so_far.sheet_is ∙ sym (drawn_more catalogue run.moments m base);
+      sheet_is = done.3 ∙ ap (draw_moment catalogue m) so_far.sheet_is ∙ sym (drawn_more catalogue run.moments m base);
     }
 
 -- an event that is no flow is one step
@@ -164,7 +164,7 @@ module _ (s : Schedule) (part : Part) where
     play_is_over e =
         let whole : h.run ≡ run_of s = subst (λ (es : List Event). run_from s.catalogue (i + 1) es h.run ≡ run_of s) (all_dropped s.events i e) h.ahead in (
           subst (λ (r : Run). limit_in picture_limits r.moments ≡ None) whole (none_reached h.run.moments h.so_far.within),
-          subst (λ (r : Run). d.sheet ≡ moments_drawn s.catalogue r.moments (head s.catalogue (blank part))) whole h.so_far.sheet_is,
+          subst (λ (r : Run). d.sheet ≡ draw_moments s.catalogue r.moments (head s.catalogue (blank part))) whole h.so_far.sheet_is,
         )
 
     module _ (x : Event) (lt : i < length s.events) (there : x ≡ get_or s.events i x) where

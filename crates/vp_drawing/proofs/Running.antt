@@ -1,23 +1,21 @@
 -- The steps of a run, and the limits on them.
-use Rattle.std.proofs.Common.{◌≡◌, ◌∙◌, ℕ, zero, suc, ◌+◌, ◌<◌, ◌≤◌, Bool, true, false, cond, List, [], ◌∷◌, ◌++◌, length, refl, sym, ap, subst, arith, append_assoc, append-nil}
-use Rattle.std.specs.Prelude.{◌-◌, ◌^◌, ◌==◌, ◌||◌, nat_lt, if◌then◌else◌, is_some, find, Option, Some, None, option_and_then, Result, Ok, Err}
+use Rattle.std.proofs.Common.{◌≡◌, ◌∙◌, ℕ, ◌+◌, Bool, true, false, cond, List, [], ◌∷◌, ◌++◌, refl, sym, ap, append_assoc, append-nil}
+use Rattle.std.specs.Prelude.{◌-◌, ◌^◌, ◌==◌, ◌||◌, if◌then◌else◌, is_some, find, Option, Some, None, option_and_then}
 use Rattle.std.specs.Option.{option_map_or, option_or}
 use Rattle.std.specs.List.{list_any}
-use Rattle.std.proofs.lemmas.Bool.Decides.{nat_tests}
 use Rattle.std.proofs.lemmas.List.Folds.{list_any-append, find-append}
 use Rattle.std.proofs.lemmas.List.Sums.{fold-append}
 use Rattle.vp_model.specs.Types.{Counted, Event, Input, Sent}
-use Rattle.vp_model.specs.Types.counted
 use Rattle.vp_model.specs.Types.event
 use Rattle.vp_model.specs.Types.input
 use Rattle.vp_model.specs.Types.shown
-use Rattle.vp_model.specs.Words.{for_each, for_some}
 use Rattle.vp_model.specs.Catalogue.{Catalogue}
 use Rattle.vp_model.specs.Limits.{exceeded, is_over, limit_in}
-use Rattle.vp_model.specs.World.{WorldState, Moment, Moved, Run, at_site, crash, deliver, flow, flowing, happens, is_cut, message_at, moment, next, one_event, one_step, place_of, restart, restart_from, run_from, shows, site_of, site_step}
+use Rattle.vp_model.specs.World.{WorldState, Moment, Moved, Run, at_site, crash, deliver, flow, happens, is_cut, message_at, moment, next, one_step, place_of, restart, restart_from, run_from, shows, site_of, site_step}
 use Rattle.vp_pictures.specs.declared.sheet.Sheet.{Sheet}
 use Rattle.vp_drawing.specs.Limits.{picture_limits}
-use Rattle.vp_drawing.specs.Moments.{moment_drawn, moments_drawn}
+use Rattle.vp_drawing.specs.Moments.{draw_moment, draw_moments}
+use Rattle.vp_drawing.proofs.Runs.{flow_keeps, run_keeps}
 
 -- ---- an event does not change the count of steps
 
@@ -101,8 +99,8 @@ within_more ms m none few = list_any-append over ms (m ∷ []) ∙ rw (none, few
 
 -- ---- runs
 
-pub drawn_more : (catalogue : Catalogue) (ms : List Moment) (m : Moment) (base : Sheet) → moments_drawn catalogue (ms ++ m ∷ []) base ≡ moment_drawn catalogue m (moments_drawn catalogue ms base)
-drawn_more catalogue ms m base = fold-append (λ sheet m. moment_drawn catalogue m sheet) base ms (m ∷ [])
+pub drawn_more : (catalogue : Catalogue) (ms : List Moment) (m : Moment) (base : Sheet) → draw_moments catalogue (ms ++ m ∷ []) base ≡ draw_moment catalogue m (draw_moments catalogue ms base)
+drawn_more catalogue ms m base = fold-append (λ sheet m. draw_moment catalogue m sheet) base ms (m ∷ [])
 
 -- a run only gets more moments
 abbrev Grows : Run → Run → Type 0
@@ -115,32 +113,18 @@ step_grows : (catalogue : Catalogue) (n : ℕ) (e : Event) (run : Run) → Grows
 unfolding one_step
 step_grows catalogue n e run = (moment n run.world e (next catalogue e run.world) ∷ [], refl)
 
-flow_grows : (catalogue : Catalogue) (n count : ℕ) (run : Run) → Grows run (flow catalogue n count run)
-unfolding flow
-flow_grows catalogue n zero run = ([], sym (append-nil run.moments))
-flow_grows catalogue n (suc count) run = go (flowing run.world) (λ k. flow_grows catalogue n count (one_step catalogue n (event.Deliver k) run))
-  where
-    go : (o : Option ℕ) → ((k : ℕ) → Grows (one_step catalogue n (event.Deliver k) run) (flow catalogue n count (one_step catalogue n (event.Deliver k) run)))
-        → Grows run (for_some o (λ k run. flow catalogue n count (one_step catalogue n (event.Deliver k) run)) run)
-    go None rest = ([], sym (append-nil run.moments))
-    go (Some k) rest = grows_on run (one_step catalogue n (event.Deliver k) run) (flow catalogue n count (one_step catalogue n (event.Deliver k) run)) (step_grows catalogue n (event.Deliver k) run) (rest k)
+grows_more : (catalogue : Catalogue) (run : Run) (n : ℕ) (e : Event) (after : Run) → Grows run after → Grows run (one_step catalogue n e after)
+grows_more catalogue run n e after grows = grows_on run after (one_step catalogue n e after) grows (step_grows catalogue n e after)
 
-event_grows : (catalogue : Catalogue) (n : ℕ) (e : Event) (run : Run) → Grows run (one_event catalogue n e run)
-unfolding one_event
-event_grows catalogue n (event.Flow count) run = flow_grows catalogue n count run
-event_grows catalogue n e run = step_grows catalogue n e run
-
-run_grows : (catalogue : Catalogue) (n : ℕ) (events : List Event) (run : Run) → Grows run (run_from catalogue n events run)
-unfolding run_from
-run_grows catalogue n [] run = ([], sym (append-nil run.moments))
-run_grows catalogue n (e ∷ events) run = grows_on run (one_event catalogue n e run) (run_from catalogue (n + 1) events (one_event catalogue n e run)) (event_grows catalogue n e run) (run_grows catalogue (n + 1) events (one_event catalogue n e run))
+grows_none : (run : Run) → Grows run run
+grows_none run = ([], sym (append-nil run.moments))
 
 limit_kept : (a b : Run) (what : Counted) → Grows a b → limit_in picture_limits a.moments ≡ Some what → limit_in picture_limits b.moments ≡ Some what
 limit_kept a b what more some = rw more.1 (limit_grows a.moments more.0 what some)
 
 -- what ends a step ends the flow and the schedule
 pub flow_limited : (catalogue : Catalogue) (n count : ℕ) (run : Run) (what : Counted) → limit_in picture_limits run.moments ≡ Some what → limit_in picture_limits (flow catalogue n count run).moments ≡ Some what
-flow_limited catalogue n count run what some = limit_kept run (flow catalogue n count run) what (flow_grows catalogue n count run) some
+flow_limited catalogue n count run what some = limit_kept run (flow catalogue n count run) what (flow_keeps catalogue (Grows run) (grows_more catalogue run) n count run (grows_none run)) some
 
 pub run_limited : (catalogue : Catalogue) (n : ℕ) (events : List Event) (run : Run) (what : Counted) → limit_in picture_limits run.moments ≡ Some what → limit_in picture_limits (run_from catalogue n events run).moments ≡ Some what
-run_limited catalogue n events run what some = limit_kept run (run_from catalogue n events run) what (run_grows catalogue n events run) some
+run_limited catalogue n events run what some = limit_kept run (run_from catalogue n events run) what (run_keeps catalogue (Grows run) (grows_more catalogue run) n events run (grows_none run)) some

@@ -9,7 +9,7 @@ use Rattle.vp_model.specs.Limits.{exceeded, refused, world_limits}
 use Rattle.vp_model.specs.Site.{SiteState, Stepped}
 use Rattle.vp_model.specs.Step.{step}
 use Rattle.vp_model.specs.World.{WorldState, Moment, moment, next}
-use Rattle.vp_pictures.specs.Steps.{line_drawn}
+use Rattle.vp_pictures.specs.Steps.{draw_line}
 use Rattle.vp_pictures.specs.declared.sheet.Look.{Look}
 use Rattle.vp_pictures.specs.declared.sheet.Sheet.{Sheet}
 use Rattle.vp_world.specs.Asked.{Asked}
@@ -52,7 +52,7 @@ one_more : (steps : ℕ) → steps ≤ 2000 → steps ≢ 2000 → steps + 1 ≤
 one_more steps few room = omega (arith, few, room)
 
 pub drawn_same : (n : ℕ) (catalogue catalogue' : Catalogue) (line line' : Line) (looks looks' : List (ℕ × Look)) (joined joined' : Option View) (sheet : Sheet) → catalogue ≡ catalogue' → line ≡ line' → looks ≡ looks' → joined ≡ joined'
-    → line_drawn catalogue n line looks joined sheet ≡ line_drawn catalogue' n line' looks' joined' sheet
+    → draw_line catalogue n line looks joined sheet ≡ draw_line catalogue' n line' looks' joined' sheet
 drawn_same n catalogue catalogue' line line' looks looks' joined joined' sheet c l k j = rw (c, l, k, j) refl
 
 module _ (catalogue : Catalogue) (n : ℕ) (e : Event) (w : WorldState) (old : Drawing) (is : IsDrawing (record { catalogue = catalogue; world = w }) old) where
@@ -76,7 +76,7 @@ module _ (catalogue : Catalogue) (n : ℕ) (e : Event) (w : WorldState) (old : D
     world_ends A (world_end.Limit what limit) new h = limits_nest (next catalogue e w).world.steps (length (next catalogue e w).world.sent) what few_steps h.0
 
     -- the step is done and drawn, and there may be too many messages now
-    pub step_ends : (new : Drawing) → new.steps ≡ old.steps + 1 → new.watch.catalogue ≡ catalogue → new.watch.looks ≡ looks_of (next catalogue e w).world → new.sheet ≡ line_drawn catalogue n now.line (looks_of (next catalogue e w).world) (joined_in now) old.sheet
+    pub step_ends : (new : Drawing) → new.steps ≡ old.steps + 1 → new.watch.catalogue ≡ catalogue → new.watch.looks ≡ looks_of (next catalogue e w).world → new.sheet ≡ draw_line catalogue n now.line (looks_of (next catalogue e w).world) (joined_in now) old.sheet
         → (known : Known) → known ≡ record { catalogue = catalogue; world = (next catalogue e w).world } → (result : Result Known DrawingEnd) → WithinMessages known result → DrawsMoment catalogue now result old new
     step_ends new steps same looks sheet known k (Ok kept) within =
         let few : length (next catalogue e w).world.sent ≤ 20000 = rw k at within.1 in

@@ -10,7 +10,7 @@ use Rattle.vp_pictures.specs.declared.sheet.Sheet.{Sheet}
 use Rattle.vp_world.specs.Known.{Known}
 use Rattle.vp_drawing.specs.Limits.{picture_limits}
 use Rattle.vp_drawing.specs.Looks.{looks_of}
-use Rattle.vp_drawing.specs.Moments.{moment_drawn, moments_drawn, sheet_of}
+use Rattle.vp_drawing.specs.Moments.{draw_moment, draw_moments, sheet_of}
 use Rattle.vp_drawing.specs.declared.drawing.Drawing.{Drawing}
 use Rattle.vp_drawing.specs.declared.end.DrawingEnd.{DrawingEnd}
 use Rattle.vp_drawing.specs.declared.end.DrawingEnd.TheVariants as end
@@ -30,7 +30,7 @@ DrawsMoment catalogue m (Ok known) old new =
     (exceeded picture_limits m.after ≡ None)
     × (known ≡ record { catalogue = catalogue; world = m.after })
     × IsDrawing known new
-    × (new.sheet ≡ moment_drawn catalogue m old.sheet)
+    × (new.sheet ≡ draw_moment catalogue m old.sheet)
 DrawsMoment catalogue m (Err (end.Limit what)) old new = exceeded picture_limits m.after ≡ Some what
 DrawsMoment catalogue m (Err end.NoMemory) old new = ⊤
 
@@ -47,7 +47,7 @@ pub record IsSoFar (catalogue : Catalogue) (run : Run) (base : Sheet) (known : K
   pub known_is : known ≡ record { catalogue = catalogue; world = run.world }
   pub within : list_any (is_over picture_limits) run.moments ≡ false
   pub is : IsDrawing known d
-  pub sheet_is : d.sheet ≡ moments_drawn catalogue run.moments base
+  pub sheet_is : d.sheet ≡ draw_moments catalogue run.moments base
 
 -- The whole run is drawn, or it exceeds a limit.
 abbrev pub Draws : Catalogue → Run → Sheet → Result Known DrawingEnd → Drawing → Type 0

@@ -6,4 +6,6 @@ pub mod Drawings
 pub mod Answers
 pub mod Words
 pub mod Ends
+pub mod Rows
 pub mod Claims
+pub mod Worked

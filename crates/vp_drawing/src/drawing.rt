@@ -105,15 +105,15 @@ pub fn draw_schedule(schedule: &Schedule, part: Part) -> Result<Sheet, DrawingEn
     requires { IsSchedule schedule.now }
     ensures { DrawsSchedule schedule.now part result }
 {
-    draw_events(&schedule.catalog, schedule.events.as_slice(), &part)
+    draw_events(&schedule.catalog, schedule.events.as_slice(), part)
 }
 
 /// Plays the events in a new world, and draws the part of them.
-fn draw_events(catalog: &Catalog, events: &[Event], part: &Part) -> Result<Sheet, DrawingEnd>
+fn draw_events(catalog: &Catalog, events: &[Event], part: Part) -> Result<Sheet, DrawingEnd>
     requires { length events.now ≤ 100000 }
-    ensures { DrawsSchedule (record { catalogue = catalog.now; events = events.now }) part.now result }
+    ensures { DrawsSchedule (record { catalogue = catalog.now; events = events.now }) part result }
 {
-    let mut drawing = Drawing::begin(catalog.copy_of()?, *part)?;
+    let mut drawing = Drawing::begin(catalog.copy_of()?, part)?;
     let mut world = World::new(catalog.copy_of()?)?;
     let mut number = 0;
     for event in events {

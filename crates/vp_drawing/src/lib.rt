@@ -9,5 +9,8 @@ mod program;
 mod watch;
 mod words;
 
-pub use claims::outcomes_are_drawn;
+pub use claims::{
+    a_picture_is_worked, arrows_are_drawn, bars_are_drawn, outcomes_are_drawn, shapes_are_written,
+    stubs_are_drawn, texts_are_apart,
+};
 pub use program::run;

@@ -1,6 +1,6 @@
 -- The SVG of a sheet.
 use Rattle.std.specs.Prelude.{ℕ, ◌+◌, ◌==◌, ◌||◌, not, if◌then◌else◌, List, [], ◌++◌, Option, Some, None, codes}
-use Rattle.std.specs.List.{flat_map}
+use Rattle.std.specs.List.{filter_map, flat_map}
 use Rattle.std.specs.Option.{option_map_or}
 use Rattle.vp_model.specs.Words.{has}
 use Rattle.vp_model.specs.Catalogue.{Catalogue}
@@ -26,6 +26,10 @@ stub_of catalogue came m = if not m.is_drawn || has came m.number then None else
 
 abbrev pub stub_text : Catalogue → List ℕ → Mark → List ℕ
 stub_text catalogue came m = option_map_or shape_text (stub_of catalogue came m) []
+
+-- the shapes of a picture: the bars below, then the arrows and the stubs, and the texts on top
+abbrev pub shapes_of : Catalogue → Sheet → List Shape
+shapes_of catalogue s = s.bars ++ (s.arrows ++ (filter_map (stub_of catalogue s.came) s.marks ++ s.texts))
 
 -- as wide as its texts, as high as its lines
 unfoldable pub size_text : Sheet → List ℕ

@@ -20,6 +20,7 @@ use Rattle.vp_pictures.specs.declared.shape.Shape.{Shape}
 use Rattle.vp_pictures.specs.declared.shape.Shape.TheVariants as shape
 use Rattle.vp_pictures.specs.declared.sheet.Look.{Look}
 use Rattle.vp_pictures.specs.declared.sheet.Mark.{Mark}
+use Rattle.vp_pictures.specs.declared.sheet.Part.{Part}
 use Rattle.vp_pictures.specs.declared.sheet.Sheet.{Sheet}
 
 -- ---- its shapes
@@ -62,13 +63,17 @@ arrow_of catalogue kind m line =
     shape.Line kind (edge from to) (top m.line + 9) (edge to from) (top line + 9)
 
 -- the arrow of a delivery on this line, if its sending or its end is drawn
-abbrev pub delivery : Catalogue → Bool → Shown → ℕ → Option Mark → Option Shape
-delivery catalogue is_drawn what line None = None
-delivery catalogue is_drawn what line (Some m) = if m.is_drawn || is_drawn then Some (arrow_of catalogue (arrow_kind what) m line) else None
+abbrev pub delivery : Catalogue → Bool → Shown → ℕ → Mark → Option Shape
+delivery catalogue is_drawn what line m = if m.is_drawn || is_drawn then Some (arrow_of catalogue (arrow_kind what) m line) else None
+
+-- a message that was sent before comes or is lost; else there is no arrow
+abbrev pub with_delivery : Catalogue → Bool → ℕ → Shown → Option Mark → Sheet → Sheet
+with_delivery catalogue is_drawn k what None s = s
+with_delivery catalogue is_drawn k what (Some m) s =
+    record s { came = s.came ++ k ∷ []; arrows = s.arrows ++ option_to_list (delivery catalogue is_drawn what s.lines m) }
 
 abbrev pub with_arrow : Catalogue → Bool → Event → Shown → Sheet → Sheet
-with_arrow catalogue is_drawn (event.Deliver k) what s =
-    record s { came = s.came ++ k ∷ []; arrows = s.arrows ++ option_to_list (delivery catalogue is_drawn what s.lines (mark_at s k)) }
+with_arrow catalogue is_drawn (event.Deliver k) what s = with_delivery catalogue is_drawn k what (mark_at s k) s
 with_arrow catalogue is_drawn _ what s = s
 
 -- ---- its texts
@@ -96,11 +101,11 @@ words_of_event (event.Deliver k) s = option_map_or (λ (m : Mark). arrival_words
 words_of_event e s = event_text e
 
 -- an event, with the number of its line at the left
-unfoldable pub said_event : ℕ → ℕ → Event → Sheet → Sheet
-said_event x number e s = add_text_line x ink.Event (words_of_event e s) (add_text 4 ink.Faint (decimal number) s)
+unfoldable pub say_event : ℕ → ℕ → Event → Sheet → Sheet
+say_event x number e s = add_text_line x ink.Event (words_of_event e s) (add_text 4 ink.Faint (decimal number) s)
 
-abbrev pub said_commit : ℕ → Commit → Sheet → Sheet
-said_commit x commit s = add_text_line x ink.Commit (commit_words commit) s
+abbrev pub say_commit : ℕ → Commit → Sheet → Sheet
+say_commit x commit s = add_text_line x ink.Commit (commit_words commit) s
 
 -- the next message that is sent
 abbrev pub with_mark : Catalogue → Bool → ℕ → Sent → Sheet → Sheet
@@ -119,32 +124,32 @@ with_mark catalogue is_drawn line sent s =
           ∷ [];
     }
 
-abbrev pub said_message : Catalogue → ℕ → Sent → Sheet → Sheet
-said_message catalogue x sent s =
+abbrev pub say_message : Catalogue → ℕ → Sent → Sheet → Sheet
+say_message catalogue x sent s =
     with_mark catalogue true s.lines sent (add_text_line (x + 22) ink.Message (sent_words (length s.marks + 1) sent.to (message_text catalogue sent.message)) s)
 
-abbrev pub said_reply : ℕ → Reply → Sheet → Sheet
-said_reply x reply s = add_text_line x (if refuses reply.answer then ink.Refusal else ink.Reply) (answer_text reply.answer) s
+abbrev pub say_reply : ℕ → Reply → Sheet → Sheet
+say_reply x reply s = add_text_line x (if refuses reply.answer then ink.Refusal else ink.Reply) (answer_text reply.answer) s
 
 -- a life that begins is written as a view is, and what did nothing in a colour of its own
 abbrev pub idle_kind : Shown → Ink
 idle_kind (shown.Life life) = ink.View
 idle_kind _ = ink.Idle
 
-abbrev pub said_idle : ℕ → Shown → Sheet → Sheet
-said_idle x what s = add_text_line x (idle_kind what) (idle_words what) s
+abbrev pub say_idle : ℕ → Shown → Sheet → Sheet
+say_idle x what s = add_text_line x (idle_kind what) (idle_words what) s
 
 -- the effects of the step: its commits, its messages and its replies; or why it did nothing
-unfoldable pub said_shown : Catalogue → ℕ → Shown → Sheet → Sheet
-said_shown catalogue x (shown.Step commits first messages replies) s =
-    s |> for_each commits (said_commit x) |> for_each messages (said_message catalogue x) |> for_each replies (said_reply x)
-said_shown catalogue x shown.Nothing s = s
-said_shown catalogue x what s = said_idle x what s
+unfoldable pub say_shown : Catalogue → ℕ → Shown → Sheet → Sheet
+say_shown catalogue x (shown.Step commits first messages replies) s =
+    s |> for_each commits (say_commit x) |> for_each messages (say_message catalogue x) |> for_each replies (say_reply x)
+say_shown catalogue x shown.Nothing s = s
+say_shown catalogue x what s = say_idle x what s
 
 -- the view that the site of the step holds from here on
-unfoldable pub said_view : Catalogue → ℕ → Option View → Sheet → Sheet
-said_view catalogue x None s = s
-said_view catalogue x (Some view) s = add_text_line x ink.View (view_words catalogue view) s
+unfoldable pub say_view : Catalogue → ℕ → Option View → Sheet → Sheet
+say_view catalogue x None s = s
+say_view catalogue x (Some view) s = add_text_line x ink.View (view_words catalogue view) s
 
 -- ---- the step
 
@@ -168,28 +173,28 @@ abbrev pub with_cut : Option Shape → Sheet → Sheet
 with_cut cut s = record s { arrows = s.arrows ++ option_to_list cut }
 
 -- a step that is drawn: each site as it is after it, from its first line to its last one
-unfoldable pub step_drawn : Catalogue → ℕ → Line → List (ℕ × Look) → Option View → Sheet → Sheet
-step_drawn catalogue number line looks joined s =
+unfoldable pub draw_step : Catalogue → ℕ → Line → List (ℕ × Look) → Option View → Sheet → Sheet
+draw_step catalogue number line looks joined s =
     let x = event_x catalogue line.event s in
     s
     |> with_cut (cut_of catalogue (top s.lines + 18) line.event)
-    |> said_event x number line.event
-    |> said_shown catalogue x line.shown
-    |> said_view catalogue x joined
+    |> say_event x number line.event
+    |> say_shown catalogue x line.shown
+    |> say_view catalogue x joined
     |> with_looks catalogue (top s.lines) looks
 
 -- a step that isn't drawn: its messages may come later
-abbrev pub hidden_message : Catalogue → Sent → Sheet → Sheet
-hidden_message catalogue sent s = with_mark catalogue false s.lines sent s
+abbrev pub hide_message : Catalogue → Sent → Sheet → Sheet
+hide_message catalogue sent s = with_mark catalogue false s.lines sent s
 
 abbrev pub hide_messages : Catalogue → Shown → Sheet → Sheet
-hide_messages catalogue (shown.Step commits first messages replies) s = for_each messages (hidden_message catalogue) s
+hide_messages catalogue (shown.Step commits first messages replies) s = for_each messages (hide_message catalogue) s
 hide_messages catalogue _ s = s
 
-abbrev pub is_drawn : Sheet → ℕ → Bool
-is_drawn s number = nat_le s.part.from number && nat_le number s.part.to
+abbrev pub is_drawn : Part → ℕ → Bool
+is_drawn part number = nat_le part.from number && nat_le number part.to
 
-unfoldable pub line_drawn : Catalogue → ℕ → Line → List (ℕ × Look) → Option View → Sheet → Sheet
-line_drawn catalogue number line looks joined s =
-    let arrived = with_arrow catalogue (is_drawn s number) line.event line.shown s in
-    if is_drawn s number then step_drawn catalogue number line looks joined arrived else hide_messages catalogue line.shown arrived
+unfoldable pub draw_line : Catalogue → ℕ → Line → List (ℕ × Look) → Option View → Sheet → Sheet
+draw_line catalogue number line looks joined s =
+    let arrived = with_arrow catalogue (is_drawn s.part number) line.event line.shown s in
+    if is_drawn s.part number then draw_step catalogue number line looks joined arrived else hide_messages catalogue line.shown arrived

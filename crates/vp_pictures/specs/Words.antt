@@ -49,7 +49,7 @@ view_words catalogue view =
 
 -- what the bars and the stubs of a picture are
 abbrev pub legend : List ℕ
-legend = codes "bar: the view that is held; thin bar: a copy locked for its refresh; stub: a message that never comes"
+legend = codes "bar: the view held; thin, purple bar: a copy locked for its refresh; stub: a message that never comes"
 
 -- a site's copy of a record, with its weight
 abbrev pub weight_words : RecordEntry → ℕ → List ℕ

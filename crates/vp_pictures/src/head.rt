@@ -101,7 +101,7 @@ impl Sheet {
     {
         let text = copied(
             self.texts.allocator(),
-            b"bar: the view that is held; thin bar: a copy locked for its refresh; stub: a message that never comes",
+            b"bar: the view held; thin, purple bar: a copy locked for its refresh; stub: a message that never comes",
         )?;
         self.say(56, Ink::Faint, text)
     }

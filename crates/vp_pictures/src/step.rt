@@ -4,7 +4,7 @@ ghost use Rattle.std.specs.Prelude.{◌≡◌, ◌≤◌, ◌^◌, ◌<◌, Bool
 ghost use Rattle.vp_model.specs.Words.{for_each};
 ghost use Rattle.vp_pictures.specs.Sheets.{mark_at};
 ghost use Rattle.vp_pictures.specs.Places.{top};
-ghost use Rattle.vp_pictures.specs.Steps.{arrow_kind, arrow_of, bar_of, colour, cut_of, delivery, line_drawn, event_x, hide_messages, hidden_message, idle_kind, is_drawn, life_of, lock_of, refuses, said_commit, said_event, said_idle, said_message, said_reply, said_shown, said_view, step_drawn, with_arrow, with_lock, with_look, words_of_event};
+ghost use Rattle.vp_pictures.specs.Steps.{arrow_kind, arrow_of, bar_of, colour, cut_of, delivery, draw_line, event_x, hide_messages, hide_message, idle_kind, is_drawn, life_of, lock_of, refuses, say_commit, say_event, say_idle, say_message, say_reply, say_shown, say_view, draw_step, with_arrow, with_lock, with_look, words_of_event};
 
 use crate::places::{column, edge, top};
 use crate::shape::{Ink, Shape};
@@ -160,14 +160,14 @@ impl Sheet {
 
     /// Whether the event with this number is in the part that is drawn.
     fn is_drawn(&self, number: u32) -> bool
-        ensures { result ≡ is_drawn self.now number }
+        ensures { result ≡ is_drawn self.now.part number }
     {
         self.part.from <= number && number <= self.part.to
     }
 
     /// Draws a step: the number of its event line, its line, how each site is after it, and the view that its site joins by it. Of a step
     /// outside the part that is drawn only the messages are kept.
-    #[tactic(auto, unfolding(crate::specs::Steps::line_drawn))]
+    #[tactic(auto, unfolding(crate::specs::Steps::draw_line))]
     pub fn draw(
         &mut self,
         catalog: &Catalog,
@@ -176,7 +176,7 @@ impl Sheet {
         looks: &[(SiteId, Look)],
         joined: &Option<View>,
     ) -> Result<(), NoMemory>
-        ensures { OnOk result (self.new ≡ line_drawn catalog.now number line.now looks.now joined.now self.old) }
+        ensures { OnOk result (self.new ≡ draw_line catalog.now number line.now looks.now joined.now self.old) }
     {
         let is_drawn = self.is_drawn(number);
         self.draw_delivery(catalog, is_drawn, line)?;
@@ -187,7 +187,7 @@ impl Sheet {
         }
     }
 
-    /// Draws the arrow of a delivery, or says what is in its way.
+    /// Draws the arrow of a delivery, if its message was sent before.
     fn draw_delivery(
         &mut self,
         catalog: &Catalog,
@@ -200,22 +200,28 @@ impl Sheet {
         let Event::Deliver { k } = &line.event else {
             return Ok(());
         };
-        let arrow = self.arrow(catalog, is_drawn, *k, &line.shown);
+        let Some(mark) = self.mark(*k) else {
+            return Ok(());
+        };
+        let arrow = self.delivery(catalog, is_drawn, &line.shown, mark);
         self.came.push(u64::from(*k))?;
         self.draw_arrow(arrow)
     }
 
-    /// The arrow of a delivery, if its sending or its end is drawn.
-    fn arrow(&self, catalog: &Catalog, is_drawn: bool, k: u32, shown: &Shown) -> Option<Shape>
-        ensures { result ≡ delivery catalog.now is_drawn shown.now self.now.lines (mark_at self.now k) }
+    /// The arrow of a delivery on this line, if its sending or its end is drawn.
+    fn delivery(
+        &self,
+        catalog: &Catalog,
+        is_drawn: bool,
+        shown: &Shown,
+        mark: &Mark,
+    ) -> Option<Shape>
+        ensures { result ≡ delivery catalog.now is_drawn shown.now self.now.lines mark.now }
     {
-        match self.mark(k) {
-            None => None,
-            Some(mark) => if mark.is_drawn || is_drawn {
-                Some(arrow_of(catalog, arrow_kind(shown), mark, self.lines))
-            } else {
-                None
-            },
+        if mark.is_drawn || is_drawn {
+            Some(arrow_of(catalog, arrow_kind(shown), mark, self.lines))
+        } else {
+            None
         }
     }
 
@@ -233,7 +239,7 @@ impl Sheet {
     }
 
     fn hide_message(&mut self, catalog: &Catalog, sent: &Sent) -> Result<(), NoMemory>
-        ensures { OnOk result (self.new ≡ hidden_message catalog.now sent.now self.old) }
+        ensures { OnOk result (self.new ≡ hide_message catalog.now sent.now self.old) }
     {
         let text = message_words(self.alloc(), catalog, &sent.message)?;
         let number = self.marks.as_slice().len() as u64 + 1;
@@ -248,7 +254,7 @@ impl Sheet {
         })
     }
 
-    #[tactic(auto, unfolding(crate::specs::Steps::step_drawn))]
+    #[tactic(auto, unfolding(crate::specs::Steps::draw_step))]
     fn draw_step(
         &mut self,
         catalog: &Catalog,
@@ -257,7 +263,7 @@ impl Sheet {
         looks: &[(SiteId, Look)],
         joined: &Option<View>,
     ) -> Result<(), NoMemory>
-        ensures { OnOk result (self.new ≡ step_drawn catalog.now number line.now looks.now joined.now self.old) }
+        ensures { OnOk result (self.new ≡ draw_step catalog.now number line.now looks.now joined.now self.old) }
     {
         let y = top(self.lines);
         let x = self.event_x(catalog, &line.event);
@@ -280,10 +286,10 @@ impl Sheet {
     }
 
     /// Writes an event, and the number of its line at the left; a delivery is written as the message that comes.
-    #[tactic(auto, unfolding(crate::specs::Steps::said_event))]
+    #[tactic(auto, unfolding(crate::specs::Steps::say_event))]
     fn say_event(&mut self, x: u64, number: u32, event: &Event) -> Result<(), NoMemory>
         requires { x ≤ 4300 }
-        ensures { OnOk result (self.new ≡ said_event x number event.now self.old) }
+        ensures { OnOk result (self.new ≡ say_event x number event.now self.old) }
     {
         let count = numbered(self.alloc(), b"", u64::from(number))?;
         let text = self.words_of_event(event)?;
@@ -303,10 +309,10 @@ impl Sheet {
         }
     }
 
-    #[tactic(auto, unfolding(crate::specs::Steps::said_shown))]
+    #[tactic(auto, unfolding(crate::specs::Steps::say_shown))]
     fn say_shown(&mut self, catalog: &Catalog, x: u64, shown: &Shown) -> Result<(), NoMemory>
         requires { x ≤ 4300 }
-        ensures { OnOk result (self.new ≡ said_shown catalog.now x shown.now self.old) }
+        ensures { OnOk result (self.new ≡ say_shown catalog.now x shown.now self.old) }
     {
         match shown {
             Shown::Step {
@@ -326,7 +332,7 @@ impl Sheet {
 
     fn say_idle(&mut self, x: u64, shown: &Shown) -> Result<(), NoMemory>
         requires { x ≤ 4300 }
-        ensures { OnOk result (self.new ≡ said_idle x shown.now self.old) }
+        ensures { OnOk result (self.new ≡ say_idle x shown.now self.old) }
     {
         let text = idle_words(self.alloc(), shown)?;
         self.say(x, idle_kind(shown), text)
@@ -334,7 +340,7 @@ impl Sheet {
 
     fn say_commits(&mut self, x: u64, commits: &[Commit]) -> Result<(), NoMemory>
         requires { x ≤ 4300 }
-        ensures { OnOk result (self.new ≡ for_each commits.now (said_commit x) self.old) }
+        ensures { OnOk result (self.new ≡ for_each commits.now (say_commit x) self.old) }
     {
         for commit in commits {
             self.say_commit(x, commit)?;
@@ -344,7 +350,7 @@ impl Sheet {
 
     fn say_commit(&mut self, x: u64, commit: &Commit) -> Result<(), NoMemory>
         requires { x ≤ 4300 }
-        ensures { OnOk result (self.new ≡ said_commit x commit.now self.old) }
+        ensures { OnOk result (self.new ≡ say_commit x commit.now self.old) }
     {
         let text = commit_words(self.alloc(), commit)?;
         self.say(x, Ink::Commit, text)
@@ -352,7 +358,7 @@ impl Sheet {
 
     fn say_messages(&mut self, catalog: &Catalog, x: u64, messages: &[Sent]) -> Result<(), NoMemory>
         requires { x ≤ 4300 }
-        ensures { OnOk result (self.new ≡ for_each messages.now (said_message catalog.now x) self.old) }
+        ensures { OnOk result (self.new ≡ for_each messages.now (say_message catalog.now x) self.old) }
     {
         for sent in messages {
             self.say_message(catalog, x, sent)?;
@@ -363,7 +369,7 @@ impl Sheet {
     /// Writes a message where it is sent, from where its arrows or its stub begin.
     fn say_message(&mut self, catalog: &Catalog, x: u64, sent: &Sent) -> Result<(), NoMemory>
         requires { x ≤ 4300 }
-        ensures { OnOk result (self.new ≡ said_message catalog.now x sent.now self.old) }
+        ensures { OnOk result (self.new ≡ say_message catalog.now x sent.now self.old) }
     {
         let text = message_words(self.alloc(), catalog, &sent.message)?;
         let number = self.marks.as_slice().len() as u64 + 1;
@@ -382,7 +388,7 @@ impl Sheet {
 
     fn say_replies(&mut self, x: u64, replies: &[Reply]) -> Result<(), NoMemory>
         requires { x ≤ 4300 }
-        ensures { OnOk result (self.new ≡ for_each replies.now (said_reply x) self.old) }
+        ensures { OnOk result (self.new ≡ for_each replies.now (say_reply x) self.old) }
     {
         for reply in replies {
             self.say_reply(x, reply)?;
@@ -392,7 +398,7 @@ impl Sheet {
 
     fn say_reply(&mut self, x: u64, reply: &Reply) -> Result<(), NoMemory>
         requires { x ≤ 4300 }
-        ensures { OnOk result (self.new ≡ said_reply x reply.now self.old) }
+        ensures { OnOk result (self.new ≡ say_reply x reply.now self.old) }
     {
         let text = answer_words(self.alloc(), &reply.answer)?;
         let ink = if refuses(&reply.answer) {
@@ -404,10 +410,10 @@ impl Sheet {
     }
 
     /// Writes the view that a site holds from here on.
-    #[tactic(auto, unfolding(crate::specs::Steps::said_view))]
+    #[tactic(auto, unfolding(crate::specs::Steps::say_view))]
     fn say_view(&mut self, catalog: &Catalog, x: u64, joined: &Option<View>) -> Result<(), NoMemory>
         requires { x ≤ 4300 }
-        ensures { OnOk result (self.new ≡ said_view catalog.now x joined.now self.old) }
+        ensures { OnOk result (self.new ≡ say_view catalog.now x joined.now self.old) }
     {
         match joined {
             None => Ok(()),

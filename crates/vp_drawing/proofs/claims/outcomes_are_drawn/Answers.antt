@@ -1,4 +1,4 @@
-use Rattle.vp_drawing.proofs.Outcomes.{outcomes}
+use Rattle.vp_drawing.proofs.Whole.{outcomes}
 use Rattle.vp_drawing.proofs.claims.outcomes_are_drawn.Goals as goal
 
 pub returns : goal.returns

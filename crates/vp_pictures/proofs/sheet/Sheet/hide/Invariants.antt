@@ -1,7 +1,7 @@
 use Rattle.std.proofs.Common.{◌≡◌, take}
 use Rattle.vp_model.specs.Words.{for_each}
-use Rattle.vp_pictures.specs.Steps.{hidden_message}
+use Rattle.vp_pictures.specs.Steps.{hide_message}
 use Rattle.vp_pictures.proofs.sheet.Sheet.hide.Given as goal
 
 abbrev pub invariant-loop-sent : goal.invariant-loop-sent
-invariant-loop-sent l = l.self ≡ for_each (take l.sent-index l.sent-items) (hidden_message l.catalog) l.initial.self
+invariant-loop-sent l = l.self ≡ for_each (take l.sent-index l.sent-items) (hide_message l.catalog) l.initial.self
