@@ -73,3 +73,26 @@ fn a_turn_with_other_datagrams_differs(rt: HostRuntime) {
     };
     assert!(rt; is_refused(rt.alloc(), ONE, without_answer, why));
 }
+
+/// The turns of these recordings take frames of version 1, and what they have given is in version 2.
+#[test]
+fn frames_of_both_versions_are_taken(rt: HostRuntime) {
+    let call =
+        b"node 1\nstart 1\nin 560120000101\nout 560221010001010000000100000001000000000000000000\nend\n";
+    assert!(rt; gives(rt.alloc(), ONE, call, b"events\ncall 1 begin\n"));
+    let probe =
+        b"node 2\nstart 1\nin 5601110102000000000000000000\nend\nnode 1\nstart 1\nin 5601230001\nout 5602110102000000000000000000\nend\n";
+    assert!(rt; gives(rt.alloc(), TWO, probe, b"events\nprobe 1\ndeliver 1\n"));
+}
+
+/// A datagram of version 1 is none that a step gives.
+#[test]
+fn an_answer_of_version_1_differs(rt: HostRuntime) {
+    let answered =
+        b"node 1\nstart 1\nin 560220000101\nout 560121010001010000000100000001000000000000000000\nend\n";
+    let why = MergeFault::Differs {
+        site: SiteId::of(1),
+        turn: 1,
+    };
+    assert!(rt; is_refused(rt.alloc(), ONE, answered, why));
+}
