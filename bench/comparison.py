@@ -107,7 +107,7 @@ def compare_pieces(program, rounds, right, what, head=()):
 
 def run(program, command, text):
     """The exit status and the standard output of one run of a program, which may have words before its command."""
-    done = subprocess.run([*shlex.split(program), command], input=text, capture_output=True, timeout=60)
+    done = subprocess.run([*shlex.split(program), command], input=text, capture_output=True, timeout=600)
     return done.returncode, done.stdout
 
 
