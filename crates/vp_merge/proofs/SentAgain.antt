@@ -1,7 +1,7 @@
 -- Recorded frames as nodes send them.
-use Rattle.std.proofs.Common.{◌≡◌, ◌∙◌, ap, sym, subst, ℕ, ◌≤◌, false, List, Result, Ok, Err, refl, arith}
+use Rattle.std.proofs.Common.{◌≡◌, ◌≢◌, ◌∙◌, ap, sym, subst, ℕ, ◌≤◌, false, List, Result, Ok, Err, refl, arith}
 use Rattle.std.specs.Prelude.{Some, ◌==◌}
-use Rattle.std.proofs.lemmas.Bool.Decides.{nat_tests}
+use Rattle.std.proofs.lemmas.Bool.{false≢true}
 use Rattle.vp_text.specs.Meaning.{Answers}
 use Rattle.vp_contents.specs.Versions.{version_of}
 use Rattle.vp_wire.specs.declared.frame.Frame.{Frame}
@@ -16,18 +16,21 @@ use Rattle.vp_merge.specs.SentFrames.{is_read_only}
 pub sent_form : (f : Frame) → IsFrame f → IsFrame (frame_of f.from f.to f.body)
 sent_form f h = (omega arith, omega arith, body_later (version_of f.version) f.from f.to f.body h.2)
 
+not_one : (v : ℕ) → (v == 1) ≡ false → v ≢ 1
+not_one v no is = false≢true (sym no ∙ ap (λ (n : ℕ). n == 1) is)
+
+second_of : (v : ℕ) → 1 ≤ v → v ≤ 2 → (v == 1) ≡ false → v ≡ 2
+second_of v least most no = let other = not_one v no in omega (arith, least, most, other)
+
 -- bytes of no such version are sent as they are
 pub stays : (bytes : List ℕ) → is_read_only bytes ≡ false → as_sent bytes ≡ bytes
 unfolding as_sent
 stays bytes e = go (read_frame bytes) (bytes_are_read bytes)
   where
-    two : (v : ℕ) → 1 ≤ v → v ≤ 2 → (v == 1) ≡ false → v ≡ 2
-    two v least most no = grind (arith, nat_tests, least, most, no)
-
     go : (read : Result Frame ℕ) → Answers IsSpelling (λ (f : Frame). f) (λ (at : ℕ). Some at) bytes read → sent_again read bytes ≡ bytes
     go (Ok f) a =
         let not_first : (f.version == 1) ≡ false = subst (λ (b : List ℕ). is_read_only b ≡ false) a.is e in
-        let second : f.version ≡ 2 = two f.version a.allowed.0 a.allowed.1 not_first in
+        let second : f.version ≡ 2 = second_of f.version a.allowed.0 a.allowed.1 not_first in
         ap (λ (v : ℕ). frame_bytes (frame_in v f.from f.to f.body)) (sym second) ∙ sym a.is
     go (Err at) a = refl
 
