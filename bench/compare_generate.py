@@ -49,7 +49,7 @@ def difference(program, reference, k):
 def main():
     program, seed, count, folder = arguments(300)
     reference = [os.path.join(reference_in(folder), "vporacle"), *version_words()]
-    with multiprocessing.Pool() as pool:
+    with multiprocessing.Pool(int(os.environ.get("JOBS", os.cpu_count()))) as pool:
         found = pool.starmap(difference, ((program, reference, k) for k in range(seed, seed + count)))
     bad = [words for words, _ in found if words]
     for words in bad:
