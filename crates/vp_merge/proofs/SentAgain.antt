@@ -17,10 +17,10 @@ pub sent_form : (f : Frame) → IsFrame f → IsFrame (frame_of f.from f.to f.bo
 sent_form f h = (omega arith, omega arith, body_later (version_of f.version) f.from f.to f.body h.2)
 
 not_one : (v : ℕ) → (v == 1) ≡ false → v ≢ 1
-not_one v no is = false≢true (sym no ∙ ap (λ (n : ℕ). n == 1) is)
+not_one v other is = false≢true (sym other ∙ ap (λ (n : ℕ). n == 1) is)
 
 second_of : (v : ℕ) → 1 ≤ v → v ≤ 2 → (v == 1) ≡ false → v ≡ 2
-second_of v least most no = let other = not_one v no in omega (arith, least, most, other)
+second_of v least most other = let differs = not_one v other in omega (arith, least, most, differs)
 
 -- bytes of no such version are sent as they are
 pub stays : (bytes : List ℕ) → is_read_only bytes ≡ false → as_sent bytes ≡ bytes

@@ -22,7 +22,7 @@ encode-requires c =
 pub returns-in_ok-encode-in-Ok : goal.returns-in_ok-encode-in-Ok
 returns-in_ok-encode-in-Ok c =
     let read : read_frame c.args.recorded.now ≡ Ok c.in-Ok.frame = subst (IsReadAs (read_frame c.args.recorded.now)) c.in-Ok.is (c.frames_are_read.ensures.answers c.args.recorded.now c.decode.result c.decode.ensures) in
-    c.encode.ensures.whole ∙ ap (λ (before : List ℕ). before ++ frame_bytes c.of.result) c.new-bytes.ensures.items ∙ ap frame_bytes c.of.ensures ∙ sym (later c.args.recorded.now c.in-Ok.frame read)
+    c.in_ok-encode-in-Ok.ensures.whole ∙ ap (λ (before : List ℕ). before ++ frame_bytes c.of.result) c.new-bytes.ensures.items ∙ ap frame_bytes c.of.ensures ∙ sym (later c.args.recorded.now c.in-Ok.frame read)
 
 pub returns-in-Err-BadFrame : goal.returns-in-Err-BadFrame
 returns-in-Err-BadFrame c =
