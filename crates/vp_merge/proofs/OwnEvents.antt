@@ -75,8 +75,8 @@ unfolding asks
 asked_call site recorded port words e = go (read_frame recorded) e
   where
     no_input : (here : Bool) (given : Input) → (given ≡ input.Call port words → ⊥) → cond here (Gives given) Stray ≡ Gives (input.Call port words) → ⊥
-    no_input true given no q = no (let same : given ≡ input.Call port words = cc in same)
-    no_input false given no q = cc
+    no_input true given never q = never (let same : given ≡ input.Call port words = cc in same)
+    no_input false given never q = cc
 
     no_reply : (here : Bool) → cond here Stray Stray ≡ Gives (input.Call port words) → ⊥
     no_reply true q = cc
