@@ -51,7 +51,7 @@ fn put_txns<B: BufMut>(out: &mut B, number: CallNo) -> Result<(), NoMemory> {
 fn put_lists<B: BufMut>(out: &mut B, name: &Name, value: &Value) -> Result<(), NoMemory> {
     put_counted(out, b"ab")?;
     put_name(out, name)?;
-    put_value(out, Version::First, value)?;
+    put_value(out, Version::Second, value)?;
     put_sites(out, &[])?;
     put_sites(out, &[SiteId::of(1), SiteId::of(16)])?;
     put_recs(out, &[RecId::new(0), RecId::new(255)])
@@ -73,7 +73,7 @@ fn put_fields<B: BufMut>(out: &mut B, alloc: Global) -> Result<(), NoMemory> {
 const FIELDS: &[u8] = b"\
     \x07\0\0\x01\x02\0\0\x01\0\0\0\0\x03\0\0\0\0\0\0\0\x01\x02\0\x01\0\0\0\0\0\0\0\x01\x02\
     \x03\0\0\0\x01\0\0\0\x02\0\x01\x03\0\0\0\x01\0\0\0\x02\x03\0\0\0\x01\0\0\0\x02\0\0\0\x09\x03\0\0\0\x01\0\0\0\x02\0\0\0\0\0\0\0\x01\x02\0\0\0\x09\
-    \x02ab\x03a_1\x0211\0\x02\x01\x10\x02\0\xff";
+    \x02ab\x03a_1\0\x0211\0\x02\x01\x10\x02\0\xff";
 
 #[test]
 fn fields_and_lists_have_their_bytes_in_each_buffer(rt: HostRuntime) {
@@ -179,11 +179,16 @@ fn reads_content(alloc: Global, cursor: &mut Cursor, text: Option<&[u8]>) -> boo
     }
 }
 
+/// Whether the site has the weight.
+fn is_share(share: &(SiteId, u16), site: u8, weight: u16) -> bool {
+    share.0.get() == site && share.1 == weight
+}
+
 /// Whether weights of two sites are next.
 fn reads_table(alloc: Global, cursor: &mut Cursor) -> bool {
     match read_table(alloc, cursor) {
         Ok(table) => match table.as_slice() {
-            [(one, 1), (two, 65535)] => one.get() == 1 && two.get() == 16,
+            [first, second] => is_share(first, 1, 1) && is_share(second, 16, 65535),
             _ => false,
         },
         Err(_fault) => false,
