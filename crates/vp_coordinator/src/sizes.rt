@@ -19,7 +19,7 @@ const MOST_TABLES: usize = 307;
 /// The length of a value; 0 of none.
 fn content_size(content: &Option<Value>) -> usize
     ensures size { result ≡ content_size content.now }
-    ensures most { result ≤ 64 }
+    ensures most { result ≤ 1024 }
 {
     match content {
         None => 0,

@@ -53,4 +53,4 @@ legend = codes "bar: the view held; thin, purple bar: a copy locked for its refr
 
 -- a site's copy of a record, with its weight
 abbrev pub weight_words : RecordEntry → ℕ → List ℕ
-weight_words entry weight = entry.name ++ (codes ": weight " ++ (decimal weight ++ (codes " of " ++ decimal (sum_by (λ (w : ℕ × ℕ). w.1) entry.weights))))
+weight_words entry weight = entry.name ++ (codes ": weight " ++ (decimal weight ++ (codes "/" ++ decimal (sum_by (λ (w : ℕ × ℕ). w.1) entry.weights))))

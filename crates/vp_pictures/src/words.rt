@@ -164,7 +164,7 @@ pub fn weight_words(alloc: Global, placed: &CatalogRecord, weight: u32) -> Resul
     placed.name().print(&mut text)?;
     text.extend_from_slice(b": weight ")?;
     print_number(&mut text, u64::from(weight))?;
-    text.extend_from_slice(b" of ")?;
+    text.extend_from_slice(b"/")?;
     print_number(&mut text, u64::from(placed.total()))?;
     Ok(Word::from_vec(text))
 }
