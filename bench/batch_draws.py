@@ -1,6 +1,6 @@
 """Random batches of log records, and damaged ones, out of the fields that the reference implementation's module `records` has."""
 from damage import damaged, with_list_disordered
-from frame_draws import VALUE_BYTES, Draws
+from frame_draws import Draws
 
 
 class BatchDraws(Draws):
@@ -19,7 +19,7 @@ class BatchDraws(Draws):
 
     def copy(self, rec, make):
         if make is self.records.Checkpoint:
-            return rec, self.word(64, VALUE_BYTES), self.view()
+            return rec, self.value_of_old(), self.view()
         return rec, self.content(), self.table_or_none(), self.view()
 
     def txns(self):

@@ -4,6 +4,7 @@ import multiprocessing
 import os
 import pathlib
 import random
+import shlex
 import subprocess
 import sys
 
@@ -13,8 +14,8 @@ REFERENCE = pathlib.Path(__file__).resolve().parent.parent.parent / "shared/orac
 
 # what the reference implementation speaks, if nothing else is said: its version and its stage
 SPOKEN = (2, "e1")
-# the most bytes of a value so far; the reference has up to 1,024 in version 2
-MOST_BYTES = 64
+# the most bytes of a value, and of one in the frames and the log records of the first version
+MOST_BYTES, MOST_BYTES_OF_OLD = 1024, 64
 
 
 def without_version(words):
@@ -26,6 +27,12 @@ def without_version(words):
     return words, spoken
 
 
+def version_words():
+    """The version and stage that the reference implementation speaks by this command line, as words before its command."""
+    number, stage = without_version(sys.argv[1:])[1]
+    return ["--stage", stage] if stage else ["--version", str(number)]
+
+
 def reference_in(folder):
     """The folder of the reference implementation. Where it isn't there, that is said, and the run ends with status 2."""
     if not pathlib.Path(folder).is_dir():
@@ -35,25 +42,29 @@ def reference_in(folder):
 
 
 def modules(folder, *names):
-    """Modules of the reference implementation, which speak the version that the command line says."""
+    """Modules of the reference implementation, which speak the version that the command line says.
+
+    At the stage `e1` it answers a `weigh` by a status of its own. The program has no such line so far, and at that stage the grammar here has none.
+    """
     sys.path.insert(0, str(reference_in(folder)))
-    importlib.import_module("version").choose(*without_version(sys.argv[1:])[1])
-    fields = importlib.import_module("fields")
-    fields.LONG_VALUE._length = fields.Number(2, 1, MOST_BYTES)
+    spoken = without_version(sys.argv[1:])[1]
+    importlib.import_module("version").choose(*spoken)
+    if spoken[1] == "e1":
+        importlib.import_module("schedule").table = lambda sites: importlib.import_module("grammar").NONE
     return [importlib.import_module(name) for name in names]
 
 
 def joined(pieces):
-    """The pieces of bytes, each after the count of its bytes in 16 bits."""
-    return b"".join(len(piece).to_bytes(2, "big") + piece for piece in pieces)
+    """The pieces of bytes, each after the count of its bytes in 32 bits."""
+    return b"".join(len(piece).to_bytes(4, "big") + piece for piece in pieces)
 
 
 def split(data):
     """The pieces that were joined."""
     pieces, place = [], 0
     while place < len(data):
-        end = place + 2 + int.from_bytes(data[place : place + 2], "big")
-        pieces.append(data[place + 2 : end])
+        end = place + 4 + int.from_bytes(data[place : place + 4], "big")
+        pieces.append(data[place + 4 : end])
         place = end
     return pieces
 
@@ -95,8 +106,8 @@ def compare_pieces(program, rounds, right, what, head=()):
 
 
 def run(program, command, text):
-    """The exit status and the standard output of one run of a program."""
-    done = subprocess.run([program, command], input=text, capture_output=True, timeout=60)
+    """The exit status and the standard output of one run of a program, which may have words before its command."""
+    done = subprocess.run([*shlex.split(program), command], input=text, capture_output=True, timeout=600)
     return done.returncode, done.stdout
 
 

@@ -1,7 +1,7 @@
 """Random frames of all kinds of both versions, and damaged ones, out of the fields that the reference implementation's module `wire` has."""
 import importlib
 
-from comparison import MOST_BYTES
+from comparison import MOST_BYTES, MOST_BYTES_OF_OLD
 from damage import damaged, with_list_disordered
 
 NUMBERS = {width: [1, 2, 16, 17, 255, 256, 2 ** (8 * width - 1), 2 ** (8 * width) - 2, 2 ** (8 * width) - 1] for width in (4, 8)}
@@ -18,10 +18,10 @@ class Draws:
         self.change, self.keep = base.Change, base.KEEP
         self.of = {
             wire.VIEW: self.view, wire.TXN: self.txn, wire.NUMBER: lambda: self.number(4), wire.REC: self.rec,
-            wire.NAME: lambda: self.word(16, NAME_BYTES), wire.VALUE: lambda: self.word(64, VALUE_BYTES),
+            wire.NAME: lambda: self.word(16, NAME_BYTES), wire.VALUE: self.value_of_old,
             wire.FLAG: lambda: draw.randrange(2) == 1, wire.SITE: self.site, wire.SITES: self.sites,
             wire.OPTIONAL_VIEW: lambda: self.view() if draw.randrange(2) else None, wire.OWNER: self.owner,
-            wire.RECS: self.recs, wire.WRITES: lambda: tuple((rec, self.change(self.word(64, VALUE_BYTES))) for rec in self.recs()),
+            wire.RECS: self.recs, wire.WRITES: lambda: tuple((rec, self.change(self.value_of_old())) for rec in self.recs()),
             wire.LONG_VALUE: self.value, wire.CONTENT: self.content, wire.TABLE: self.table, wire.OPTIONAL_TABLE: self.table_or_none,
             wire.CHANGES: lambda: tuple((rec, self.any_change()) for rec in self.recs()),
             wire.ANY_U32: lambda: self.number(4) if draw.randrange(4) else 0,
@@ -50,7 +50,10 @@ class Draws:
         return "".join(self.draw.choices(letters, k=self.draw.choice([1, most, self.draw.randint(1, most)])))
 
     def value(self):
-        return self.word(MOST_BYTES, VALUE_BYTES)
+        return self.word(self.draw.choice([MOST_BYTES, MOST_BYTES_OF_OLD]), VALUE_BYTES)
+
+    def value_of_old(self):
+        return self.word(MOST_BYTES_OF_OLD, VALUE_BYTES)
 
     def content(self):
         return self.value() if self.draw.randrange(3) else None
@@ -100,6 +103,16 @@ class Draws:
 
     def call(self, word, values):
         return self.wire.Call(word, *values[:3], table=values[3]) if word == "weigh" else self.wire.Call(word, *values)
+
+
+def spelled_as_old(wire, data):
+    """The frame with these bytes in the first version; as it is where that can't say it, as with a delete, no value or a long one, or where it is no frame."""
+    try:
+        old = wire.decode(data)._replace(version=1)
+        spelled = wire.encode(old)
+        return spelled if wire.decode(spelled) == old else data
+    except Exception:  # a field that the first version lacks, or none at all
+        return data
 
 
 def damaged_frame(wire, draw, frame, other):

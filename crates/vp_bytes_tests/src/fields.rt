@@ -10,7 +10,7 @@ use vp_bytes::{
     put_request, put_sites, put_txn, put_u32, put_u64, put_view, read_name, read_recs, read_sites,
 };
 use vp_contents::{
-    Version, put_content, put_table, put_value, read_content, read_table, read_value, read_writes,
+    Version, put_content, put_table, read_content, read_table, read_value, read_writes,
 };
 use vp_text::Cursor;
 
@@ -47,11 +47,10 @@ fn put_txns<B: BufMut>(out: &mut B, number: CallNo) -> Result<(), NoMemory> {
     put_request(out, &a_txn(), &a_view(), number)
 }
 
-/// Writes bytes, a name, a value, no sites, sites and records, each after its count.
-fn put_lists<B: BufMut>(out: &mut B, name: &Name, value: &Value) -> Result<(), NoMemory> {
+/// Writes bytes, a name, no sites, sites and records, each after its count.
+fn put_lists<B: BufMut>(out: &mut B, name: &Name) -> Result<(), NoMemory> {
     put_counted(out, b"ab")?;
     put_name(out, name)?;
-    put_value(out, Version::First, value)?;
     put_sites(out, &[])?;
     put_sites(out, &[SiteId::of(1), SiteId::of(16)])?;
     put_recs(out, &[RecId::new(0), RecId::new(255)])
@@ -64,16 +63,16 @@ fn put_fields<B: BufMut>(out: &mut B, alloc: Global) -> Result<(), NoMemory> {
     };
     put_numbers(out)?;
     put_txns(out, number)?;
-    let (Ok(name), Ok(value)) = (Name::read(alloc, b"a_1"), Value::read(alloc, b"11")) else {
+    let Ok(name) = Name::read(alloc, b"a_1") else {
         return Err(NoMemory);
     };
-    put_lists(out, &name, &value)
+    put_lists(out, &name)
 }
 
 const FIELDS: &[u8] = b"\
     \x07\0\0\x01\x02\0\0\x01\0\0\0\0\x03\0\0\0\0\0\0\0\x01\x02\0\x01\0\0\0\0\0\0\0\x01\x02\
     \x03\0\0\0\x01\0\0\0\x02\0\x01\x03\0\0\0\x01\0\0\0\x02\x03\0\0\0\x01\0\0\0\x02\0\0\0\x09\x03\0\0\0\x01\0\0\0\x02\0\0\0\0\0\0\0\x01\x02\0\0\0\x09\
-    \x02ab\x03a_1\x0211\0\x02\x01\x10\x02\0\xff";
+    \x02ab\x03a_1\0\x02\x01\x10\x02\0\xff";
 
 #[test]
 fn fields_and_lists_have_their_bytes_in_each_buffer(rt: HostRuntime) {
@@ -179,11 +178,16 @@ fn reads_content(alloc: Global, cursor: &mut Cursor, text: Option<&[u8]>) -> boo
     }
 }
 
+/// Whether the site has the weight.
+fn is_share(share: &(SiteId, u16), site: u8, weight: u16) -> bool {
+    share.0.get() == site && share.1 == weight
+}
+
 /// Whether weights of two sites are next.
 fn reads_table(alloc: Global, cursor: &mut Cursor) -> bool {
     match read_table(alloc, cursor) {
         Ok(table) => match table.as_slice() {
-            [(one, 1), (two, 65535)] => one.get() == 1 && two.get() == 16,
+            [first, second] => is_share(first, 1, 1) && is_share(second, 16, 65535),
             _ => false,
         },
         Err(_fault) => false,

@@ -85,6 +85,7 @@ pub fn ask<L: Link>(
 }
 
 /// Sends the frame of the call.
+#[tactic(auto, using(crate::proofs::Calls::call_is_framed))]
 fn send_call<L: Link>(
     alloc: Global,
     link: &mut L,

@@ -3,7 +3,6 @@ pub mod Operations
 pub mod Presence
 pub mod LastWrites
 pub mod HasChanged
-pub mod Sums
 pub mod Some
 pub mod Ascending
 pub mod Each

@@ -21,7 +21,7 @@ use Rattle.vp_fitting.proofs.Choices.{fewer_left}
 use Rattle.vp_merge.specs.Dues.{due_of, dues_left}
 use Rattle.vp_merge.specs.Lives.{Lives, StartsLives, Takes, TakesEvent}
 use Rattle.vp_merge.specs.Merging.{AreThere, IsMerging, TakesTurn, choice_at, left_of, state_of}
-use Rattle.vp_merge.specs.Numbers.{HasTurn, IsIndex}
+use Rattle.vp_merge.specs.Numbers.{HasTurn, IsIndex, as_sent}
 use Rattle.vp_merge.specs.SentFrames.{bytes_in}
 use Rattle.vp_merge.specs.Played.{IsPlayed, IsPut, done_at}
 use Rattle.vp_merge.specs.Telling.{bytes_of}
@@ -142,7 +142,7 @@ module _ (recordings : List Recording) (m : Merging) (h : IsMerging m.played.wor
 
       -- its event is one of a schedule
       pub event_put : IfSome (own_event m.numbers t.site (bytes_in n.frame) n.asked) (IsPut (sites_of catalogue))
-      event_put = event_is_put m.numbers m.played.world.world.sent h.index t.site (bytes_in n.frame) n.due.turn.now.frame is_next.frame its_frame (sites_of catalogue) site_listed h.played.few_sent n.asked is_next.form
+      event_put = event_is_put m.numbers m.played.world.world.sent h.index t.site (bytes_in n.frame) n.due.turn.now.frame is_next.frame its_frame (sites_of catalogue) site_listed h.played.few_sent n.asked (sym is_next.asked) is_next.form
 
       life_is : (left_of recordings tracks t.site).life ≡ t.life
       life_is = ap (λ (left : Left). left.life) (all_there (λ (t : Track). left_of recordings tracks t.site ≡ track_of t) tracks place t (left_fits recordings tracks apart) there)
@@ -215,12 +215,12 @@ module _ (recordings : List Recording) (m : Merging) (h : IsMerging m.played.wor
               (ap (λ (x : Played). x.world.world) (sym played_is)) (ap (λ (x : Played). x.events) (sym played_is)) (left_now ∙ ap (left_of recordings) (sym tracks_are))
 
           frames_kept : (x : Track) → AreThere m.numbers x → AreThere after x
-          frames_kept x = all_each (λ (d : Due). HasTurn m.numbers d.turn.frame) (λ (d : Due). HasFrame after d.turn.frame) (λ d there. takes.same d.turn.frame ∙ there) (track_of x).dues
+          frames_kept x = all_each (λ (d : Due). HasTurn m.numbers d.turn.frame) (λ (d : Due). HasTurn after d.turn.frame) (λ d there. takes.same (as_sent d.turn.frame) ∙ there) (track_of x).dues
 
           next_there : AreThere after next
           next_there =
-              subst (λ (left : Left). AllByRecursion (λ (d : Due). HasFrame after d.turn.frame) left.dues) (sym left)
-              (all_each (λ (d : Due). HasTurn m.numbers d.turn.frame) (λ (d : Due). HasFrame after d.turn.frame) (λ d there. takes.same d.turn.frame ∙ there) (dues_left t.rest)
+              subst (λ (left : Left). AllByRecursion (λ (d : Due). HasTurn after d.turn.frame) left.dues) (sym left)
+              (all_each (λ (d : Due). HasTurn m.numbers d.turn.frame) (λ (d : Due). HasTurn after d.turn.frame) (λ d there. takes.same (as_sent d.turn.frame) ∙ there) (dues_left t.rest)
               (rest_there t n n_is (all_there (AreThere m.numbers) tracks place t h.there there)))
 
           merging_now : IsMerging catalogue now

@@ -2,7 +2,7 @@
 
 ghost use Rattle.std.specs.Prelude.{◌≡◌, ℕ, List, IfOk};
 ghost use Rattle.vp_merge.specs.Numbers.{as_sent};
-ghost use Rattle.vp_merge.specs.SentFrames.{bytes_in};
+ghost use Rattle.vp_merge.specs.SentFrames.{bytes_in, is_read_only};
 
 use bytes::BytesMut;
 use std::alloc::Global;
@@ -21,12 +21,22 @@ pub enum SentFrame<'a> {
     Later { bytes: BytesMut },
 }
 
+/// Whether the bytes have that version.
+fn is_read_only(recorded: &[u8]) -> bool
+    ensures { result ≡ is_read_only recorded.now }
+{
+    match recorded.get(1) {
+        Some(version) => *version == READ_ONLY,
+        None => false,
+    }
+}
+
 impl<'a> SentFrame<'a> {
     /// Takes memory for a frame of the first version alone.
     pub fn of(alloc: Global, recorded: &'a [u8]) -> Result<SentFrame<'a>, NoMemory>
         ensures { IfOk result (λ it. bytes_in it ≡ as_sent recorded.now) }
     {
-        if recorded.get(1) != Some(&READ_ONLY) {
+        if !is_read_only(recorded) {
             return Ok(SentFrame::Recorded { bytes: recorded });
         }
         frames_are_read();

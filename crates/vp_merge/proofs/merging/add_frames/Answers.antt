@@ -18,7 +18,7 @@ loop-turn-preserved c =
     let turn = c.turn-item.result in
     let more : take (c.loop-turn.turn-index + 1) c.args.turns.now ≡ take c.loop-turn.turn-index c.args.turns.now ++ turn ∷ [] = take_more c.args.turns.now c.loop-turn.turn-index turn c.loop-turn-test.true ∙ ap (λ (t : Turn). take c.loop-turn.turn-index c.args.turns.now ++ t ∷ []) (sym c.turn-item.is) in
     let frame = as_sent turn.frame in
-    let is : c.as_slice-2.result.now ≡ frame = c.as_slice-2.ensures ∙ c.in_ok-frame.ensures ∙ ap as_sent c.as_slice.ensures in
+    let is : c.as_slice-in-loop-turn.result.now ≡ frame = c.as_slice-in-loop-turn.ensures ∙ c.in_ok-frame.ensures ∙ ap as_sent c.as_slice.ensures in
     let added : (bytes : List ℕ) → entry_of new bytes ≡ (if bytes_eq frame bytes then Some None else entry_of old bytes) = subst (λ (f : List ℕ). (bytes : List ℕ) → entry_of new bytes ≡ (if bytes_eq f bytes then Some None else entry_of old bytes)) is c.in_ok-add.ensures in
     record {
       index = λ index. added_index old new frame added (h.index index);
