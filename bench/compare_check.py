@@ -3,15 +3,20 @@
 
 usage: compare_check.py PROGRAM OTHER [SEED [COUNT]]
 
-PROGRAM is the built vpdb, OTHER the path of the reference program. Both are called with the word `check`. A history has up
-to six records and thirty transactions of rising views; its reads are right but for one in fifty. Two in three are mutated:
+PROGRAM is the built vpdb, OTHER the path of the reference program with the words for its version, as in
+"../shared/oracle/vporacle --version 2 --stage e1". Both are called with the word `check`. A history has up to six records and thirty
+transactions of rising views, which read, write and delete; its reads are right but for one in fifty. Two in three are mutated:
 cut anywhere, a byte changed or put in, two lines swapped, a line twice, lines before it. Bytes and statuses have to agree.
 """
 import sys
 
-from comparison import compare, with_byte_changed, with_lines_moved
+from comparison import MOST_BYTES, MOST_BYTES_OF_OLD, compare, with_byte_changed, with_lines_moved
 
 NAMES = [b"x", b"y", b"ab", b"abcd", b"r0", b"r1", b"a_long_name_of16"]
+
+
+def read(name, value):
+    return b" a %s" % name if value is None else b" r %s %s" % (name, value)
 
 
 def made(draw):
@@ -27,9 +32,13 @@ def made(draw):
             name = draw.choice(names)
             if draw.randrange(2):
                 wrong = draw.randrange(50) == 0
-                ops += b" r %s %s" % (name, b"other" if wrong else values[name])
+                ops += read(name, draw.choice([b"other", None]) if wrong else values[name])
+            elif draw.randrange(4) == 0:
+                values[name] = None
+                ops += b" d %s" % name
             else:
-                values[name] = bytes(draw.choice(b"!~09az_#") for _ in range(draw.choice([1, 2, 64])))
+                length = draw.choice([1, 2, MOST_BYTES_OF_OLD, MOST_BYTES_OF_OLD + 1, MOST_BYTES, MOST_BYTES + (draw.randrange(50) == 0)])
+                values[name] = bytes(draw.choices(b"!~09az_#", k=length))
                 ops += b" w %s %s" % (name, values[name])
         lines.append(b"commit %d.%d.%d %d@%d" % (draw.randint(1, 16), draw.choice([1, 2, 4294967295]), k + 1, number, site) + ops)
     lines.append(b"end %d" % count)

@@ -1,12 +1,13 @@
 #!/usr/bin/env python3
 """Compares `decode` and `encode` of frames with the reference implementation, on random frames and on damaged ones.
 
-usage: compare_decode.py PROGRAM [SEED [COUNT [REFERENCE]]]
+usage: compare_decode.py [--version N] [--stage e1] PROGRAM [SEED [COUNT [REFERENCE]]]
 
 PROGRAM is built by `build.py answer_frames PROGRAM`; REFERENCE is the folder of the reference implementation's modules. A third of the
 inputs are frames of any kind, with fields at the edges of their ranges; the others are damaged: cut, joined, a bit, a byte or
 a run of bytes changed, put in or taken out, a list disordered, a count changed, another kind. Of each the answers have to agree:
-the place where it is no frame, or the frame's sender, receiver and text with each of its fields, and the bytes that it is encoded to.
+the place where it is no frame, or the frame's version, sender, receiver and text with each of its fields, and the bytes that it is
+encoded to. The program reads both versions, so the reference has to speak version 2, as it does where nothing is said.
 """
 import random
 import sys
@@ -44,7 +45,7 @@ def wanted(wire, fields, kinds, data):
         return b"bad %d" % fault.at, b""
     kind = frame.body.kind if type(frame.body) is wire.Call else type(frame.body).__name__
     kinds[kind] = kinds.get(kind, 0) + 1
-    return f"{frame.sender} {frame.to} {body_text(wire, frame.body)}".encode(), wire.encode(frame)
+    return f"{frame.version} {frame.sender} {frame.to} {body_text(wire, frame.body)}".encode(), wire.encode(frame)
 
 
 def main():

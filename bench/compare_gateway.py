@@ -22,7 +22,7 @@ import threading
 import time
 from types import SimpleNamespace
 
-from comparison import arguments, modules
+from comparison import MOST_BYTES, MOST_BYTES_OF_OLD, arguments, modules
 from damage import damaged
 from frame_draws import Draws, damaged_frame
 from node_processes import HOST, LONGEST, bound, free_ports
@@ -67,10 +67,9 @@ class Session:
 
     def _call(self):
         draw, txn = self.draw, str(self.draws.txn())
-        words = [
-            "begin", "regroup", f"{txn} {self.draws.number(4)} read {draw.choice(NAMES)}", f"{txn} {self.draws.number(4)} write {draw.choice(NAMES)} {self.draws.word(64, '!0aZ~')}",
-            f"{txn} {self.draws.number(4)} commit", f"{txn} {self.draws.number(4)} abort",
-        ]
+        write = f"write {draw.choice(NAMES)} {self.draws.word(draw.choice([MOST_BYTES, MOST_BYTES_OF_OLD, 2]), '!0aZ~')}"
+        deeds = [write, *(f"{word} {draw.choice(NAMES)}" for word in ("read", "delete")), "commit", "abort"]
+        words = ["begin", "regroup", *(f"{txn} {self.draws.number(4)} {deed}" for deed in deeds)]
         return draw.choice(words).encode()
 
     def _line(self):
@@ -97,12 +96,14 @@ class Session:
     # ---- what comes back
 
     def _fitting(self, call):
-        codes = TO_BEGIN if call.kind == "begin" else TO_REGROUP if call.kind == "regroup" else range(2, 17)
-        make, *fields = self.reference.wire.ANSWERS_1[self.draw.choice([code for code in codes if code not in (6, 7) or call.txn is None])]
+        spoken = self.draw.choice([1, 2, 2])
+        answers = self.reference.wire.ANSWERS[spoken]
+        codes = TO_BEGIN if call.kind == "begin" else TO_REGROUP if call.kind == "regroup" else set(answers) - {1, 17, 18}
+        make, *fields = answers[self.draw.choice([code for code in sorted(codes) if code not in (6, 7) or call.txn is None])]
         body = make(*self.draws.fields(fields))
         if call.txn is not None:
             body = body._replace(**{name: value for name, value in (("txn", call.txn), ("number", call.number)) if name in body._fields})
-        return self.reference.wire.encode(self.reference.wire.Frame(self.site, 0, body))
+        return self.reference.wire.encode(self.reference.wire.Frame(self.site, 0, body, spoken))
 
     def _stray(self):
         frame = self.draws.frame()

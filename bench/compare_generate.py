@@ -13,7 +13,7 @@ import random
 import subprocess
 import sys
 
-from comparison import arguments, reference_in
+from comparison import arguments, reference_in, version_words
 
 
 def drawn(k):
@@ -34,9 +34,9 @@ def difference(program, reference, k):
     words = drawn(k)
     summary = run(program, "soak", *words)
     schedule = run(program, "generate", *words)
-    if summary != run(reference, "soak", *words):
+    if summary != run(*reference, "soak", *words):
         return ("soak", *words), 0
-    if schedule != run(reference, "generate", *words):
+    if schedule != run(*reference, "generate", *words):
         return ("generate", *words), 0
     trace = run(program, "replay", given=schedule[1])
     verdict = run(program, "check", given=trace[1])
@@ -48,8 +48,8 @@ def difference(program, reference, k):
 
 def main():
     program, seed, count, folder = arguments(300)
-    reference = os.path.join(reference_in(folder), "vporacle")
-    with multiprocessing.Pool() as pool:
+    reference = [os.path.join(reference_in(folder), "vporacle"), *version_words()]
+    with multiprocessing.Pool(int(os.environ.get("JOBS", os.cpu_count()))) as pool:
         found = pool.starmap(difference, ((program, reference, k) for k in range(seed, seed + count)))
     bad = [words for words, _ in found if words]
     for words in bad:

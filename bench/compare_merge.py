@@ -7,8 +7,8 @@ PROGRAM is the built vpdb, REFERENCE the folder of the reference implementation.
 sites, into which crashes and restarts are put, is run by the reference's nodes, which record it. Their blocks end in all ways, within the last turn too,
 and come in any order; some without turns are left out, and `bad` and `stray` lines are put in. One run in six is merged as it is recorded. Of the
 others one to three things are changed first: turns are left out, said twice, exchanged, moved to another place or site or taken from another run; blocks end otherwise,
-are cut, split, joined or left out; lives skip some; `out` lines are left out, said twice or exchanged; stops, replies and what is no frame are put in; and in one
-of eight the text has a fault. Bytes and exit statuses have to agree. What is merged is replayed by PROGRAM, too, and its check has to find it serial. Seeds are shared
+are cut, split, joined or left out; lives skip some; `out` lines are left out, said twice or exchanged; stops, replies and what is no frame are put in; frames
+are spelled in the first version; and in one of eight the text has a fault. Bytes and exit statuses have to agree. What is merged is replayed by PROGRAM, too, and its check has to find it serial. Seeds are shared
 out over the processors; the first that differs is printed, and ends the run.
 """
 import random
@@ -17,6 +17,7 @@ import sys
 
 from compare_replay import COUNT, FOLDER, PROGRAM, SEED, Busy
 from comparison import compare_seeds, modules, with_byte_changed, with_lines_moved
+from frame_draws import spelled_as_old
 
 base, fuzz, merge, reachtest, schedule, wire = modules(FOLDER, "base", "fuzz", "merge", "reachtest", "schedule", "wire")
 INSERTED = b" \n0123456789abcdefinoutstrd"
@@ -153,8 +154,18 @@ def put_in(draw, blocks, block, place):
     block.turns.insert(place, ["in " + draw.choice([*frames, draw.choice(outs), draw.choice(outs), "560163", "00"])])
 
 
+def spelled_otherwise(draw, blocks, block, place):
+    """What came in one turn, or in all, or what one sent, is of the first version where that can say it."""
+    turn = block.turns[place]
+    kind, at = draw.randrange(3), draw.randrange(len(turn))
+    for lines, at in [(turn, 0)] if kind == 0 else [(other, 0) for other in block.turns] if kind == 1 else [(turn, at)]:
+        word, _, digits = lines[at].partition(" ")
+        if word in ("in", "out"):
+            lines[at] = f"{word} {spelled_as_old(wire, bytes.fromhex(digits)).hex()}"
+
+
 CHANGES = (left_out, left_out, twice, exchanged, moved, with_other_frame, cut, tail, ended_otherwise, skipped, skipped, left_out_whole, split, joined,
-           out_changed, out_changed, put_in, put_in)
+           out_changed, out_changed, put_in, put_in, spelled_otherwise, spelled_otherwise)
 
 
 def changed(draw, blocks):

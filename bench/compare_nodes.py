@@ -5,7 +5,8 @@ usage: compare_nodes.py PROGRAM [SEED [COUNT [REFERENCE]]]
 
 PROGRAM has the command `node`; REFERENCE is the folder of the reference implementation. Each seed makes one script, 200 if nothing is
 said: a schedule of the reference's `fuzz` over a catalogue of 1 to 16 sites, of which the site with the most steps is the node. What that
-schedule brings to it comes from the ports of the other sites and from a client's; a life ends where it crashes there, and now and then
+schedule brings to it comes from the ports of the other sites and from a client's, one in five as a frame of the first version where that can say
+it; a life ends where it crashes there, and now and then
 elsewhere. Among that come random and damaged datagrams: in half of the scripts only such as are no inputs, in the others any. The log is
 empty at first, or nearly as long as one that leaves a checkpoint, or random; and between two lives it may be damaged, so that it is another
 log or none.
@@ -22,6 +23,7 @@ from types import SimpleNamespace
 from comparison import arguments, modules
 from compare_recover import Halves
 from damage import damaged
+from frame_draws import spelled_as_old
 from hostile import Hostile
 from node_processes import FOREVER, HOST, LONGEST, PATIENCE, Nodes, Recording, bound, catalogue, free_ports, wait_until
 from recordings import Fault, insist
@@ -77,7 +79,8 @@ class Script:
             while self.draw.randrange(4) == 0:
                 life.append(noise()[:2])
             if step is not None:
-                life.append(step)
+                sender, data = step
+                life.append((sender, spelled_as_old(self.reference.wire, data) if self.draw.randrange(5) == 0 else data))
             if step is None or self.draw.randrange(40) == 0:
                 yield life
                 life = []
@@ -235,6 +238,7 @@ class Trial:
 def main():
     program, seed, count, folder = arguments(200)
     reference = SimpleNamespace(**dict(zip(MODULES, modules(folder, *MODULES))))
+    reference.node.unbuilt = lambda call: False  # a weigh is an input, and stray to the reference at the stage `e1`
     counts = collections.Counter()
     for one in range(seed, seed + count):
         script = Script(reference, one)

@@ -29,6 +29,15 @@ class Busy:
         self.lines.append("events")
         self.seq = {site: [1, 0] for site in self.sites}
 
+    def deed(self, name):
+        kind = self.draw.randrange(20)
+        if kind < 10:
+            return "read %s" % name
+        if kind < 13:
+            return "delete %s" % name
+        value = "%d" % self.draw.randrange(100)
+        return "write %s %s" % (name, value if kind < 18 else value * self.draw.choice([20, 512]))
+
     def transaction(self, site):
         life, seq = self.seq[site][0], self.seq[site][1] + 1
         self.seq[site][1] = seq
@@ -37,8 +46,7 @@ class Busy:
         count = self.draw.choice([1, 2, 3])
         for number in range(1, count + 1):
             name = self.draw.choice(self.names)
-            deed = "read %s" % name if self.draw.randrange(2) else "write %s %d" % (name, self.draw.randrange(100))
-            yield "call %d %s %d %s" % (site, txn, number, deed)
+            yield "call %d %s %d %s" % (site, txn, number, self.deed(name))
             yield "flow %d" % self.draw.choice([20, 20, 20, 1, 2, 3])
         yield "call %d %s %d commit" % (site, txn, count + 1)
         yield "flow %d" % self.draw.choice([40, 40, 40, 1, 2, 3, 4, 5])

@@ -4,11 +4,33 @@ import multiprocessing
 import os
 import pathlib
 import random
+import shlex
 import subprocess
 import sys
 
 # where the modules of the reference implementation stand, if nothing else is said
 REFERENCE = pathlib.Path(__file__).resolve().parent.parent.parent / "shared/oracle"
+
+
+# what the reference implementation speaks, if nothing else is said: its version and its stage
+SPOKEN = (2, "e1")
+# the most bytes of a value, and of one in the frames and the log records of the first version
+MOST_BYTES, MOST_BYTES_OF_OLD = 1024, 64
+
+
+def without_version(words):
+    """The words without `--version N` and `--stage e1` at their head, and the version and stage that those say."""
+    spoken = SPOKEN
+    while words[:1] == ["--version"] or words[:2] == ["--stage", "e1"]:
+        spoken = (int(words[1]), None) if words[0] == "--version" else (2, "e1")
+        words = words[2:]
+    return words, spoken
+
+
+def version_words():
+    """The version and stage that the reference implementation speaks by this command line, as words before its command."""
+    number, stage = without_version(sys.argv[1:])[1]
+    return ["--stage", stage] if stage else ["--version", str(number)]
 
 
 def reference_in(folder):
@@ -20,29 +42,36 @@ def reference_in(folder):
 
 
 def modules(folder, *names):
-    """Modules of the reference implementation."""
+    """Modules of the reference implementation, which speak the version that the command line says.
+
+    At the stage `e1` it answers a `weigh` by a status of its own. The program has no such line so far, and at that stage the grammar here has none.
+    """
     sys.path.insert(0, str(reference_in(folder)))
+    spoken = without_version(sys.argv[1:])[1]
+    importlib.import_module("version").choose(*spoken)
+    if spoken[1] == "e1":
+        importlib.import_module("schedule").table = lambda sites: importlib.import_module("grammar").NONE
     return [importlib.import_module(name) for name in names]
 
 
 def joined(pieces):
-    """The pieces of bytes, each after the count of its bytes in 16 bits."""
-    return b"".join(len(piece).to_bytes(2, "big") + piece for piece in pieces)
+    """The pieces of bytes, each after the count of its bytes in 32 bits."""
+    return b"".join(len(piece).to_bytes(4, "big") + piece for piece in pieces)
 
 
 def split(data):
     """The pieces that were joined."""
     pieces, place = [], 0
     while place < len(data):
-        end = place + 2 + int.from_bytes(data[place : place + 2], "big")
-        pieces.append(data[place + 2 : end])
+        end = place + 4 + int.from_bytes(data[place : place + 4], "big")
+        pieces.append(data[place + 4 : end])
         place = end
     return pieces
 
 
 def arguments(count):
     """PROGRAM, SEED, COUNT and REFERENCE of the command line; where the others aren't there, seed 1 and so many inputs."""
-    words = sys.argv[1:]
+    words, _ = without_version(sys.argv[1:])
     return words[0], *(int(word) for word in (words[1:3] + ["1", str(count)][len(words[1:3]) :])), (words[3:] or [REFERENCE])[0]
 
 
@@ -77,8 +106,8 @@ def compare_pieces(program, rounds, right, what, head=()):
 
 
 def run(program, command, text):
-    """The exit status and the standard output of one run of a program."""
-    done = subprocess.run([program, command], input=text, capture_output=True, timeout=60)
+    """The exit status and the standard output of one run of a program, which may have words before its command."""
+    done = subprocess.run([*shlex.split(program), command], input=text, capture_output=True, timeout=600)
     return done.returncode, done.stdout
 
 

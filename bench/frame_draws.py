@@ -1,6 +1,7 @@
-"""Random frames of all kinds of version 1, and damaged ones, out of the fields that the reference implementation's module `wire` has."""
+"""Random frames of all kinds of both versions, and damaged ones, out of the fields that the reference implementation's module `wire` has."""
 import importlib
 
+from comparison import MOST_BYTES, MOST_BYTES_OF_OLD
 from damage import damaged, with_list_disordered
 
 NUMBERS = {width: [1, 2, 16, 17, 255, 256, 2 ** (8 * width - 1), 2 ** (8 * width) - 2, 2 ** (8 * width) - 1] for width in (4, 8)}
@@ -13,13 +14,16 @@ class Draws:
 
     def __init__(self, wire, draw):
         self.wire, self.draw = wire, draw
-        change = importlib.import_module("base").Change
+        base = importlib.import_module("base")
+        self.change, self.keep = base.Change, base.KEEP
         self.of = {
             wire.VIEW: self.view, wire.TXN: self.txn, wire.NUMBER: lambda: self.number(4), wire.REC: self.rec,
-            wire.NAME: lambda: self.word(16, NAME_BYTES), wire.VALUE: lambda: self.word(64, VALUE_BYTES),
+            wire.NAME: lambda: self.word(16, NAME_BYTES), wire.VALUE: self.value_of_old,
             wire.FLAG: lambda: draw.randrange(2) == 1, wire.SITE: self.site, wire.SITES: self.sites,
             wire.OPTIONAL_VIEW: lambda: self.view() if draw.randrange(2) else None, wire.OWNER: self.owner,
-            wire.RECS: self.recs, wire.WRITES: lambda: tuple((rec, change(self.word(64, VALUE_BYTES))) for rec in self.recs()),
+            wire.RECS: self.recs, wire.WRITES: lambda: tuple((rec, self.change(self.value_of_old())) for rec in self.recs()),
+            wire.LONG_VALUE: self.value, wire.CONTENT: self.content, wire.TABLE: self.table, wire.OPTIONAL_TABLE: self.table_or_none,
+            wire.CHANGES: lambda: tuple((rec, self.any_change()) for rec in self.recs()),
             wire.ANY_U32: lambda: self.number(4) if draw.randrange(4) else 0,
             wire.ANY_U64: lambda: self.number(8) if draw.randrange(4) else 0,
         }
@@ -45,35 +49,70 @@ class Draws:
     def word(self, most, letters):
         return "".join(self.draw.choices(letters, k=self.draw.choice([1, most, self.draw.randint(1, most)])))
 
+    def value(self):
+        return self.word(self.draw.choice([MOST_BYTES, MOST_BYTES_OF_OLD]), VALUE_BYTES)
+
+    def value_of_old(self):
+        return self.word(MOST_BYTES_OF_OLD, VALUE_BYTES)
+
+    def content(self):
+        return self.value() if self.draw.randrange(3) else None
+
+    def table(self):
+        return tuple((site, self.draw.choice([1, 65535, self.draw.randint(1, 65535)])) for site in self.sites())
+
+    def table_or_none(self):
+        return self.table() if self.draw.randrange(3) == 0 else None
+
+    def any_change(self):
+        kept = self.draw.randrange(4) == 0
+        return self.change(self.keep, self.table()) if kept else self.change(self.content(), self.table_or_none())
+
     def sites(self):
         return tuple(sorted(self.draw.sample(range(1, 17), self.draw.choice([1, 2, 16, self.draw.randint(1, 16)]))))
 
     def recs(self):
         return tuple(sorted(self.draw.sample(range(256), self.draw.choice([0, 1, 2, 64, self.draw.randint(0, 64)]))))
 
-    def why(self):
-        if self.draw.randrange(2):
+    def why(self, kinds):
+        kind = self.draw.choice(kinds)
+        if kind == 1:
             return self.wire.ms.Held(self.owner())
-        return self.wire.ms.OtherView(self.of[self.wire.OPTIONAL_VIEW]())
+        if kind == 2:
+            return self.wire.ms.OtherView(self.of[self.wire.OPTIONAL_VIEW]())
+        return self.wire.ms.Barred(self.of[self.wire.ANY_U32](), self.of[self.wire.ANY_U32]())
 
     def field(self, field):
         if type(field) is self.wire.NoTable:
             return None
-        return self.of[field]() if field in self.of else self.why()
+        return self.of[field]() if field in self.of else self.why(field._kinds)
 
     def fields(self, fields):
         return [self.field(field) for field in fields]
 
     def frame(self):
-        """A frame of any kind: each message, answer and call is as likely as another."""
-        wire = self.wire
-        tables = wire.MESSAGES_1, wire.ANSWERS_1, wire.CALLS_1
+        """A frame of any kind and version: each message, answer and call of a version is as likely as another."""
+        wire, spoken = self.wire, self.draw.choice([1, 2, 2])
+        tables = wire.MESSAGES[spoken], wire.ANSWERS[spoken], wire.CALLS[spoken]
         rows = [*(row for table in tables for row in table.values()), *((make,) for make in wire.BARE.values())]
         make, *fields = self.draw.choice(rows)
         values = self.fields(fields)
-        body = wire.Call(make, *values) if isinstance(make, str) else make(*values)
+        body = self.call(make, values) if isinstance(make, str) else make(*values)
         sender = self.site() if wire.is_message(body) or wire.is_answer(body) else 0
-        return wire.Frame(sender, 0 if wire.is_answer(body) else self.site(), body)
+        return wire.Frame(sender, 0 if wire.is_answer(body) else self.site(), body, spoken)
+
+    def call(self, word, values):
+        return self.wire.Call(word, *values[:3], table=values[3]) if word == "weigh" else self.wire.Call(word, *values)
+
+
+def spelled_as_old(wire, data):
+    """The frame with these bytes in the first version; as it is where that can't say it, as with a delete, no value or a long one, or where it is no frame."""
+    try:
+        old = wire.decode(data)._replace(version=1)
+        spelled = wire.encode(old)
+        return spelled if wire.decode(spelled) == old else data
+    except Exception:  # a field that the first version lacks, or none at all
+        return data
 
 
 def damaged_frame(wire, draw, frame, other):
@@ -83,6 +122,6 @@ def damaged_frame(wire, draw, frame, other):
     if kind == 0:  # a list disordered
         return wire.encode(frame._replace(body=with_list_disordered(draw, frame.body)))
     if kind == 1:  # another kind, sender, receiver or code
-        place = min(draw.randrange(2, 6), len(data) - 1)
+        place = min(draw.randrange(1, 6), len(data) - 1)
         return data[:place] + bytes([draw.choice([*range(40), 255])]) + data[place + 1 :]
     return damaged(draw, data, wire.encode(other))

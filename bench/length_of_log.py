@@ -4,7 +4,8 @@
 usage: length_of_log.py PROGRAM [TURNS [REFERENCE]]
 
 PROGRAM has the command `node`; REFERENCE is the folder of the reference implementation. One node of one site keeps 256 records, and gets
-TURNS calls or a few more (100,000, if nothing is said), of transactions that write 1 to 64 records with values of up to 64 bytes. Its
+TURNS calls or a few more (100,000, if nothing is said), of transactions that write 1 to 64 records with values of up to 1,024 bytes, or as
+many as the 15,360 bytes of a transaction leave to each. Its
 log is in a temporary folder: each commit is forced, so TMPDIR=/dev/shm spares much time. After each commit neither file of the log
 may be longer than 65,536 bytes and twice the state, which is the checkpoint that the log begins with, or nothing before the first one.
 The node then starts once more on what it left.
@@ -20,18 +21,19 @@ import sys
 import tempfile
 from types import SimpleNamespace
 
-from comparison import REFERENCE, modules
+from comparison import MOST_BYTES, REFERENCE, modules
 from frame_draws import VALUE_BYTES
 from node_processes import Caller, Nodes, catalogue, free_ports
 
-RECORDS, WRITES, LONGEST_VALUE, FREE = 256, 64, 64, 65536
+RECORDS, WRITES, MOST_OF_A_TXN, FREE = 256, 64, 15360, 65536
 LENGTHS, RUNS = (65536, 262144, 1048576), 5
 MODULES = ("base", "client", "records", "wire")
-CHECKPOINT = 8  # the code that a checkpoint's record begins with
+CHECKPOINT = 12  # the code that a checkpoint's record begins with
 
 
-def value(draw):
-    return "".join(draw.choices(VALUE_BYTES, k=draw.randint(1, LONGEST_VALUE)))
+def value(draw, writes):
+    """A value of a transaction with so many writes."""
+    return "".join(draw.choices(VALUE_BYTES, k=draw.randint(1, min(MOST_BYTES, MOST_OF_A_TXN // writes))))
 
 
 def checkpoint_of(half):
@@ -53,7 +55,7 @@ class Growth:
         txn = self.caller.ask(1, "begin").txn
         records = self.draw.sample(range(RECORDS), self.draw.randint(1, WRITES))
         for number, record in enumerate(records, 1):
-            self.caller.ask(1, "write", txn, number, f"r{record}", value(self.draw))
+            self.caller.ask(1, "write", txn, number, f"r{record}", value(self.draw, len(records)))
         answer = self.caller.ask(1, "commit", txn, len(records) + 1)
         assert type(answer).__name__ == "Committed", answer
         self.turns += len(records) + 2
@@ -93,8 +95,8 @@ def log_of(reference, length):
     while len(half) < length:
         seq += 1
         written = sorted(draw.sample(range(RECORDS), 8))
-        writes = tuple((record, base.Change(value(draw))) for record in written)
-        batch = records.encode_batch([records.Commit(base.TxnId(1, 1, seq), base.OPENING, writes, ())])
+        writes = tuple((record, base.Change(value(draw, len(written)))) for record in written)
+        batch = records.encode_batch([records.commit(base.TxnId(1, 1, seq), base.OPENING, writes, ())])
         half += b"\1" + len(batch).to_bytes(8, "big") + batch
     return bytes(half) + b"\0"
 

@@ -37,7 +37,7 @@ udp = struct.pack(">HHHH", port, 7001, 8 + len(data), 0) + data
 ends = socket.inet_aton(address) + socket.inet_aton("10.77.0.1")
 head = struct.pack(">BBHHHBBH", 0x45, 0, 20 + len(udp), 0, 0, 64, 17, 0) + ends
 socket.socket(socket.AF_INET, socket.SOCK_RAW, socket.IPPROTO_RAW).sendto(head + udp, ("10.77.0.1", 0))"""
-TICK_1, PROBE_OF_2 = "5601220001", "5601110201" + "00" * 9  # frames for site 1
+TICK_1, PROBE_OF_2 = "5602220001", "5602110201" + "00" * 9  # frames for site 1
 
 
 def on(site, *words):

@@ -116,8 +116,8 @@ def lives(share, reference):
 
 def votes(share, reference, number):
     start = "site 1 7001\nsite 2 7002\nrecord x 10 1:1 2:1\nrecordings\nnode 2\nstart 1\n"
-    size = len("in 56010b0102010000000100000001\n")
-    return (start + "".join("in 56010b01020100000001%08x\n" % number(k) for k in range(int(MOST * share - len(start)) // size))).encode()
+    size = len("in 56020b0102010000000100000001\n")
+    return (start + "".join("in 56020b01020100000001%08x\n" % number(k) for k in range(int(MOST * share - len(start)) // size))).encode()
 
 
 def unsent(share, reference):

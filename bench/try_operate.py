@@ -56,7 +56,7 @@ def try_cadence(folder):
         while time.monotonic() < end:
             for site, sock in sockets.items():
                 for frame in taken(sock):
-                    insist(frame[:2] == b"\x56\x01" and frame[3:] == bytes([0, site]), "another frame", frame.hex())
+                    insist(frame[:2] == b"\x56\x02" and frame[3:] == bytes([0, site]), "another frame", frame.hex())
                     counts[frame[2], site] += 1
                     probes += [site] * (frame[2] == PROBE)
             time.sleep(0.01)

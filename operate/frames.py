@@ -8,7 +8,8 @@ HOST = "127.0.0.1"
 LONGEST = 65536
 LAST_NUMBER = 2**32 - 1  # of a call: no transaction comes so far
 
-HEAD = b"\x56\x01"
+HEAD = b"\x56\x02"  # of what is sent; what is read here is the same in both versions of frames
+HEADS = (b"\x56\x01", HEAD)
 CALL, REPLY, TICK, PROBE, STOP = 32, 33, 34, 35, 36
 BEGIN_CALL, REGROUP_CALL, ABORT_CALL = 1, 2, 6
 BEGUN, INVITING, NO_VIEW, UNKNOWN, SPENT, TOO_MANY_LIVE = 1, 6, 7, 8, 17, 18
@@ -85,7 +86,7 @@ class Reply(NamedTuple):
 
 def read_reply(data):
     """The reply in a datagram, or None where it holds none."""
-    if len(data) < 6 or data[:3] != HEAD + bytes([REPLY]) or data[4] != 0:
+    if len(data) < 6 or data[:2] not in HEADS or data[2] != REPLY or data[4] != 0:
         return None
     kind, fields, txn = data[5], data[6:], b""
     if kind == BEGUN:

@@ -1,10 +1,23 @@
-//! The program `time_frames` in plain Rust: frames are decoded and encoded by hand, as one would without proofs.
+//! The program `time_frames` in plain Rust: frames of both versions are decoded and encoded by hand, as one would without proofs.
 //!
 //! Build it by `rustc -O -C target-cpu=x86-64-v2 plain_frames.rs`.
 
 use std::io::{self, Read};
 
 type Text = Vec<u8>;
+
+type Table = Vec<(u8, u16)>;
+
+enum Put {
+    Keep,
+    Absent,
+    Value(Text),
+}
+
+struct Change {
+    put: Put,
+    table: Option<Table>,
+}
 
 struct ViewId {
     number: u64,
@@ -25,6 +38,7 @@ enum Owner {
 enum Obstacle {
     Held { owner: Owner },
     OtherView { now: Option<ViewId> },
+    Barred { inside: u32, total: u32 },
 }
 
 enum Message {
@@ -33,17 +47,17 @@ enum Message {
     Stale { id: ViewId, promise: ViewId },
     ViewCommit { id: ViewId, members: Vec<u8> },
     ReadRequest { txn: TxnId, view: ViewId, number: u32, rec: u8 },
-    ReadAnswer { txn: TxnId, number: u32, value: Text },
+    ReadAnswer { txn: TxnId, number: u32, value: Option<Text> },
     WriteRequest { txn: TxnId, view: ViewId, number: u32, rec: u8 },
     WriteAnswer { txn: TxnId, number: u32 },
     Refuse { txn: TxnId, number: u32, why: Obstacle },
-    Prepare { txn: TxnId, view: ViewId, number: u32, reads: Vec<u8>, writes: Vec<(u8, Text)> },
+    Prepare { txn: TxnId, view: ViewId, number: u32, reads: Vec<u8>, writes: Vec<(u8, Change)> },
     Vote { txn: TxnId },
     Outcome { txn: TxnId, commit: bool },
     Ack { txn: TxnId },
     Inquire { txn: TxnId },
     RefreshRequest { view: ViewId, rec: u8 },
-    RefreshAnswer { view: ViewId, rec: u8, value: Text, date: ViewId },
+    RefreshAnswer { view: ViewId, rec: u8, value: Option<Text>, table: Option<Table>, date: ViewId },
     Probe { view: ViewId },
 }
 
@@ -54,6 +68,8 @@ enum Call {
     Write { txn: TxnId, number: u32, name: Text, value: Text },
     Commit { txn: TxnId, number: u32 },
     Abort { txn: TxnId, number: u32 },
+    Delete { txn: TxnId, number: u32, name: Text },
+    Weigh { txn: TxnId, number: u32, name: Text, table: Table },
 }
 
 enum Answer {
@@ -75,6 +91,10 @@ enum Answer {
     TimedOut { txn: TxnId, number: u32, at: u8 },
     Spent { number: u64 },
     TooManyLive,
+    Absent { txn: TxnId, number: u32 },
+    Deleted { txn: TxnId, number: u32 },
+    Weighed { txn: TxnId, number: u32 },
+    BadTable { txn: TxnId, number: u32 },
 }
 
 enum Body {
@@ -87,6 +107,7 @@ enum Body {
 }
 
 struct Frame {
+    version: u8,
     from: u8,
     to: u8,
     body: Body,
@@ -102,6 +123,8 @@ type Taken<T> = Result<T, BadFrame>;
 struct Reader<'a> {
     bytes: &'a [u8],
     at: usize,
+    /// Whether the frame is of the second version.
+    is_later: bool,
 }
 
 impl<'a> Reader<'a> {
@@ -169,14 +192,14 @@ impl<'a> Reader<'a> {
     }
 
     fn obstacle(&mut self) -> Taken<Obstacle> {
-        match self.byte(1, 2)? {
+        match self.byte(1, if self.is_later { 3 } else { 2 })? {
             1 => Ok(Obstacle::Held { owner: self.owner()? }),
-            _ => Ok(Obstacle::OtherView { now: self.maybe_view()? }),
+            2 => Ok(Obstacle::OtherView { now: self.maybe_view()? }),
+            _ => Ok(Obstacle::Barred { inside: self.u32()?, total: self.u32()? }),
         }
     }
 
-    fn word(&mut self, most: u8, allowed: fn(u8) -> bool) -> Taken<Text> {
-        let count = self.byte(1, most)?.into();
+    fn word(&mut self, count: usize, allowed: fn(u8) -> bool) -> Taken<Text> {
         let rest = &self.bytes[self.at..];
         let there = &rest[..rest.len().min(count)];
         match there.iter().position(|byte| !allowed(*byte)) {
@@ -190,11 +213,67 @@ impl<'a> Reader<'a> {
     }
 
     fn name(&mut self) -> Taken<Text> {
-        self.word(16, |byte| byte.is_ascii_lowercase() || byte.is_ascii_digit() || byte == b'_')
+        let count = self.byte(1, 16)?.into();
+        self.word(count, |byte| byte.is_ascii_lowercase() || byte.is_ascii_digit() || byte == b'_')
+    }
+
+    /// The count of a value's bytes: 1 to 64, or 1 to 1,024 in two bytes.
+    fn length(&mut self) -> Taken<usize> {
+        if !self.is_later {
+            return Ok(self.byte(1, 64)?.into());
+        }
+        let high = self.byte(0, 4)?;
+        let low = match high {
+            0 => self.byte(1, 255)?,
+            4 => self.byte(0, 0)?,
+            _ => self.byte(0, 255)?,
+        };
+        Ok(u16::from_be_bytes([high, low]).into())
     }
 
     fn value(&mut self) -> Taken<Text> {
-        self.word(64, |byte| byte.is_ascii_graphic())
+        let count = self.length()?;
+        self.word(count, |byte| byte.is_ascii_graphic())
+    }
+
+    fn content(&mut self) -> Taken<Option<Text>> {
+        if self.is_later && self.byte(0, 1)? == 0 {
+            return Ok(None);
+        }
+        Ok(Some(self.value()?))
+    }
+
+    fn weight(&mut self) -> Taken<u16> {
+        match u16::from_be_bytes(self.array()?) {
+            0 => Err(BadFrame { at: self.at - 1 }),
+            weight => Ok(weight),
+        }
+    }
+
+    fn table(&mut self) -> Taken<Table> {
+        self.ascending((1, 16), (1, 16), |reader, site| Ok((site, reader.weight()?)))
+    }
+
+    fn maybe_table(&mut self) -> Taken<Option<Table>> {
+        if self.is_later && self.byte(0, 1)? == 1 {
+            return Ok(Some(self.table()?));
+        }
+        Ok(None)
+    }
+
+    fn change(&mut self) -> Taken<Change> {
+        if !self.is_later {
+            return Ok(Change { put: Put::Value(self.value()?), table: None });
+        }
+        let put = match self.byte(0, 2)? {
+            0 => Put::Absent,
+            1 => Put::Value(self.value()?),
+            _ => {
+                self.byte(1, 1)?;
+                return Ok(Change { put: Put::Keep, table: Some(self.table()?) });
+            }
+        };
+        Ok(Change { put, table: self.maybe_table()? })
     }
 
     /// Ascending items behind their count, each read from the least byte that it may have and the most.
@@ -223,8 +302,8 @@ impl<'a> Reader<'a> {
         self.ascending((0, 64), (0, 255), |_, rec| Ok(rec))
     }
 
-    fn writes(&mut self) -> Taken<Vec<(u8, Text)>> {
-        self.ascending((0, 64), (0, 255), |reader, rec| Ok((rec, reader.value()?)))
+    fn writes(&mut self) -> Taken<Vec<(u8, Change)>> {
+        self.ascending((0, 64), (0, 255), |reader, rec| Ok((rec, reader.change()?)))
     }
 
     fn rec(&mut self) -> Taken<u8> {
@@ -238,7 +317,7 @@ impl<'a> Reader<'a> {
             3 => Message::Stale { id: self.view()?, promise: self.view()? },
             4 => Message::ViewCommit { id: self.view()?, members: self.sites()? },
             5 => Message::ReadRequest { txn: self.txn()?, view: self.view()?, number: self.some_u32()?, rec: self.rec()? },
-            6 => Message::ReadAnswer { txn: self.txn()?, number: self.some_u32()?, value: self.value()? },
+            6 => Message::ReadAnswer { txn: self.txn()?, number: self.some_u32()?, value: self.content()? },
             7 => Message::WriteRequest { txn: self.txn()?, view: self.view()?, number: self.some_u32()?, rec: self.rec()? },
             8 => Message::WriteAnswer { txn: self.txn()?, number: self.some_u32()? },
             9 => Message::Refuse { txn: self.txn()?, number: self.some_u32()?, why: self.obstacle()? },
@@ -254,24 +333,32 @@ impl<'a> Reader<'a> {
             13 => Message::Ack { txn: self.txn()? },
             14 => Message::Inquire { txn: self.txn()? },
             15 => Message::RefreshRequest { view: self.view()?, rec: self.rec()? },
-            16 => Message::RefreshAnswer { view: self.view()?, rec: self.rec()?, value: self.value()?, date: self.view()? },
+            16 => Message::RefreshAnswer {
+                view: self.view()?,
+                rec: self.rec()?,
+                value: self.content()?,
+                table: self.maybe_table()?,
+                date: self.view()?,
+            },
             _ => Message::Probe { view: self.view()? },
         })
     }
 
     fn call(&mut self) -> Taken<Call> {
-        Ok(match self.byte(1, 6)? {
+        Ok(match self.byte(1, if self.is_later { 8 } else { 6 })? {
             1 => Call::Begin,
             2 => Call::Regroup,
             3 => Call::Read { txn: self.txn()?, number: self.some_u32()?, name: self.name()? },
             4 => Call::Write { txn: self.txn()?, number: self.some_u32()?, name: self.name()?, value: self.value()? },
             5 => Call::Commit { txn: self.txn()?, number: self.some_u32()? },
-            _ => Call::Abort { txn: self.txn()?, number: self.some_u32()? },
+            6 => Call::Abort { txn: self.txn()?, number: self.some_u32()? },
+            7 => Call::Delete { txn: self.txn()?, number: self.some_u32()?, name: self.name()? },
+            _ => Call::Weigh { txn: self.txn()?, number: self.some_u32()?, name: self.name()?, table: self.table()? },
         })
     }
 
     fn answer(&mut self) -> Taken<Answer> {
-        Ok(match self.byte(1, 18)? {
+        Ok(match self.byte(1, if self.is_later { 22 } else { 18 })? {
             1 => Answer::Begun { txn: self.txn()?, view: self.view()? },
             2 => Answer::Value { txn: self.txn()?, number: self.some_u32()?, value: self.value()? },
             3 => Answer::Written { txn: self.txn()?, number: self.some_u32()? },
@@ -307,15 +394,20 @@ impl<'a> Reader<'a> {
             },
             16 => Answer::TimedOut { txn: self.txn()?, number: self.some_u32()?, at: self.site()? },
             17 => Answer::Spent { number: self.u64()? },
-            _ => Answer::TooManyLive,
+            18 => Answer::TooManyLive,
+            19 => Answer::Absent { txn: self.txn()?, number: self.some_u32()? },
+            20 => Answer::Deleted { txn: self.txn()?, number: self.some_u32()? },
+            21 => Answer::Weighed { txn: self.txn()?, number: self.some_u32()? },
+            _ => Answer::BadTable { txn: self.txn()?, number: self.some_u32()? },
         })
     }
 }
 
 fn decode(bytes: &[u8]) -> Taken<Frame> {
-    let mut reader = Reader { bytes, at: 0 };
+    let mut reader = Reader { bytes, at: 0, is_later: false };
     reader.byte(0x56, 0x56)?;
-    reader.byte(1, 1)?;
+    let version = reader.byte(1, 2)?;
+    reader.is_later = version == 2;
     let kind = match reader.byte(1, 36)? {
         18..=31 => return Err(BadFrame { at: 2 }),
         kind => kind,
@@ -333,11 +425,12 @@ fn decode(bytes: &[u8]) -> Taken<Frame> {
     if reader.at < bytes.len() {
         return Err(BadFrame { at: reader.at });
     }
-    Ok(Frame { from, to, body })
+    Ok(Frame { version, from, to, body })
 }
 
 struct Writer<'a> {
     out: &'a mut Vec<u8>,
+    is_later: bool,
 }
 
 impl Writer<'_> {
@@ -382,6 +475,7 @@ impl Writer<'_> {
         match why {
             Obstacle::Held { owner } => self.byte(1).owner(owner),
             Obstacle::OtherView { now } => self.byte(2).maybe_view(now),
+            Obstacle::Barred { inside, total } => self.byte(3).u32(*inside).u32(*total),
         }
     }
 
@@ -392,16 +486,61 @@ impl Writer<'_> {
         self
     }
 
-    fn writes(&mut self, writes: &[(u8, Text)]) -> &mut Self {
+    fn value(&mut self, value: &[u8]) -> &mut Self {
+        if !self.is_later {
+            return self.counted(value);
+        }
+        self.out.extend_from_slice(&(value.len() as u16).to_be_bytes());
+        self.out.extend_from_slice(value);
+        self
+    }
+
+    /// A content, which is a value in the first version.
+    fn content(&mut self, content: &Option<Text>) -> &mut Self {
+        match content {
+            None => self.byte(0),
+            Some(value) if self.is_later => self.byte(1).value(value),
+            Some(value) => self.value(value),
+        }
+    }
+
+    fn table(&mut self, table: &Table) -> &mut Self {
+        self.byte(table.len() as u8);
+        for (site, weight) in table {
+            self.out.push(*site);
+            self.out.extend_from_slice(&weight.to_be_bytes());
+        }
+        self
+    }
+
+    fn maybe_table(&mut self, table: &Option<Table>) -> &mut Self {
+        match table {
+            None if self.is_later => self.byte(0),
+            None => self,
+            Some(table) => self.byte(1).table(table),
+        }
+    }
+
+    fn change(&mut self, change: &Change) -> &mut Self {
+        match &change.put {
+            Put::Absent => self.byte(0),
+            Put::Value(value) if self.is_later => self.byte(1).value(value),
+            Put::Value(value) => self.value(value),
+            Put::Keep => self.byte(2),
+        };
+        self.maybe_table(&change.table)
+    }
+
+    fn writes(&mut self, writes: &[(u8, Change)]) -> &mut Self {
         self.byte(writes.len() as u8);
-        for (rec, value) in writes {
-            self.byte(*rec).counted(value);
+        for (rec, change) in writes {
+            self.byte(*rec).change(change);
         }
         self
     }
 
     fn head(&mut self, kind: u8, frame: &Frame) -> &mut Self {
-        self.out.extend_from_slice(&[0x56, 1, kind, frame.from, frame.to]);
+        self.out.extend_from_slice(&[0x56, frame.version, kind, frame.from, frame.to]);
         self
     }
 
@@ -412,7 +551,7 @@ impl Writer<'_> {
             Message::Stale { id, promise } => self.head(3, frame).view(id).view(promise),
             Message::ViewCommit { id, members } => self.head(4, frame).view(id).counted(members),
             Message::ReadRequest { txn, view, number, rec } => self.head(5, frame).txn(txn).view(view).u32(*number).byte(*rec),
-            Message::ReadAnswer { txn, number, value } => self.head(6, frame).txn(txn).u32(*number).counted(value),
+            Message::ReadAnswer { txn, number, value } => self.head(6, frame).txn(txn).u32(*number).content(value),
             Message::WriteRequest { txn, view, number, rec } => self.head(7, frame).txn(txn).view(view).u32(*number).byte(*rec),
             Message::WriteAnswer { txn, number } => self.head(8, frame).txn(txn).u32(*number),
             Message::Refuse { txn, number, why } => self.head(9, frame).txn(txn).u32(*number).obstacle(why),
@@ -424,7 +563,9 @@ impl Writer<'_> {
             Message::Ack { txn } => self.head(13, frame).txn(txn),
             Message::Inquire { txn } => self.head(14, frame).txn(txn),
             Message::RefreshRequest { view, rec } => self.head(15, frame).view(view).byte(*rec),
-            Message::RefreshAnswer { view, rec, value, date } => self.head(16, frame).view(view).byte(*rec).counted(value).view(date),
+            Message::RefreshAnswer { view, rec, value, table, date } => {
+                self.head(16, frame).view(view).byte(*rec).content(value).maybe_table(table).view(date)
+            }
             Message::Probe { view } => self.head(17, frame).view(view),
         }
     }
@@ -438,16 +579,18 @@ impl Writer<'_> {
             Call::Begin => self.byte(1),
             Call::Regroup => self.byte(2),
             Call::Read { txn, number, name } => self.coded(3, txn, *number).counted(name),
-            Call::Write { txn, number, name, value } => self.coded(4, txn, *number).counted(name).counted(value),
+            Call::Write { txn, number, name, value } => self.coded(4, txn, *number).counted(name).value(value),
             Call::Commit { txn, number } => self.coded(5, txn, *number),
             Call::Abort { txn, number } => self.coded(6, txn, *number),
+            Call::Delete { txn, number, name } => self.coded(7, txn, *number).counted(name),
+            Call::Weigh { txn, number, name, table } => self.coded(8, txn, *number).counted(name).table(table),
         }
     }
 
     fn answer(&mut self, answer: &Answer) -> &mut Self {
         match answer {
             Answer::Begun { txn, view } => self.byte(1).txn(txn).view(view),
-            Answer::Value { txn, number, value } => self.coded(2, txn, *number).counted(value),
+            Answer::Value { txn, number, value } => self.coded(2, txn, *number).value(value),
             Answer::Written { txn, number } => self.coded(3, txn, *number),
             Answer::Committed { txn, number } => self.coded(4, txn, *number),
             Answer::Aborted { txn, number } => self.coded(5, txn, *number),
@@ -466,12 +609,16 @@ impl Writer<'_> {
             Answer::TimedOut { txn, number, at } => self.coded(16, txn, *number).byte(*at),
             Answer::Spent { number } => self.byte(17).u64(*number),
             Answer::TooManyLive => self.byte(18),
+            Answer::Absent { txn, number } => self.coded(19, txn, *number),
+            Answer::Deleted { txn, number } => self.coded(20, txn, *number),
+            Answer::Weighed { txn, number } => self.coded(21, txn, *number),
+            Answer::BadTable { txn, number } => self.coded(22, txn, *number),
         }
     }
 }
 
 fn encode(frame: &Frame, out: &mut Vec<u8>) {
-    let mut writer = Writer { out };
+    let mut writer = Writer { out, is_later: frame.version == 2 };
     match &frame.body {
         Body::Message(message) => writer.message(frame, message),
         Body::Call(call) => writer.head(32, frame).call(call),
@@ -485,7 +632,7 @@ fn encode(frame: &Frame, out: &mut Vec<u8>) {
 fn split(mut rest: &[u8]) -> Vec<&[u8]> {
     let mut pieces = Vec::new();
     while let Some((count, behind)) = rest.split_first_chunk() {
-        let Some((piece, behind)) = behind.split_at_checked(u16::from_be_bytes(*count).into()) else {
+        let Some((piece, behind)) = behind.split_at_checked(u32::from_be_bytes(*count) as usize) else {
             break;
         };
         pieces.push(piece);

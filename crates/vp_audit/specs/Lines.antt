@@ -13,9 +13,15 @@ use Rattle.vp_audit.specs.declared.found.Found.{Found}
 abbrev pub line : List ℕ → List ℕ → List ℕ → List ℕ
 line word name rest = word ++ (name ++ (rest ++ 10 ∷ []))
 
+-- the beginning of a line on a copy: its record, and its value if it has one
+abbrev pub content_text : List ℕ → Option (List ℕ) → List ℕ
+content_text name None = codes "absent " ++ name
+content_text name (Some value) = codes "newest " ++ (name ++ 32 ∷ value)
+
 abbrev pub newest_line : List ℕ → Option Stored → List ℕ → List ℕ
 newest_line name None sites = line (codes "unsettled ") name []
-newest_line name (Some copy) sites = line (codes "newest ") name (32 ∷ (copy.value ++ 32 ∷ (view_text copy.date ++ (codes " at " ++ sites_text sites))))
+newest_line name (Some copy) sites =
+    content_text name copy.value ++ (32 ∷ (view_text copy.date ++ (codes " at " ++ (sites_text sites ++ 10 ∷ []))))
 
 abbrev pub doubt_line : List ℕ → DoubtAt → List ℕ
 doubt_line name row = line (codes "doubt ") name (32 ∷ (txn_text row.txn ++ 32 ∷ (view_text row.view ++ (codes " at " ++ decimal row.site))))

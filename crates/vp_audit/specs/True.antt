@@ -15,8 +15,8 @@ use Rattle.vp_audit.specs.declared.found.Found.{Found}
 abbrev pub AreDown : WorldState → Parts → Type 0
 AreDown w parts = (part : ℕ × DurableState) → Contains parts part → place_of part.0 w.places ≡ Some (record { id = part.0; durable = part.1; up = None })
 
--- After each step of each schedule over the catalogue in which these sites are down with just these durable parts: where a record's value
--- is sure, the newest copy has the value that the committed transactions, by view and then by moment of commit, leave on one copy.
+-- After each step of each schedule over the catalogue in which these sites are down with just these durable parts: where a record's content,
+-- a value or none, is sure, the newest copy has the content that the committed transactions, by view and then by moment of commit, leave on one copy.
 abbrev pub IsTrueReport : Catalogue → Parts → List Found → Type 0
 IsTrueReport catalogue parts report = (s : Schedule) (m : Moment) → s.catalogue ≡ catalogue → Contains (moments_of s) m → AreDown m.after parts →
     (f : Found) → Contains report f → f.can ≡ can.Yes →

@@ -30,3 +30,9 @@ pub fn a_site_that_has_applied()
     ensures { report_text worked.both (audit_of worked.both (worked.blank_site 1 ∷ worked.applied_site ∷ [])) ≡
         codes "newest x 11 1@1 at 2\ncan x yes\n" }
 {}
+
+/// One site has applied a deletion that another has not: by the newer copy the record is absent, and that is sure.
+pub fn a_deleted_record()
+    ensures { report_text worked.both (audit_of worked.both (worked.blank_site 1 ∷ worked.deleted_site ∷ [])) ≡
+        codes "absent x 1@1 at 2\ncan x yes\n" }
+{}

@@ -2,6 +2,7 @@
 use Rattle.std.specs.Prelude.{ℕ, ◌≤◌, ◌<◌, ◌^◌}
 use Rattle.vp_base.specs.Words.{IsName, IsValue}
 use Rattle.vp_base.specs.Identifiers.{IsTxn}
+use Rattle.vp_base.specs.Tables.{IsTable}
 use Rattle.vp_base.specs.declared.ids.TxnId.{TxnId}
 use Rattle.vp_base.specs.declared.event.Call.{Call}
 use Rattle.vp_base.specs.declared.event.Call.TheVariants as call
@@ -19,3 +20,5 @@ IsCall (call.Read txn number name) = IsNumbered txn number × IsName name name
 IsCall (call.Write txn number name value) = IsNumbered txn number × IsName name name × IsValue value value
 IsCall (call.Commit txn number) = IsNumbered txn number
 IsCall (call.Abort txn number) = IsNumbered txn number
+IsCall (call.Delete txn number name) = IsNumbered txn number × IsName name name
+IsCall (call.Weigh txn number name table) = IsNumbered txn number × IsName name name × IsTable table

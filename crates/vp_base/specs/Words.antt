@@ -8,7 +8,7 @@ use Rattle.vp_text.specs.declared.class.Class.TheVariants.{Name, Value}
 abbrev pub IsName : List ℕ → List ℕ → Type 0
 IsName = IsWord (has Name) (most Name)
 
--- 1 to 64 printable bytes without spaces: the value and its text are the same bytes
+-- 1 to 1,024 printable bytes without spaces: the value and its text are the same bytes
 abbrev pub IsValue : List ℕ → List ℕ → Type 0
 IsValue = IsWord (has Value) (most Value)
 

@@ -1,7 +1,7 @@
 //! Copies of the shared types: each `copy_of` gives an equal value of its own, or fails for want of memory.
 
 use crate::answer::{Answer, Reply};
-use crate::entry::{Commit, Decision, Doubt, LogRecord, Op, Owner, Stored, View};
+use crate::entry::{Change, Commit, Decision, Doubt, LogRecord, Op, Owner, Put, Stored, View};
 use crate::event::{Call, Effects, Event, Input, Line, Shown};
 use crate::ids::{CallNo, RecId, SiteId, TxnId, ViewId};
 use crate::memory::NoMemory;
@@ -58,6 +58,42 @@ impl CopyOf for u16 {
     }
 }
 
+impl CopyOf for u32 {
+    fn copy_of(&self) -> Result<u32, NoMemory> {
+        Ok(*self)
+    }
+}
+
+impl<A: CopyOf> CopyOf for Option<A> {
+    fn copy_of(&self) -> Result<Option<A>, NoMemory> {
+        Ok(match self {
+            Some(a) => Some(a.copy_of()?),
+            None => None,
+        })
+    }
+}
+
+impl CopyOf for Put {
+    fn copy_of(&self) -> Result<Put, NoMemory> {
+        Ok(match *self {
+            Put::Keep => Put::Keep,
+            Put::Absent => Put::Absent,
+            Put::Value { ref value } => Put::Value {
+                value: value.copy_of()?,
+            },
+        })
+    }
+}
+
+impl CopyOf for Change {
+    fn copy_of(&self) -> Result<Change, NoMemory> {
+        Ok(Change {
+            put: self.put.copy_of()?,
+            table: self.table.copy_of()?,
+        })
+    }
+}
+
 impl<A: CopyOf, B: CopyOf> CopyOf for (A, B) {
     fn copy_of(&self) -> Result<(A, B), NoMemory> {
         Ok((self.0.copy_of()?, self.1.copy_of()?))
@@ -96,6 +132,7 @@ impl CopyOf for Stored {
     fn copy_of(&self) -> Result<Stored, NoMemory> {
         Ok(Stored {
             value: self.value.copy_of()?,
+            table: self.table.copy_of()?,
             date: self.date,
         })
     }
@@ -107,6 +144,7 @@ impl CopyOf for Commit {
             txn: self.txn,
             view: self.view,
             ops: self.ops.copy_of()?,
+            tables: self.tables.copy_of()?,
         })
     }
 }
@@ -252,6 +290,45 @@ impl CopyOf for LogRecord {
                 doubts: doubts.copy_of()?,
                 decisions: decisions.copy_of()?,
             },
+            LogRecord::YesOfValues {
+                txn,
+                view,
+                ref writes,
+            } => LogRecord::YesOfValues {
+                txn,
+                view,
+                writes: writes.copy_of()?,
+            },
+            LogRecord::CommitOfValues {
+                txn,
+                view,
+                ref writes,
+                ref waiting,
+            } => LogRecord::CommitOfValues {
+                txn,
+                view,
+                writes: writes.copy_of()?,
+                waiting: waiting.copy_of()?,
+            },
+            LogRecord::CopyOfValue { rec, ref stored } => LogRecord::CopyOfValue {
+                rec,
+                stored: stored.copy_of()?,
+            },
+            LogRecord::CheckpointOfValues {
+                generation,
+                life,
+                promise,
+                ref copies,
+                ref doubts,
+                ref decisions,
+            } => LogRecord::CheckpointOfValues {
+                generation,
+                life,
+                promise,
+                copies: copies.copy_of()?,
+                doubts: doubts.copy_of()?,
+                decisions: decisions.copy_of()?,
+            },
         })
     }
 }
@@ -261,6 +338,7 @@ impl CopyOf for Obstacle {
         Ok(match *self {
             Obstacle::Held { owner } => Obstacle::Held { owner },
             Obstacle::OtherView { now } => Obstacle::OtherView { now },
+            Obstacle::Barred { inside, total } => Obstacle::Barred { inside, total },
         })
     }
 }
@@ -413,6 +491,10 @@ impl CopyOf for Answer {
             Answer::TimedOut { txn, number, at } => Answer::TimedOut { txn, number, at },
             Answer::Spent { number } => Answer::Spent { number },
             Answer::TooManyLive => Answer::TooManyLive,
+            Answer::Absent { txn, number } => Answer::Absent { txn, number },
+            Answer::Deleted { txn, number } => Answer::Deleted { txn, number },
+            Answer::Weighed { txn, number } => Answer::Weighed { txn, number },
+            Answer::BadTable { txn, number } => Answer::BadTable { txn, number },
         })
     }
 }
@@ -444,6 +526,26 @@ impl CopyOf for Call {
             },
             Call::Commit { txn, number } => Call::Commit { txn, number },
             Call::Abort { txn, number } => Call::Abort { txn, number },
+            Call::Delete {
+                txn,
+                number,
+                ref name,
+            } => Call::Delete {
+                txn,
+                number,
+                name: name.duplicate(),
+            },
+            Call::Weigh {
+                txn,
+                number,
+                ref name,
+                ref table,
+            } => Call::Weigh {
+                txn,
+                number,
+                name: name.duplicate(),
+                table: table.copy_of()?,
+            },
         })
     }
 }
@@ -525,6 +627,15 @@ impl CopyOf for Ending {
             },
             Ending::ViewChanged { at, held, now } => Ending::ViewChanged { at, held, now },
             Ending::TimedOut { at } => Ending::TimedOut { at },
+            Ending::Inaccessible {
+                ref name,
+                inside,
+                total,
+            } => Ending::Inaccessible {
+                name: name.duplicate(),
+                inside,
+                total,
+            },
         })
     }
 }

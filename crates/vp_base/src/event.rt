@@ -6,7 +6,7 @@ ghost use Rattle.vp_base.specs.Effects.{with_entry, with_commit, with_reply, wit
 use crate::answer::{Answer, Reply};
 use crate::entry::{Commit, LogRecord};
 use crate::ids::{CallNo, SiteId, TxnId};
-use crate::lists::{Batch, Commits, Messages, Replies};
+use crate::lists::{Batch, Commits, Messages, Replies, Table};
 use crate::memory::NoMemory;
 use crate::message::{Message, Sent};
 use crate::seq::CopyOf;
@@ -43,6 +43,19 @@ pub enum Call {
     Abort {
         txn: TxnId,
         number: CallNo,
+    },
+    /// Deletes a record: it has no value after that, until it is written again.
+    Delete {
+        txn: TxnId,
+        number: CallNo,
+        name: Name,
+    },
+    /// Gives the copies of a record other weights.
+    Weigh {
+        txn: TxnId,
+        number: CallNo,
+        name: Name,
+        table: Table,
     },
 }
 

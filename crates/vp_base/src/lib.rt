@@ -26,7 +26,7 @@ mod view_text;
 
 pub use answer::{Answer, Reply};
 pub use boxed::Boxed;
-pub use entry::{Commit, Decision, Doubt, LogRecord, Op, Owner, Stored, View};
+pub use entry::{Change, Commit, Decision, Doubt, LogRecord, Op, Owner, Put, Stored, View};
 pub use event::{Call, Counted, Effects, Event, Input, Line, Shown};
 pub use fault::{BadName, LineFault, NameFault};
 pub use ids::{CallNo, OPENING, RecId, SiteId, TxnId, ViewId};
@@ -35,8 +35,8 @@ pub use limits::{
     MOST_STEPS,
 };
 pub use lists::{
-    Batch, Batches, Commits, Copies, Decisions, Events, InDoubt, Messages, Names, Ops, Recs,
-    Replies, Sites, Txns, Word, Writes,
+    Bars, Batch, Batches, Commits, Copies, Decisions, Events, InDoubt, Messages, Names, Ops, Recs,
+    Replies, Sites, Table, Tables, Txns, Word, Writes,
 };
 pub use memory::NoMemory;
 pub use message::{Message, Obstacle, Sent};

@@ -1,13 +1,12 @@
 //! The lists that sites, logs and schedules share.
 
 use crate::answer::Reply;
-use crate::entry::{Commit, Decision, Doubt, LogRecord, Op, Stored};
+use crate::entry::{Change, Commit, Decision, Doubt, LogRecord, Op, Stored};
 use crate::event::Event;
 use crate::ids::{RecId, SiteId, TxnId};
 use crate::message::Sent;
 use crate::seq::Seq;
 use crate::text::Name;
-use crate::value::Value;
 
 /// Sites, ascending.
 pub type Sites = Seq<SiteId>;
@@ -29,8 +28,14 @@ pub type Names = Seq<Name>;
 pub type Txns = Seq<TxnId>;
 /// Records, ascending; 64 at most.
 pub type Recs = Seq<RecId>;
-/// The last value written to each record, ascending by record; 64 at most.
-pub type Writes = Seq<(RecId, Value)>;
+/// A weight for each holder of a record, ascending by site.
+pub type Table = Seq<(SiteId, u16)>;
+/// Records with the tables that a transaction gave them, ascending by record; 64 at most.
+pub type Tables = Seq<(RecId, Table)>;
+/// Records that may not be used in the held view, with the weight inside it and the whole weight, ascending by record.
+pub type Bars = Seq<(RecId, (u32, u32))>;
+/// The last change of each changed record, ascending by record; 64 at most.
+pub type Writes = Seq<(RecId, Change)>;
 /// Copies, ascending by record.
 pub type Copies = Seq<(RecId, Stored)>;
 /// Transactions in doubt, ascending.

@@ -5,7 +5,7 @@ use crate::boxed::Boxed;
 use crate::entry::{Owner, Stored};
 use crate::event::Call;
 use crate::ids::{CallNo, RecId, SiteId, TxnId, ViewId};
-use crate::lists::{Ops, Sites};
+use crate::lists::{Ops, Sites, Tables};
 use crate::seq::Seq;
 use crate::text::Name;
 
@@ -64,6 +64,7 @@ pub struct Live {
     pub txn: TxnId,
     pub view: ViewId,
     pub ops: Ops,
+    pub tables: Tables,
     pub remote: Seq<(SiteId, RecId)>,
     pub parts: Sites,
     pub answers: Seq<Answer>,
@@ -76,6 +77,7 @@ impl Drop for Live {
             txn: _,
             view: _,
             ops: _,
+            tables: _,
             remote: _,
             parts: _,
             answers: _,
@@ -115,6 +117,12 @@ pub enum Ending {
     /// It was aborted, since its call was still pending a tick later.
     TimedOut {
         at: SiteId,
+    },
+    /// A site that was asked may not use the record in its view.
+    Inaccessible {
+        name: Name,
+        inside: u32,
+        total: u32,
     },
 }
 

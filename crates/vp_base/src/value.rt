@@ -28,7 +28,7 @@ enum Bytes {
     Long { bytes: Rc<Vec<u8>> },
 }
 
-/// The value of a record: 1 to 64 printed bytes of ASCII, without spaces. A copy of it takes no memory.
+/// The value of a record: 1 to 1,024 printed bytes of ASCII, without spaces. A copy of it takes no memory.
 #[derive(Drop)]
 pub struct Value {
     bytes: Bytes,

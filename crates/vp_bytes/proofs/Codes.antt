@@ -1,5 +1,5 @@
 -- The codes of kinds are read exactly, and so are fields without bytes.
-use Rattle.std.proofs.Common.{◌≡◌, ℕ, Bool, true, false, cond, eqb, List, [], ◌∷◌, ◌++◌, length, Option, Some, None, Ok, Err, refl, sym, ap, ◌∙◌, arith}
+use Rattle.std.proofs.Common.{◌≡◌, ℕ, Bool, true, false, cond, eqb, List, [], ◌∷◌, ◌++◌, length, Option, Some, None, Ok, Err, refl, sym, ap, subst, ◌∙◌, arith}
 use Rattle.std.proofs.lemmas.Bool.{eqb-true}
 use Rattle.std.proofs.lemmas.List.{length-append}
 use Rattle.std.specs.List.{AllByRecursion}
@@ -25,42 +25,43 @@ nothing_exact {A = A} none = record {
 -- ---- codes
 
 module _ {K : Type 0} (code : K → ℕ) (of : ℕ → Option K) where
-  -- The text is the code of the kind.
-  abbrev pub IsCode : K → List ℕ → Type 0
-  IsCode kind text = text ≡ code kind ∷ []
+  -- The text is the code of the kind, which is found by it.
+  pub record IsCode (kind : K) (text : List ℕ) : Type 0 where
+    pub is : text ≡ code kind ∷ []
+    pub found : of (code kind) ≡ Some kind
 
-  -- a code means the kind that is found by it
+  -- a code means the kind that is found by it, and some kind is
   pub record Codes : Type 0 where
-    pub found : (kind : K) → of (code kind) ≡ Some kind
     pub only : (c : ℕ) (kind : K) → of c ≡ Some kind → code kind ≡ c
     pub some : K
+    pub there : of (code some) ≡ Some some
 
   pub code_free : IsFree IsCode
-  code_free = even_free {L = IsCode} 1 (λ kind t h. ap length h)
+  code_free = even_free {L = IsCode} 1 (λ kind t h. ap length h.is)
 
-  pub code_one : Codes → IsOne IsCode
-  code_one w a b t h k =
-      let same : code a ∷ [] ≡ code b ∷ [] = sym h ∙ k in
+  pub code_one : IsOne IsCode
+  code_one a b t h k =
+      let same : code a ∷ [] ≡ code b ∷ [] = sym h.is ∙ k.is in
       let codes : code a ≡ code b = cc in
-      let kinds : Some a ≡ Some b = sym (w.found a) ∙ ap of codes ∙ w.found b in
+      let kinds : Some a ≡ Some b = sym h.found ∙ ap of codes ∙ k.found in
       cc
 
   ends : (c : ℕ) (rest : List ℕ) (b : K) (r : List ℕ) → IsCode b (c ∷ r) → Apart r rest
   ends c rest b [] h = tt
-  ends c rest b (x ∷ r) h = absurd (omega (arith, ap length h))
+  ends c rest b (x ∷ r) h = absurd (omega (arith, ap length h.is))
 
   some_none : (kind : K) → Some kind ≡ None → ⊥
   some_none kind e = cc
 
-  diverges : Codes → (c : ℕ) (cs : List ℕ) → of c ≡ None → (b : K) (r : List ℕ) → IsCode b r → Parts r (c ∷ cs)
-  diverges w c cs fails b [] h = absurd (omega (arith, ap length h))
-  diverges w c cs fails b (x ∷ r) h = λ same.
-      let is : x ∷ r ≡ code b ∷ [] = h in
+  diverges : (c : ℕ) (cs : List ℕ) → of c ≡ None → (b : K) (r : List ℕ) → IsCode b r → Parts r (c ∷ cs)
+  diverges c cs fails b [] h = absurd (omega (arith, ap length h.is))
+  diverges c cs fails b (x ∷ r) h = λ same.
+      let is : x ∷ r ≡ code b ∷ [] = h.is in
       let first : x ≡ code b = cc in
-      some_none b (sym (w.found b) ∙ ap of (sym first ∙ same) ∙ fails)
+      some_none b (sym h.found ∙ ap of (sym first ∙ same) ∙ fails)
 
   nothing : (b : K) (r : List ℕ) → IsCode b r → Parts r []
-  nothing b [] h = absurd (omega (arith, ap length h))
+  nothing b [] h = absurd (omega (arith, ap length h.is))
   nothing b (x ∷ r) h = tt
 
   taken : Codes → (c : ℕ) (cs : List ℕ) (kind : K) → of c ≡ Some kind → IsRight IsCode (c ∷ cs) (Ok (kind, cs))
@@ -69,13 +70,13 @@ module _ {K : Type 0} (code : K → ℕ) (of : ℕ → Option K) where
         let same : (kind, cs) ≡ (a, rest) = ok_value (kind, cs) (a, rest) h in
         let first : kind ≡ a = ap (λ (x : K × List ℕ). x.0) same in
         let last : cs ≡ rest = ap (λ (x : K × List ℕ). x.1) same in
-        record { text = c ∷ []; spelled = ap (λ (x : ℕ). x ∷ []) (sym (w.only c kind holds) ∙ ap code first); parts = ap (λ (t : List ℕ). c ∷ t) last; ends = λ b r l. ends c rest b r l };
+        record { text = c ∷ []; spelled = record { is = ap (λ (x : ℕ). x ∷ []) (sym (w.only c kind holds) ∙ ap code first); found = subst (λ (k : K). of (code k) ≡ Some k) first (ap of (w.only c kind holds) ∙ holds) }; parts = ap (λ (t : List ℕ). c ∷ t) last; ends = λ b r l. ends c rest b r l };
     err = λ left h. absurd (let never : done (kind, cs) ≡ Err left = h in cc);
     again = λ a text rest at l stops.
-        let whole : c ∷ cs ≡ code a ∷ rest = at ∙ ap (λ (t : List ℕ). t ++ rest) l in
+        let whole : c ∷ cs ≡ code a ∷ rest = at ∙ ap (λ (t : List ℕ). t ++ rest) l.is in
         let first : c ≡ code a = cc in
         let last : cs ≡ rest = cc in
-        let kinds : Some kind ≡ Some a = sym holds ∙ ap of first ∙ w.found a in
+        let kinds : Some kind ≡ Some a = sym holds ∙ ap of first ∙ l.found in
         let same : kind ≡ a = cc in
         rw (same, last) refl;
   }
@@ -88,13 +89,13 @@ module _ {K : Type 0} (code : K → ℕ) (of : ℕ → Option K) where
       rest = c ∷ cs;
       parts = refl;
       left_is = cc;
-      begins = record { value = w.some; more = code w.some ∷ []; spelled = refl };
-      diverges = λ b r l. diverges w c cs fails b r l;
+      begins = record { value = w.some; more = code w.some ∷ []; spelled = record { is = refl; found = w.there } };
+      diverges = λ b r l. diverges c cs fails b r l;
     };
     again = λ a text rest at l stops.
-        let whole : c ∷ cs ≡ code a ∷ rest = at ∙ ap (λ (t : List ℕ). t ++ rest) l in
+        let whole : c ∷ cs ≡ code a ∷ rest = at ∙ ap (λ (t : List ℕ). t ++ rest) l.is in
         let first : c ≡ code a = cc in
-        absurd (some_none a (sym (w.found a) ∙ ap of (sym first) ∙ fails));
+        absurd (some_none a (sym l.found ∙ ap of (sym first) ∙ fails));
   }
 
   ended : Codes → IsRight IsCode [] (Err 0)
@@ -105,10 +106,10 @@ module _ {K : Type 0} (code : K → ℕ) (of : ℕ → Option K) where
       rest = [];
       parts = refl;
       left_is = cc;
-      begins = record { value = w.some; more = code w.some ∷ []; spelled = refl };
+      begins = record { value = w.some; more = code w.some ∷ []; spelled = record { is = refl; found = w.there } };
       diverges = λ b r l. nothing b r l;
     };
-    again = λ a text rest at l stops. absurd (omega (arith, ap length at, length-append text rest, ap length l));
+    again = λ a text rest at l stops. absurd (omega (arith, ap length at, length-append text rest, ap length l.is));
   }
 
   right : Codes → (bytes : List ℕ) → IsRight IsCode bytes (code_at of bytes)

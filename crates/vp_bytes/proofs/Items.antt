@@ -1,4 +1,4 @@
--- Names, values, sites, records and writes are read exactly.
+-- Names, sites and records are read exactly, and so is a run of bytes of a class.
 use Rattle.std.proofs.Common.{◌≡◌, ℕ, zero, suc, ◌+◌, ◌-◌, ◌≤◌, Bool, true, List, [], ◌∷◌, length, flat_map, nat_le, Ok, refl, sym, ap, subst, ◌∙◌, arith}
 use Rattle.std.proofs.lemmas.Bool.{le-leb, leb-true}
 use Rattle.std.specs.List.{AllByRecursion}
@@ -7,22 +7,21 @@ use Rattle.vp_text.specs.Classes.{has, most}
 use Rattle.vp_text.specs.declared.class.Class.{Class}
 use Rattle.vp_text.specs.declared.class.Class.TheVariants as classes
 use Rattle.vp_text.proofs.Exact.{Exact, Then, Made, made_exact, exact_as, IsOne}
-use Rattle.vp_base.specs.Words.{IsValue}
-use Rattle.vp_bytes.specs.Fields.{Spelled, counted_bytes, write_bytes, IsAscending, IsAscendingWrites, IsNameBytes, IsValueBytes, IsSitesBytes, IsRecsBytes, IsWritesBytes}
-use Rattle.vp_bytes.specs.Reading.{byte_at, within, counted_at, ascending_at, word_at, word_run_at, name_at, value_at, sites_at, recs_at, write_at, writes_at}
+use Rattle.vp_bytes.specs.Fields.{Spelled, counted_bytes, IsAscending, IsNameBytes, IsSitesBytes, IsRecsBytes}
+use Rattle.vp_bytes.specs.Reading.{byte_at, within, counted_at, ascending_at, word_at, word_run_at, name_at, sites_at, recs_at}
 use Rattle.vp_bytes.proofs.Free.{IsFree, IsByteOf, byte_free, byte_one, byte_exact, free_then, then_free, made_free, free_as}
 use Rattle.vp_bytes.proofs.Identifiers.{within_exact, within_from, within_to}
-use Rattle.vp_bytes.proofs.Runs.{HasRun, Runs, run_exact, Counted, counted_exact, counted_free}
+use Rattle.vp_bytes.proofs.Runs.{HasRun, Runs, run_exact, run_free, Counted, counted_exact, counted_free}
 
 -- ---- words
 
-abbrev Byte : Class → ℕ → ℕ → ℕ → List ℕ → Type 0
+abbrev pub Byte : Class → ℕ → ℕ → ℕ → List ℕ → Type 0
 Byte class n least = IsByteOf (has class)
 
-always : ℕ → ℕ → Bool
+pub always : ℕ → ℕ → Bool
 always n least = true
 
-abbrev WordRun : Class → ℕ → ℕ → List ℕ → List ℕ → Type 0
+abbrev pub WordRun : Class → ℕ → ℕ → List ℕ → List ℕ → Type 0
 WordRun class = HasRun (λ _. 0) (Byte class) (λ n least bytes. byte_at (has class) bytes) always
 
 class_byte : (class : Class) → Exact (IsByteOf (has class)) (byte_at (has class))
@@ -33,14 +32,14 @@ word_runs : (class : Class) → Runs (λ _. 0) (Byte class) (λ n least bytes. b
 unfolding always
 word_runs class = record { exact = λ n least m. class_byte class; free = λ n least. byte_free; one = λ n least. byte_one; on = λ n least x t m l. refl }
 
-word_to : (class : Class) (n least : ℕ) (w t : List ℕ) → WordRun class n least w t → (t ≡ w) × (length w ≡ n) × AllByRecursion (λ c. has class c ≡ true) w
+pub word_to : (class : Class) (n least : ℕ) (w t : List ℕ) → WordRun class n least w t → (t ≡ w) × (length w ≡ n) × AllByRecursion (λ c. has class c ≡ true) w
 word_to class zero least w t h = (h.0 ∙ sym h.1, ap length h.1, subst (AllByRecursion (λ c. has class c ≡ true)) (sym h.1) tt)
 word_to class (suc n) least w t h =
     let k = word_to class n 1 h.after.from h.back h.after.spelled in
     let whole : t ≡ h.first ∷ h.after.from = rw (h.parts, h.before.is, k.0) refl in
     (whole ∙ sym h.after.is, ap length h.after.is ∙ ap (λ (n : ℕ). suc n) k.1, subst (AllByRecursion (λ c. has class c ≡ true)) (sym h.after.is) (h.before.admitted, k.2))
 
-word_from : (class : Class) (n least : ℕ) (w : List ℕ) → length w ≡ n → AllByRecursion (λ c. has class c ≡ true) w → WordRun class n least w w
+pub word_from : (class : Class) (n least : ℕ) (w : List ℕ) → length w ≡ n → AllByRecursion (λ c. has class c ≡ true) w → WordRun class n least w w
 word_from class zero least [] e h = (refl, refl)
 word_from class zero least (c ∷ w) e h = absurd (omega (arith, e))
 word_from class (suc n) least [] e h = absurd (omega (arith, e))
@@ -92,18 +91,19 @@ name_exact = class_exact classes.Name (omega arith)
 pub name_free : IsFree IsNameBytes
 name_free = class_free classes.Name
 
-pub value_exact : Exact IsValueBytes value_at
-unfolding value_at
-value_exact = class_exact classes.Value (omega arith)
+-- a given count of bytes of the class
+pub word_run_exact : (class : Class) (count : ℕ) → Exact (WordRun class count 1) (word_run_at class count)
+unfolding always
+word_run_exact class count = run_exact (λ _. 0) (Byte class) (λ n least bytes. byte_at (has class) bytes) always (word_runs class) count 1 refl
 
-pub value_free : IsFree IsValueBytes
-value_free = class_free classes.Value
+pub word_run_free : (class : Class) (count : ℕ) → IsFree (WordRun class count 1)
+word_run_free class count = run_free (λ _. 0) (Byte class) (λ n least bytes. byte_at (has class) bytes) always (word_runs class) count 1
 
 -- the bytes that are read of a word
 pub word_allowed : (class : Class) (count : ℕ) (bytes w rest : List ℕ) → 1 ≤ count → count ≤ most class → word_run_at class count bytes ≡ Ok (w, rest) → IsWord (has class) (most class) w w
 unfolding always
 word_allowed class count bytes w rest some short read =
-    let p = (run_exact (λ _. 0) (Byte class) (λ n least bytes. byte_at (has class) bytes) always (word_runs class) count 1 refl).ok bytes w rest read in
+    let p = (word_run_exact class count).ok bytes w rest read in
     let k = word_to class count 1 w p.text p.spelled in
     record { is = refl; some = omega (arith, some, k.1); short = omega (arith, short, k.1); each = k.2 }
 
@@ -130,7 +130,7 @@ fits_to most n least h = leb-true (least + n) (suc most) h
 pub room_exact : (most n least : ℕ) → fits most (suc n) least ≡ true → Exact (Ascending most n least) (ascending_at most n least)
 room_exact most n least m = let le = fits_to most (suc n) least m in within_exact least (most - n) (omega (arith, le))
 
-fits_on : (most n least x : ℕ) → fits most (suc n) least ≡ true → within least (most - n) x ≡ true → fits most n (suc x) ≡ true
+pub fits_on : (most n least x : ℕ) → fits most (suc n) least ≡ true → within least (most - n) x ≡ true → fits most n (suc x) ≡ true
 fits_on most n least x m a =
     let le = fits_to most (suc n) least m in
     let range = within_to least (most - n) x a in
@@ -215,95 +215,3 @@ recs_exact = exact_as (λ xs t h. record { is = h.is; allowed = (h.allowed.short
 
 pub recs_free : IsFree IsRecsBytes
 recs_free = free_as recs_from (list_free 255 0 64 0)
-
--- ---- writes
-
-abbrev Write : ℕ → ℕ → ℕ × List ℕ → List ℕ → Type 0
-Write n least = Then (IsByteOf (within least (255 - n))) (λ rec. Made IsValueBytes (λ value. (rec, value)))
-
-abbrev WriteRun : ℕ → ℕ → List (ℕ × List ℕ) → List ℕ → Type 0
-WriteRun = HasRun (λ write. write.0) Write write_at (fits 255)
-
-write_exact : (n least : ℕ) → fits 255 (suc n) least ≡ true → Exact (Write n least) (write_at n least)
-unfolding write_at
-write_exact n least m = free_then byte_free (room_exact 255 n least m) (λ rec. made_exact (λ value. (rec, value)) value_exact)
-
-write_free : (n least : ℕ) → IsFree (Write n least)
-write_free n least = then_free {M = λ rec. Made IsValueBytes (λ value. (rec, value))} byte_one byte_free (λ rec. made_free value_free)
-
--- its record and its bytes
-write_spelled : (n least : ℕ) (w : ℕ × List ℕ) (t : List ℕ) → Write n least w t → (within least (255 - n) w.0 ≡ true) × (t ≡ write_bytes w) × IsValue w.1 w.1
-write_spelled n least w t h =
-    let f : (v : ℕ × List ℕ) → v ≡ (h.first, h.after.from) → (within least (255 - n) v.0 ≡ true) × (t ≡ write_bytes v) × IsValue v.1 v.1 = λ v e. rw e (h.before.admitted, rw (h.parts, h.before.is, h.after.spelled.is) refl, h.after.spelled.allowed) in
-    f w h.after.is
-
-write_one : (n least : ℕ) → IsOne (Write n least)
-write_one n least a b t h k =
-    let x = write_spelled n least a t h in
-    let y = write_spelled n least b t k in
-    let same : write_bytes a ≡ write_bytes b = sym x.1 ∙ y.1 in
-    let first : a.0 ≡ b.0 = let e : a.0 ∷ (length a.1 ∷ a.1) ≡ b.0 ∷ (length b.1 ∷ b.1) = same in cc in
-    let last : a.1 ≡ b.1 = let e : a.0 ∷ (length a.1 ∷ a.1) ≡ b.0 ∷ (length b.1 ∷ b.1) = same in cc in
-    rw (first, last) refl
-
-write_runs : Runs (λ write. write.0) Write write_at (fits 255)
-write_runs = record { exact = write_exact; free = write_free; one = write_one; on = λ n least x t m l. fits_on 255 n least x.0 m (write_spelled n least x t l).0 }
-
-writes_to : (n least : ℕ) (ws : List (ℕ × List ℕ)) (t : List ℕ) → fits 255 n least ≡ true → WriteRun n least ws t → (t ≡ flat_map write_bytes ws) × (length ws ≡ n) × IsAscendingWrites least ws
-writes_to zero least ws t m h = (h.0 ∙ ap (flat_map write_bytes) (sym h.1), ap length h.1, subst (IsAscendingWrites least) (sym h.1) tt)
-writes_to (suc n) least ws t m h =
-    let w = write_spelled n least h.first h.front h.before in
-    let range = within_to least (255 - n) h.first.0 w.0 in
-    let k = writes_to n (suc h.first.0) h.after.from h.back (fits_on 255 n least h.first.0 m w.0) h.after.spelled in
-    let whole : t ≡ flat_map write_bytes (h.first ∷ h.after.from) = rw (h.parts, w.1, k.0) refl in
-    (whole ∙ ap (flat_map write_bytes) (sym h.after.is), ap length h.after.is ∙ ap (λ (n : ℕ). suc n) k.1, subst (IsAscendingWrites least) (sym h.after.is) (range.0, omega (arith, range.1), w.2, k.2))
-
-writes_room : (least : ℕ) (ws : List (ℕ × List ℕ)) → least ≤ 256 → IsAscendingWrites least ws → least + length ws ≤ 256
-writes_room least [] le h = omega (arith, le)
-writes_room least (w ∷ ws) le h = omega (arith, h.0, writes_room (suc w.0) ws (omega (arith, h.1)) h.3)
-
-writes_from : (n least : ℕ) (ws : List (ℕ × List ℕ)) → length ws ≡ n → IsAscendingWrites least ws → WriteRun n least ws (flat_map write_bytes ws)
-writes_from zero least [] e h = (refl, refl)
-writes_from zero least (w ∷ ws) e h = absurd (omega (arith, e))
-writes_from (suc n) least [] e h = absurd (omega (arith, e))
-writes_from (suc n) least (w ∷ ws) e h = record {
-  first = w;
-  front = write_bytes w;
-  back = flat_map write_bytes ws;
-  before = record {
-    first = w.0;
-    front = w.0 ∷ [];
-    back = counted_bytes w.1;
-    before = record { is = refl; admitted = within_from least (255 - n) w.0 h.0 (omega (arith, e, writes_room (suc w.0) ws (omega (arith, h.1)) h.3)) };
-    after = record { from = w.1; spelled = record { is = refl; allowed = h.2 }; is = refl };
-    parts = refl;
-  };
-  after = record { from = ws; spelled = writes_from n (suc w.0) ws (omega (arith, e)) h.3; is = refl };
-  parts = refl;
-}
-
-abbrev CountedWrites : List (ℕ × List ℕ) → List ℕ → Type 0
-CountedWrites = Counted (λ write. write.0) Write write_at (fits 255) 0 64 0
-
-counted_writes_to : (ws : List (ℕ × List ℕ)) (t : List ℕ) → CountedWrites ws t → IsWritesBytes ws t
-counted_writes_to ws t h =
-    let range = within_to 0 64 h.first h.before.admitted in
-    let k = writes_to h.first 0 ws h.back (fits_from 255 h.first 0 (omega (arith, range.1))) h.after in
-    record { is = rw (h.parts, h.before.is, k.0, ← k.1) refl; allowed = (omega (arith, range.1, k.1), k.2) }
-
-counted_writes_from : (ws : List (ℕ × List ℕ)) (t : List ℕ) → IsWritesBytes ws t → CountedWrites ws t
-counted_writes_from ws t h = record {
-  first = length ws;
-  front = length ws ∷ [];
-  back = flat_map write_bytes ws;
-  before = record { is = refl; admitted = within_from 0 64 (length ws) (omega arith) h.allowed.0 };
-  after = writes_from (length ws) 0 ws refl h.allowed.1;
-  parts = h.is;
-}
-
-pub writes_exact : Exact IsWritesBytes writes_at
-unfolding writes_at
-writes_exact = exact_as counted_writes_to counted_writes_from (counted_exact (λ write. write.0) Write write_at (fits 255) write_runs 0 64 0 (omega arith) (λ n h. fits_from 255 n 0 (omega (arith, (within_to 0 64 n h).1))))
-
-pub writes_free : IsFree IsWritesBytes
-writes_free = free_as counted_writes_from (counted_free (λ write. write.0) Write write_at (fits 255) write_runs 0 64 0)

@@ -14,10 +14,8 @@ pub mod NumbersWithin
 pub mod RangeSteps
 pub mod RangeTaken
 pub mod Ascending
-pub mod CopiesExact
 pub mod Ranks
 pub mod TxnsBetween
 pub mod AscendingTxns
-pub mod DoubtsExact
 pub mod DecisionsExact
 pub mod Writing

@@ -71,7 +71,7 @@ owner_exact = exact_as owner_to owner_from (marked_exact (λ x. owner.Txn x) own
 
 -- ---- none of them goes on to a longer one
 
-after_free : {A B : Type 0} {L : A → List ℕ → Type 0} (make : A → B) (none : B) → IsFree L → (b : Bool) → IsFree (Following L make none b)
+pub after_free : {A B : Type 0} {L : A → List ℕ → Type 0} (make : A → B) (none : B) → IsFree L → (b : Bool) → IsFree (Following L make none b)
 after_free {L = L} make none free true = even_free {L = Following L make none true} 0 (λ b t h. ap length h.0)
 after_free make none free false = made_free free
 

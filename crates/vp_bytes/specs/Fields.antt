@@ -1,7 +1,7 @@
 -- Fields of frames and of log records: the bytes of each one. Numbers have their highest byte first.
-use Rattle.std.specs.Prelude.{◌≡◌, ℕ, suc, ◌≤◌, ◌<◌, ◌^◌, List, [], ◌∷◌, ◌++◌, length, Bool, true, false, Option, Some, None, flat_map}
+use Rattle.std.specs.Prelude.{◌≡◌, ℕ, suc, ◌≤◌, ◌<◌, ◌^◌, List, [], ◌∷◌, ◌++◌, length, Bool, true, false, Option, Some, None}
 use Rattle.byteorder.specs.Endian.{big_bytes}
-use Rattle.vp_base.specs.Words.{IsName, IsValue}
+use Rattle.vp_base.specs.Words.{IsName}
 use Rattle.vp_base.specs.Identifiers.{IsView, IsTxn}
 use Rattle.vp_base.specs.Calls.{IsNumbered}
 use Rattle.vp_base.specs.declared.ids.ViewId.{ViewId}
@@ -29,15 +29,9 @@ abbrev pub owner_bytes : Owner → List ℕ
 owner_bytes owner.Refresh = 0 ∷ []
 owner_bytes (owner.Txn txn) = 1 ∷ txn_bytes txn
 
--- bytes after their count: of a name, a value, sites, records
+-- bytes after their count: of a name, sites, records
 abbrev pub counted_bytes : List ℕ → List ℕ
 counted_bytes items = length items ∷ items
-
-abbrev pub write_bytes : ℕ × List ℕ → List ℕ
-write_bytes write = write.0 ∷ counted_bytes write.1
-
-abbrev pub writes_bytes : List (ℕ × List ℕ) → List ℕ
-writes_bytes writes = length writes ∷ flat_map write_bytes writes
 
 -- the transaction and the number of a call
 abbrev pub numbered_bytes : TxnId → ℕ → List ℕ
@@ -84,15 +78,6 @@ IsSites few sites = (few ≤ length sites) × (length sites ≤ 16) × IsAscendi
 abbrev pub IsRecs : List ℕ → Type 0
 IsRecs recs = (length recs ≤ 64) × IsAscending 0 255 recs
 
--- writes by their records, each above the one before it
-abbrev pub IsAscendingWrites : ℕ → List (ℕ × List ℕ) → Type 0
-IsAscendingWrites least [] = Unit {0}
-IsAscendingWrites least (write ∷ writes) = (least ≤ write.0) × IsRecord write.0 × IsValue write.1 write.1 × IsAscendingWrites (suc write.0) writes
-
--- up to 64 writes, ascending
-abbrev pub IsWrites : List (ℕ × List ℕ) → Type 0
-IsWrites writes = (length writes ≤ 64) × IsAscendingWrites 0 writes
-
 abbrev pub IsRequest : TxnId → ViewId → ℕ → Type 0
 IsRequest txn view number = IsTxn txn × IsView view × IsCallNumber number
 
@@ -124,14 +109,8 @@ IsOwnerBytes = Spelled owner_bytes IsOwner
 abbrev pub IsNameBytes : List ℕ → List ℕ → Type 0
 IsNameBytes = Spelled counted_bytes (λ name. IsName name name)
 
-abbrev pub IsValueBytes : List ℕ → List ℕ → Type 0
-IsValueBytes = Spelled counted_bytes (λ value. IsValue value value)
-
 abbrev pub IsSitesBytes : ℕ → List ℕ → List ℕ → Type 0
 IsSitesBytes few = Spelled counted_bytes (IsSites few)
 
 abbrev pub IsRecsBytes : List ℕ → List ℕ → Type 0
 IsRecsBytes = Spelled counted_bytes IsRecs
-
-abbrev pub IsWritesBytes : List (ℕ × List ℕ) → List ℕ → Type 0
-IsWritesBytes = Spelled writes_bytes IsWrites

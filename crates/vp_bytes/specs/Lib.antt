@@ -2,6 +2,4 @@ pub mod Fields
 pub mod Reading
 pub mod Codes
 pub mod Ranges
-pub mod Copies
-pub mod Doubts
 pub mod Decisions

@@ -3,7 +3,7 @@ use Rattle.std.specs.Prelude.{ℕ, zero, suc, ◌+◌, ◌*◌, ◌-◌, List, [
 use Rattle.vp_text.specs.Reading.{◌>>=◌}
 use Rattle.vp_text.specs.Classes.{has, most}
 use Rattle.vp_text.specs.declared.class.Class.{Class}
-use Rattle.vp_text.specs.declared.class.Class.TheVariants.{Name, Value}
+use Rattle.vp_text.specs.declared.class.Class.TheVariants.{Name}
 use Rattle.vp_base.specs.Reading.{least_site, most_site, view_of, txn_of}
 use Rattle.vp_base.specs.declared.ids.ViewId.{ViewId}
 use Rattle.vp_base.specs.declared.ids.TxnId.{TxnId}
@@ -102,9 +102,6 @@ word_at class bytes = counted_at (λ _. 0) (λ _ _ bytes. byte_at (has class) by
 unfoldable pub name_at : List ℕ → Result (List ℕ × List ℕ) ℕ
 name_at bytes = word_at Name bytes
 
-unfoldable pub value_at : List ℕ → Result (List ℕ × List ℕ) ℕ
-value_at bytes = word_at Value bytes
-
 -- few to 16 sites, ascending
 unfoldable pub sites_at : ℕ → List ℕ → Result (List ℕ × List ℕ) ℕ
 sites_at few bytes = counted_at (λ c. c) (ascending_at 16) few 16 1 bytes
@@ -112,17 +109,6 @@ sites_at few bytes = counted_at (λ c. c) (ascending_at 16) few 16 1 bytes
 -- up to 64 records, ascending
 unfoldable pub recs_at : List ℕ → Result (List ℕ × List ℕ) ℕ
 recs_at bytes = counted_at (λ c. c) (ascending_at 255) 0 64 0 bytes
-
--- a record and its value
-unfoldable pub write_at : ℕ → ℕ → List ℕ → Result ((ℕ × List ℕ) × List ℕ) ℕ
-write_at n least bytes = do
-  rec ← ascending_at 255 n least bytes
-  value ← value_at rec.1
-  Ok ((rec.0, value.0), value.1)
-
--- up to 64 writes, ascending by record
-unfoldable pub writes_at : List ℕ → Result (List (ℕ × List ℕ) × List ℕ) ℕ
-writes_at bytes = counted_at (λ write. write.0) write_at 0 64 0 bytes
 
 -- what each request for a lock or a vote begins with
 unfoldable pub request_at : List ℕ → Result ((TxnId × ViewId × ℕ) × List ℕ) ℕ

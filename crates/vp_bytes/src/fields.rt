@@ -1,11 +1,11 @@
 //! Writing fields. After want of memory a beginning of the field may have been appended.
 
-ghost use Rattle.std.specs.Prelude.{◌≡◌, ◌≤◌, ◌++◌, ◌∷◌, [], OnOk, OnErr, length, flat_map};
+ghost use Rattle.std.specs.Prelude.{◌≡◌, ◌≤◌, ◌++◌, ◌∷◌, [], OnOk, OnErr, length};
 ghost use Rattle.vp_text.specs.Printing.{Appends};
-ghost use Rattle.vp_bytes.specs.Fields.{number_bytes, view_bytes, maybe_view_bytes, txn_bytes, owner_bytes, counted_bytes, write_bytes, writes_bytes, numbered_bytes, request_bytes, outcome_byte};
+ghost use Rattle.vp_bytes.specs.Fields.{number_bytes, view_bytes, maybe_view_bytes, txn_bytes, owner_bytes, counted_bytes, numbered_bytes, request_bytes, outcome_byte};
 
 use bytes::BufMut;
-use vp_base::{CallNo, Name, NoMemory, Owner, RecId, SiteId, TxnId, Value, ViewId};
+use vp_base::{CallNo, Name, NoMemory, Owner, RecId, SiteId, TxnId, ViewId};
 
 /// Appends a byte.
 pub fn put_byte<B: BufMut>(out: &mut B, byte: u8) -> Result<(), NoMemory>
@@ -53,14 +53,6 @@ pub fn put_name<B: BufMut>(out: &mut B, name: &Name) -> Result<(), NoMemory>
     ensures { Appends result (B.written out.old) (counted_bytes name.now) (B.written out.new) }
 {
     put_counted(out, name.as_bytes())
-}
-
-/// Appends the count of a value's bytes and then the bytes.
-#[tactic(auto, using(vp_text::proofs::Printing::printing))]
-pub fn put_value<B: BufMut>(out: &mut B, value: &Value) -> Result<(), NoMemory>
-    ensures { Appends result (B.written out.old) (counted_bytes value.now) (B.written out.new) }
-{
-    put_counted(out, value.as_bytes())
 }
 
 /// Appends a view: its number in 8 bytes and its site in one.
@@ -146,28 +138,6 @@ pub fn put_recs<B: BufMut>(out: &mut B, recs: &[RecId]) -> Result<(), NoMemory>
     put_byte(out, recs.len() as u8)?;
     for rec in recs {
         put_byte(out, rec.get())?;
-    }
-    Ok(())
-}
-
-/// Appends a record and its value.
-#[tactic(auto, using(vp_text::proofs::Printing::printing))]
-fn put_write<B: BufMut>(out: &mut B, rec: RecId, value: &Value) -> Result<(), NoMemory>
-    ensures { Appends result (B.written out.old) (write_bytes (rec, value.now)) (B.written out.new) }
-{
-    put_byte(out, rec.get())?;
-    put_value(out, value)
-}
-
-/// Appends the count of the writes and then the writes.
-#[tactic(auto, using(vp_text::proofs::Printing::printing))]
-pub fn put_writes<B: BufMut>(out: &mut B, writes: &[(RecId, Value)]) -> Result<(), NoMemory>
-    requires { length writes.now ≤ 64 }
-    ensures { Appends result (B.written out.old) (writes_bytes writes.now) (B.written out.new) }
-{
-    put_byte(out, writes.len() as u8)?;
-    for write in writes {
-        put_write(out, write.0, &write.1)?;
     }
     Ok(())
 }

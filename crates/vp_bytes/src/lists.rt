@@ -1,14 +1,13 @@
-//! Reading sites, records and writes.
+//! Reading sites and records.
 
 ghost use Rattle.std.specs.Prelude.{◌≤◌, ◌+◌, ◌-◌, IfOk};
 ghost use Rattle.vp_text.specs.Reading.{Reads, Tries};
 ghost use Rattle.vp_base.specs.Faults.{line_left};
-ghost use Rattle.vp_bytes.specs.Reading.{ascending_at, recs_at, run_at, sites_at, write_at, writes_at};
+ghost use Rattle.vp_bytes.specs.Reading.{ascending_at, recs_at, run_at, sites_at};
 
 use crate::reading::read_byte;
-use crate::words::read_value;
 use std::alloc::Global;
-use vp_base::{LAST_SITE, LineFault, MOST_OPS, RecId, Recs, SiteId, Sites, Value, Writes};
+use vp_base::{LAST_SITE, LineFault, MOST_OPS, RecId, Recs, SiteId, Sites};
 use vp_text::{Cursor, Unexpected};
 
 /// Reads a count from `few` to 16 and then as many sites, ascending.
@@ -73,48 +72,4 @@ fn read_rec_from(cursor: &mut Cursor, least: u16, following: u8) -> Result<u8, U
     ensures range { IfOk result (λ x. (least ≤ x) × (x ≤ 255 - following)) }
 {
     read_byte(cursor, least as u8, 255 - following)
-}
-
-/// Reads a count up to 64 and then as many writes, ascending by record.
-#[tactic(auto, unfolding(crate::specs::Reading::writes_at, crate::specs::Reading::counted_at))]
-pub fn read_writes(alloc: Global, cursor: &mut Cursor) -> Result<Writes, LineFault>
-    ensures { Tries (λ w. w) line_left result cursor.new (writes_at cursor.old) }
-{
-    let count = read_byte(cursor, 0, MOST_OPS)?;
-    read_some_writes(alloc, cursor, count)
-}
-
-/// Reads `count` writes, ascending by record.
-fn read_some_writes(alloc: Global, cursor: &mut Cursor, count: u8) -> Result<Writes, LineFault>
-    requires { count ≤ 64 }
-    ensures { Tries (λ w. w) line_left result cursor.new
-        (run_at (λ write. write.0) write_at count 0 cursor.old) }
-{
-    let mut writes = Writes::new(alloc);
-    let mut left = count;
-    let mut least = 0;
-    while left > 0 {
-        left -= 1;
-        let write = read_write(alloc, cursor, least, left)?;
-        least = u16::from(write.0.get()) + 1;
-        writes.push(write)?;
-    }
-    Ok(writes)
-}
-
-/// Reads a record from `least` on that leaves room for the others after it, and its value.
-#[tactic(auto, unfolding(crate::specs::Reading::write_at))]
-fn read_write(
-    alloc: Global,
-    cursor: &mut Cursor,
-    least: u16,
-    following: u8,
-) -> Result<(RecId, Value), LineFault>
-    requires { least + following ≤ 255 }
-    ensures read { Tries (λ w. w) line_left result cursor.new (write_at following least cursor.old) }
-    ensures range { IfOk result (λ w. (least ≤ w.0) × (w.0 ≤ 255 - following)) }
-{
-    let rec = read_rec_from(cursor, least, following)?;
-    let value = read_value(alloc, cursor)?;
-    Ok((RecId::new(rec), value))
 }

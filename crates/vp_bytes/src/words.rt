@@ -1,15 +1,16 @@
-//! Reading names and values.
+//! Reading names, and the bytes of words.
 
 ghost use Rattle.std.specs.Prelude.{◌≤◌, IfOk, drop, length, take};
 ghost use Rattle.vp_text.specs.Classes.{has, most};
 ghost use Rattle.vp_text.specs.Reading.{Reads, Tries};
 ghost use Rattle.vp_text.specs.Tokens.{IsWord};
+ghost use Rattle.vp_text.specs.declared.class.Class.TheVariants as classes;
 ghost use Rattle.vp_base.specs.Faults.{line_left};
-ghost use Rattle.vp_bytes.specs.Reading.{name_at, value_at, word_at, word_run_at};
+ghost use Rattle.vp_bytes.specs.Reading.{name_at, word_at, word_run_at};
 
 use crate::reading::read_byte;
 use std::alloc::Global;
-use vp_base::{LineFault, Name, NameFault, Value};
+use vp_base::{LineFault, Name, NameFault};
 use vp_text::{Class, Cursor, Unexpected};
 
 /// Reads a count of bytes and then a name of as many.
@@ -17,7 +18,7 @@ use vp_text::{Class, Cursor, Unexpected};
 pub fn read_name(alloc: Global, cursor: &mut Cursor) -> Result<Name, LineFault>
     ensures { Tries (λ a. a) line_left result cursor.new (name_at cursor.old) }
 {
-    let word = read_word(cursor, Class::Name)?;
+    let word = read_word(cursor)?;
     match Name::read(alloc, word) {
         Ok(name) => Ok(name),
         Err(NameFault::NoMemory) => Err(LineFault::NoMemory),
@@ -25,26 +26,25 @@ pub fn read_name(alloc: Global, cursor: &mut Cursor) -> Result<Name, LineFault>
     }
 }
 
-/// Reads a count of bytes and then a value of as many.
-#[tactic(auto, unfolding(crate::specs::Reading::value_at))]
-pub fn read_value(alloc: Global, cursor: &mut Cursor) -> Result<Value, LineFault>
-    ensures { Tries (λ a. a) line_left result cursor.new (value_at cursor.old) }
+/// Reads a count of bytes and then the bytes of a name of as many.
+#[tactic(auto, unfolding(crate::specs::Reading::counted_at))]
+fn read_word<'a>(cursor: &mut Cursor<'a>) -> Result<&'a [u8], Unexpected>
+    ensures read { Reads (λ w. w.now) (λ e. e.left) result cursor.new (word_at classes.Name cursor.old) }
+    ensures allowed { IfOk result (λ w. IsWord (has classes.Name) (most classes.Name) w.now w.now) }
 {
-    let word = read_word(cursor, Class::Value)?;
-    match Value::read(alloc, word) {
-        Ok(value) => Ok(value),
-        Err(NameFault::NoMemory) => Err(LineFault::NoMemory),
-        Err(NameFault::BadName { .. }) => unreachable!(),
-    }
+    let count = usize::from(read_byte(cursor, 1, Class::Name.most() as u8)?);
+    read_word_bytes(cursor, Class::Name, count)
 }
 
-/// Reads a count of bytes and then a word of the class of as many.
-#[tactic(auto, unfolding(crate::specs::Reading::counted_at))]
-fn read_word<'a>(cursor: &mut Cursor<'a>, class: Class) -> Result<&'a [u8], Unexpected>
-    ensures read { Reads (λ w. w.now) (λ e. e.left) result cursor.new (word_at class cursor.old) }
-    ensures allowed { IfOk result (λ w. IsWord (has class) (most class) w.now w.now) }
+/// Reads as many bytes of the class.
+pub fn read_word_bytes<'a>(
+    cursor: &mut Cursor<'a>,
+    class: Class,
+    count: usize,
+) -> Result<&'a [u8], Unexpected>
+    ensures read { Reads (λ w. w.now) (λ e. e.left) result cursor.new (word_run_at class count cursor.old) }
+    ensures allowed { 1 ≤ count → count ≤ most class → IfOk result (λ w. IsWord (has class) (most class) w.now w.now) }
 {
-    let count = usize::from(read_byte(cursor, 1, class.most() as u8)?);
     let rest = cursor.rest();
     check_word(rest, class, count)?;
     cursor.advance(count);

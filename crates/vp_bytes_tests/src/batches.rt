@@ -4,7 +4,7 @@ use std::alloc::Global;
 use vp_base::{Batch, LogRecord, NoMemory};
 use vp_records::{BatchFault, decode_batch, encode_batch};
 
-/// A record of each kind.
+/// A record of each kind of the first version.
 const EACH_KIND: &[u8] = b"\
     \x01\0\0\0\x03\
     \x02\0\0\0\0\0\0\0\x04\x02\
@@ -14,6 +14,14 @@ const EACH_KIND: &[u8] = b"\
     \x06\x07\x02\x31\x30\0\0\0\0\0\0\0\x01\x02\
     \x07\x02\0\0\0\x01\0\0\0\x03\x10\
     \x08\0\0\0\0\0\0\0\x05\0\0\0\x03\0\0\0\0\0\0\0\x04\x02\0\x02\0\x02\x31\x30\0\0\0\0\0\0\0\0\0\x02\x01\x7a\0\0\0\0\0\0\0\x01\x02\0\0\0\0\0\0\0\x01\x02\0\0\0\x01\0\0\0\x03\0\0\0\0\0\0\0\x01\x02\x01\x01\x01\x61\0\0\0\0\0\0\0\x02\x01\0\0\0\x01\0\0\0\x01\x01\x01\x02\0\0\0\x01\0\0\0\x03\x02\x02\x10";
+
+/// A record of each kind of the second version that has one in the first; two copies, without a value and with a table.
+const EACH_LATER_KIND: &[u8] = b"\
+    \x09\x02\0\0\0\x01\0\0\0\x03\0\0\0\0\0\0\0\x01\x02\x04\0\x01\0\x02\x31\x31\0\x02\0\0\x05\x02\x01\x02\x01\0\x01\x10\xff\xff\xff\x01\0\x01\x7a\x01\x01\x02\x01\x02\
+    \x0a\x02\0\0\0\x01\0\0\0\x03\0\0\0\0\0\0\0\x01\x02\x02\x01\x01\0\x01\x7e\0\x07\0\x01\x01\x03\0\x02\x02\x01\x03\
+    \x0b\x07\0\0\0\0\0\0\0\0\0\x01\x02\
+    \x0b\x07\x01\0\x02\x31\x30\x01\x01\x01\0\x01\0\0\0\0\0\0\0\x01\x02\
+    \x0c\0\0\0\0\0\0\0\x05\0\0\0\x03\0\0\0\0\0\0\0\x04\x02\0\x02\0\x01\0\x02\x31\x30\0\0\0\0\0\0\0\0\0\0\x02\0\x01\x02\x01\0\x02\x02\0\x01\0\0\0\0\0\0\0\x01\x02\0\0\0\0\0\0\0\x01\x02\0\0\0\x01\0\0\0\x03\0\0\0\0\0\0\0\x01\x02\x02\x01\x01\0\x01\x61\0\x03\x02\x01\x01\x04\0\x04\0\0\0\0\0\0\0\x02\x01\0\0\0\x01\0\0\0\x01\x01\x01\x02\0\0\0\x01\0\0\0\x03\x02\x02\x10";
 
 // Rows of cases: the count of a row's bytes, then how many of them begin a batch, or 255 where they are one, and then the bytes.
 // One list of bytes is proved faster than a list of lists.
@@ -32,7 +40,7 @@ const LEAST_AND_GREATEST: &[u8] = b"\
 
 const REFUSED: &[u8] = b"\
     \x01\x00\0\
-    \x01\x00\x09\
+    \x01\x00\x0d\
     \x04\x04\x01\0\0\0\
     \x06\x05\x01\0\0\0\x01\0\
     \x08\x08\x01\0\0\0\x01\x01\0\0\
@@ -60,7 +68,35 @@ const REFUSED: &[u8] = b"\
     \x0c\x0b\x07\x02\0\0\0\x01\0\0\0\x03\x10\xff\
     \x0c\x0c\x07\x02\0\0\0\x01\0\0\0\x03\x10\x07";
 
-/// The code, generation, life and promise of a checkpoint, each of them 0.
+/// What is refused, and some that is not, of the kinds of the second version.
+const LATER: &[u8] = b"\
+    \x14\x13\x09\x02\0\0\0\x01\0\0\0\x03\0\0\0\0\0\0\0\x01\x02\x41\
+    \x16\x15\x09\x02\0\0\0\x01\0\0\0\x03\0\0\0\0\0\0\0\x01\x02\x01\0\x03\
+    \x17\x16\x09\x02\0\0\0\x01\0\0\0\x03\0\0\0\0\0\0\0\x01\x02\x01\0\x02\0\
+    \x18\x17\x09\x02\0\0\0\x01\0\0\0\x03\0\0\0\0\0\0\0\x01\x02\x01\0\x02\x01\0\
+    \x18\x17\x09\x02\0\0\0\x01\0\0\0\x03\0\0\0\0\0\0\0\x01\x02\x01\0\x02\x01\x11\
+    \x19\x18\x09\x02\0\0\0\x01\0\0\0\x03\0\0\0\0\0\0\0\x01\x02\x01\0\x02\x01\x01\0\
+    \x19\x18\x09\x02\0\0\0\x01\0\0\0\x03\0\0\0\0\0\0\0\x01\x02\x01\0\x02\x01\x01\x11\
+    \x1b\x1a\x09\x02\0\0\0\x01\0\0\0\x03\0\0\0\0\0\0\0\x01\x02\x01\0\x02\x01\x01\x10\0\0\
+    \x19\x18\x09\x02\0\0\0\x01\0\0\0\x03\0\0\0\0\0\0\0\x01\x02\x01\0\x02\x01\x02\x10\
+    \x1c\x1b\x09\x02\0\0\0\x01\0\0\0\x03\0\0\0\0\0\0\0\x01\x02\x01\0\x02\x01\x02\x03\0\x01\x03\
+    \x1b\xff\x09\x02\0\0\0\x01\0\0\0\x03\0\0\0\0\0\0\0\x01\x02\x01\0\x02\x01\x01\x10\xff\xff\
+    \x18\x17\x09\x02\0\0\0\x01\0\0\0\x03\0\0\0\0\0\0\0\x01\x02\x01\0\x01\0\0\
+    \x18\x17\x09\x02\0\0\0\x01\0\0\0\x03\0\0\0\0\0\0\0\x01\x02\x01\0\x01\x04\x01\
+    \x17\x16\x09\x02\0\0\0\x01\0\0\0\x03\0\0\0\0\0\0\0\x01\x02\x01\0\x01\x05\
+    \x19\x18\x09\x02\0\0\0\x01\0\0\0\x03\0\0\0\0\0\0\0\x01\x02\x01\0\x01\0\x01\x20\
+    \x1a\x19\x09\x02\0\0\0\x01\0\0\0\x03\0\0\0\0\0\0\0\x01\x02\x01\0\x01\0\x01\x7a\x02\
+    \x17\x16\x09\x02\0\0\0\x01\0\0\0\x03\0\0\0\0\0\0\0\x01\x02\x01\0\0\x02\
+    \x18\x17\x09\x02\0\0\0\x01\0\0\0\x03\0\0\0\0\0\0\0\x01\x02\x02\x05\0\0\x05\
+    \x1a\xff\x09\x02\0\0\0\x01\0\0\0\x03\0\0\0\0\0\0\0\x01\x02\x02\x05\0\0\x06\0\0\
+    \x03\x02\x0b\x07\x02\
+    \x04\x03\x0b\x07\0\x02\
+    \x0d\x0c\x0b\x07\0\0\0\0\0\0\0\0\0\0\x01\
+    \x0d\xff\x0b\x07\0\0\0\0\0\0\0\0\0\0\0\
+    \x18\x17\x0c\0\0\0\0\0\0\0\0\0\0\0\0\0\0\0\0\0\0\0\0\0\x01\x01\
+    \x1a\x19\x0c\0\0\0\0\0\0\0\0\0\0\0\0\0\0\0\0\0\0\0\0\0\0\x01\xff\x02";
+
+/// The code, generation, life and promise of a checkpoint of the first version, each of them 0.
 const CHECKPOINT: &[u8] = b"\x08\0\0\0\0\0\0\0\0\0\0\0\0\0\0\0\0\0\0\0\0\0";
 
 /// Rows of what comes after these.
@@ -124,6 +160,7 @@ fn rows_answered(alloc: Global, front: &[u8], rows: &[u8]) -> Result<usize, NoMe
 #[test]
 fn each_kind_is_read_and_written_again(rt: HostRuntime) {
     assert!(rt; has_answer(rt.alloc(), EACH_KIND, 255) == Ok(true));
+    assert!(rt; has_answer(rt.alloc(), EACH_LATER_KIND, 255) == Ok(true));
     assert!(rt; rows_answered(rt.alloc(), b"", LEAST_AND_GREATEST) == Ok(9));
 }
 
@@ -152,6 +189,7 @@ fn a_start_is_five_bytes(rt: HostRuntime) {
 #[test]
 fn batches_are_refused_at_their_places(rt: HostRuntime) {
     assert!(rt; rows_answered(rt.alloc(), b"", REFUSED) == Ok(28));
+    assert!(rt; rows_answered(rt.alloc(), b"", LATER) == Ok(25));
     assert!(rt; rows_answered(rt.alloc(), CHECKPOINT, LISTS) == Ok(18));
 }
 
@@ -205,11 +243,26 @@ fn what_is_nearly_a_batch_has_its_answer(rt: HostRuntime) {
     assert!(rt; beginnings(rt.alloc(), EACH_KIND) == Ok((9, 22_400)));
     for (mask, answer) in [
         (0xff, (133, 10_028)),
-        (0x01, (147, 9_023)),
+        (0x01, (147, 9_024)),
         (0x80, (133, 10_045)),
     ] {
         assert!(rt;
             changes(rt.alloc(), EACH_KIND, mask) == Ok(answer),
+            "{mask}"
+        );
+    }
+}
+
+#[test]
+fn what_is_nearly_a_later_batch_has_its_answer(rt: HostRuntime) {
+    assert!(rt; beginnings(rt.alloc(), EACH_LATER_KIND) == Ok((6, 30_770)));
+    for (mask, answer) in [
+        (0xff, (130, 15_658)),
+        (0x01, (146, 14_369)),
+        (0x80, (131, 15_641)),
+    ] {
+        assert!(rt;
+            changes(rt.alloc(), EACH_LATER_KIND, mask) == Ok(answer),
             "{mask}"
         );
     }

@@ -3,8 +3,8 @@
 use std::alloc::Global;
 use std::process::Abort;
 use vp_base::{
-    Copies, CopyOf, Decisions, InDoubt, LogRecord, RecId, SiteId, Sites, Stored, TxnId, Value,
-    ViewId, Writes,
+    Change, Copies, CopyOf, Decisions, InDoubt, LogRecord, Put, RecId, SiteId, Sites, Stored,
+    Table, TxnId, Value, ViewId, Writes,
 };
 use vp_records::{DecisionTable, Durable};
 
@@ -26,7 +26,8 @@ fn value(rt: &impl Abort, alloc: Global, text: &[u8]) -> Value {
 
 fn stored(rt: &impl Abort, alloc: Global, text: &[u8], number: u64) -> Stored {
     Stored {
-        value: value(rt, alloc, text),
+        value: Some(value(rt, alloc, text)),
+        table: None,
         date: view(number),
     }
 }
@@ -40,11 +41,17 @@ fn durable(rt: &impl Abort, alloc: Global) -> Durable {
     Durable::empty(copies)
 }
 
+fn changed(rt: &impl Abort, alloc: Global, rec: u8, put: Put, table: Option<Table>) -> Writes {
+    let mut writes = Writes::new(alloc);
+    writes
+        .push((RecId::new(rec), Change { put, table }))
+        .expect(rt, "memory");
+    writes
+}
+
 fn write(rt: &impl Abort, alloc: Global, rec: u8, text: &[u8]) -> Writes {
     let value = value(rt, alloc, text);
-    let mut writes = Writes::new(alloc);
-    writes.push((RecId::new(rec), value)).expect(rt, "memory");
-    writes
+    changed(rt, alloc, rec, Put::Value { value }, None)
 }
 
 fn yes(rt: &impl Abort, alloc: Global, seq: u32, number: u64, text: &[u8]) -> LogRecord {
@@ -73,11 +80,18 @@ fn acked(seq: u32, site: u8) -> LogRecord {
     }
 }
 
+fn is_value(stored: &Stored, text: &[u8]) -> bool {
+    match &stored.value {
+        Some(value) => value.is(text),
+        None => false,
+    }
+}
+
 /// Whether the copy of the record is this one.
 fn has(durable: &Durable, rec: u8, text: &[u8], number: u64) -> bool {
     match durable.stored(RecId::new(rec)) {
         None => false,
-        Some(stored) => stored.value.is(text) && stored.date == view(number),
+        Some(stored) => is_value(stored, text) && stored.date == view(number),
     }
 }
 
@@ -234,4 +248,94 @@ fn a_copy_has_the_doubts_too(rt: HostRuntime) {
     let durable = in_doubt(&rt, rt.alloc());
     let copy = durable.copy_of().expect(&rt, "memory");
     assert!(rt; counts(&rt, &copy) == (1, 0));
+}
+
+fn a_table(rt: &impl Abort, alloc: Global) -> Table {
+    let mut table = Table::new(alloc);
+    table.push((SiteId::of(1), 2)).expect(rt, "memory");
+    table
+}
+
+/// The durable part after a commit of this change of record 0, in view 4.
+fn after_change(rt: &impl Abort, alloc: Global, put: Put, table: Option<Table>) -> Durable {
+    let entry = LogRecord::Commit {
+        txn: txn(7),
+        view: view(4),
+        writes: changed(rt, alloc, 0, put, table),
+        waiting: Sites::new(alloc),
+    };
+    after(rt, durable(rt, alloc), entry)
+}
+
+#[test]
+fn a_delete_leaves_no_value(rt: HostRuntime) {
+    let durable = after_change(&rt, rt.alloc(), Put::Absent, None);
+    match durable.stored(RecId::new(0)) {
+        Some(stored) => {
+            assert!(rt; stored.value.is_none() && stored.table.is_none() && stored.date == view(4));
+        }
+        None => assert!(rt; false),
+    }
+}
+
+#[test]
+fn a_table_is_kept_with_the_content(rt: HostRuntime) {
+    let table = a_table(&rt, rt.alloc());
+    let weighed = after_change(&rt, rt.alloc(), Put::Keep, Some(table));
+    assert!(rt; has(&weighed, 0, b"10", 4));
+    let written = after(&rt, weighed, yes(&rt, rt.alloc(), 8, 5, b"11"));
+    let written = after(&rt, written, outcome(8, true));
+    match written.stored(RecId::new(0)) {
+        Some(stored) => assert!(rt; is_value(stored, b"11") && stored.table.is_some()),
+        None => assert!(rt; false),
+    }
+}
+
+/// The durable part after a record of each kind of the first version that has a later one.
+fn after_old_kinds(rt: &impl Abort, alloc: Global) -> Durable {
+    let voted = LogRecord::YesOfValues {
+        txn: txn(5),
+        view: view(2),
+        writes: write(rt, alloc, 0, b"12"),
+    };
+    let committed = LogRecord::CommitOfValues {
+        txn: txn(6),
+        view: view(3),
+        writes: write(rt, alloc, 2, b"31"),
+        waiting: two_sites(rt, alloc),
+    };
+    let copied = LogRecord::CopyOfValue {
+        rec: RecId::new(0),
+        stored: stored(rt, alloc, b"11", 1),
+    };
+    let voted = after(rt, durable(rt, alloc), voted);
+    let committed = after(rt, voted, committed);
+    after(rt, committed, copied)
+}
+
+#[test]
+fn the_old_kinds_do_the_same(rt: HostRuntime) {
+    let durable = after_old_kinds(&rt, rt.alloc());
+    assert!(rt; counts(&rt, &durable) == (1, 1));
+    assert!(rt; has(&durable, 0, b"11", 1) && has(&durable, 2, b"31", 3));
+    let ended = after(&rt, durable, outcome(5, true));
+    assert!(rt; has(&ended, 0, b"12", 2));
+}
+
+#[test]
+fn an_old_checkpoint_sets_all_but_the_other_copies(rt: HostRuntime) {
+    let third = stored(&rt, rt.alloc(), b"31", 1);
+    let mut copies = Copies::new(rt.alloc());
+    copies.push((RecId::new(2), third)).expect(&rt, "memory");
+    let old = LogRecord::CheckpointOfValues {
+        generation: 1,
+        life: 2,
+        promise: view(2),
+        copies,
+        doubts: InDoubt::new(rt.alloc()),
+        decisions: Decisions::new(rt.alloc()),
+    };
+    let durable = after(&rt, in_doubt(&rt, rt.alloc()), old);
+    assert!(rt; durable.life() == 2 && counts(&rt, &durable) == (0, 0));
+    assert!(rt; has(&durable, 0, b"10", 0) && has(&durable, 2, b"31", 1));
 }

@@ -7,15 +7,12 @@ ghost use Rattle.vp_bytes.specs.Ranges.{last_rank, next_rank};
 
 use bytes::BytesMut;
 use std::alloc::Global;
-use vp_base::{
-    CopyOf, Decision, Doubt, LineFault, NoMemory, RecId, SiteId, Sites, Stored, TxnId, Value,
-    ViewId, Writes,
-};
+use vp_base::{Decision, LineFault, NoMemory, SiteId, Sites, TxnId};
 use vp_bytes::{
-    put_copies, put_decisions, put_doubts, read_ascending_txn, read_copies, read_decisions,
-    read_doubts, read_sites, read_txn, read_txn_between, read_u16_within, read_u32_within,
-    read_view,
+    put_decisions, read_ascending_txn, read_decisions, read_sites, read_txn, read_txn_between,
+    read_u16_within, read_u32_within, read_view,
 };
+use vp_contents::{Version, read_copies, read_doubts};
 use vp_text::{Cursor, Unexpected};
 
 // Rows of cases: the count of a row's bytes, then its result, and then the bytes. The result is how many bytes are left at the fault, or,
@@ -225,8 +222,8 @@ fn read(alloc: Global, cursor: &mut Cursor, field: Field) -> Option<LineFault> {
         Field::TxnBetweenOne => fault(read_txn_between(cursor, &low, &low)),
         Field::Sites => line_fault(read_sites(alloc, cursor, 0)),
         Field::SomeSites => line_fault(read_sites(alloc, cursor, 1)),
-        Field::Copies => line_fault(read_copies(alloc, cursor)),
-        Field::Doubts => line_fault(read_doubts(alloc, cursor)),
+        Field::Copies => line_fault(read_copies(alloc, cursor, Version::First)),
+        Field::Doubts => line_fault(read_doubts(alloc, cursor, Version::First)),
         Field::Decisions => line_fault(read_decisions(alloc, cursor)),
     }
 }
@@ -294,42 +291,8 @@ fn transactions_in_doubt_are_refused_at_their_places(rt: HostRuntime) {
     assert!(rt; rows_answered(rt.alloc(), Field::Doubts, MANY_DOUBTS) == 11);
 }
 
-const COPIES: &[u8] = b"\0\x02\x05\x0211\0\0\0\0\0\0\0\x01\x02\xff\x0211\0\0\0\0\0\0\0\0\0";
-
-const DOUBTS: &[u8] =
-    b"\0\0\0\0\0\0\0\x02\x01\0\0\0\x02\0\0\0\x03\0\0\0\0\0\0\0\x01\x02\x01\x05\x0211\x10\0\0\0\x01\0\0\0\x01\0\0\0\0\0\0\0\0\0\0";
-
 const DECISIONS: &[u8] =
     b"\0\0\0\0\0\0\0\x02\x01\0\0\0\x02\0\0\0\x03\x02\x01\x10\x01\0\0\0\x02\0\0\0\x04\x01\x07";
-
-/// Writes two copies.
-fn put_two_copies(out: &mut BytesMut, value: &Value) -> Result<(), NoMemory> {
-    let first = Stored {
-        value: value.copy_of()?,
-        date: ViewId { number: 1, site: 2 },
-    };
-    let last = Stored {
-        value: value.copy_of()?,
-        date: ViewId { number: 0, site: 0 },
-    };
-    put_copies(out, &[(RecId::new(5), first), (RecId::new(255), last)])
-}
-
-/// Writes two transactions in doubt, the first with a write of the value.
-fn put_two_doubts(out: &mut BytesMut, alloc: Global, value: &Value) -> Result<(), NoMemory> {
-    let writes = vec![in alloc; (RecId::new(5), value.copy_of()?)]?;
-    let first = Doubt {
-        txn: txn(1, 2, 3),
-        view: ViewId { number: 1, site: 2 },
-        writes: Writes::from_vec(writes),
-    };
-    let last = Doubt {
-        txn: txn(16, 1, 1),
-        view: ViewId { number: 0, site: 0 },
-        writes: Writes::new(alloc),
-    };
-    put_doubts(out, &[first, last])
-}
 
 /// Writes two decisions, which wait for two sites and for one.
 fn put_two_decisions(out: &mut BytesMut, alloc: Global) -> Result<(), NoMemory> {
@@ -346,41 +309,12 @@ fn put_two_decisions(out: &mut BytesMut, alloc: Global) -> Result<(), NoMemory> 
     put_decisions(out, &[first, last])
 }
 
-/// The bytes of the field: a list with two items, and nothing for a field that is no such list.
-fn written(alloc: Global, field: Field) -> Result<BytesMut, NoMemory> {
-    let Ok(value) = Value::read(alloc, b"11") else {
-        return Err(NoMemory);
-    };
-    let mut out = BytesMut::new(alloc);
-    match field {
-        Field::Copies => put_two_copies(&mut out, &value)?,
-        Field::Doubts => put_two_doubts(&mut out, alloc, &value)?,
-        Field::Decisions => put_two_decisions(&mut out, alloc)?,
-        Field::View
-        | Field::Txn
-        | Field::U16
-        | Field::U32
-        | Field::TxnBetweenTwo
-        | Field::TxnBetweenOne
-        | Field::Sites
-        | Field::SomeSites => {}
-    }
-    Ok(out)
-}
-
-/// Whether the field is written as these bytes, and read from them.
-fn has_bytes(alloc: Global, field: Field, bytes: &[u8]) -> bool {
-    match written(alloc, field) {
-        Ok(out) => out.as_slice() == bytes && answer(alloc, field, bytes) == Some(128),
-        Err(NoMemory) => false,
-    }
-}
-
 #[test]
-fn copies_doubts_and_decisions_have_their_bytes(rt: HostRuntime) {
-    assert!(rt; has_bytes(rt.alloc(), Field::Copies, COPIES));
-    assert!(rt; has_bytes(rt.alloc(), Field::Doubts, DOUBTS));
-    assert!(rt; has_bytes(rt.alloc(), Field::Decisions, DECISIONS));
+fn decisions_have_their_bytes(rt: HostRuntime) {
+    let mut out = BytesMut::new(rt.alloc());
+    put_two_decisions(&mut out, rt.alloc()).expect(&rt, "memory");
+    assert!(rt; out.as_slice() == DECISIONS);
+    assert!(rt; answer(rt.alloc(), Field::Decisions, DECISIONS) == Some(128));
 }
 
 /// How many bytes are left at the fault of a transaction that must be above the last one and be followed by so many others.

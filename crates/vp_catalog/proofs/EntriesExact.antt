@@ -17,7 +17,7 @@ use Rattle.vp_text.proofs.Repeats.{Repeats, items_exact}
 use Rattle.vp_base.specs.Words.{IsName, IsValue}
 use Rattle.vp_model.specs.Words as words
 use Rattle.vp_model.specs.Catalogue.{Catalogue, RecordEntry, sites_of}
-use Rattle.vp_model.specs.Texts.Schedule.{weight_text}
+use Rattle.vp_model.specs.Texts.Fields.{weight_text}
 use Rattle.vp_catalog.specs.declared.entry.Entry.{Entry}
 use Rattle.vp_catalog.specs.declared.entry.Entry.TheVariants.{Site, Record}
 use Rattle.vp_catalog.specs.Sites.{AllSites, IsSiteIn}

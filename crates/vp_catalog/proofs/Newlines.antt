@@ -7,7 +7,7 @@ use Rattle.vp_text.specs.Documents.{HasNoNewline, IsLine}
 use Rattle.vp_text.proofs.Newlines.{both, decimal_clean, key_clean, last_line, line_push}
 use Rattle.vp_base.proofs.Newlines.{name_clean, value_clean}
 use Rattle.vp_model.specs.Catalogue.{Catalogue, sites_of}
-use Rattle.vp_model.specs.Texts.Schedule.{weight_text}
+use Rattle.vp_model.specs.Texts.Fields.{weight_text}
 use Rattle.vp_catalog.specs.declared.entry.Entry.{Entry}
 use Rattle.vp_catalog.specs.declared.entry.Entry.TheVariants.{Site, Record}
 use Rattle.vp_catalog.specs.Sites.{AllSites}

@@ -1,5 +1,5 @@
 -- The copies that a site starts with, one record more.
-use Rattle.std.proofs.Common.{◌≡◌, ◌∙◌, ℕ, ◌+◌, ◌<◌, true, false, List, [], ◌∷◌, ◌++◌, length, get_or, drop, sym, ap, append_assoc}
+use Rattle.std.proofs.Common.{◌≡◌, ◌∙◌, ℕ, ◌+◌, ◌<◌, true, false, List, [], ◌∷◌, ◌++◌, length, get_or, drop, Some, None, sym, ap, append_assoc}
 use Rattle.std.proofs.lemmas.List.{drop_more}
 use Rattle.vp_model.specs.Types.{Stored}
 use Rattle.vp_model.specs.Words.{has, keys, opening}
@@ -10,7 +10,7 @@ module _ (records : List RecordEntry) (site place : ℕ) (placed : RecordEntry) 
   rest = copies_from (place + 1) (drop (place + 1) records) site
 
   abbrev first : ℕ × Stored
-  first = (place, record { value = placed.start; date = opening })
+  first = (place, record { value = Some placed.start; table = None; date = opening })
 
   front : drop place records ≡ placed ∷ drop (place + 1) records
   front = drop_more records place placed inside ∙ ap (λ r. r ∷ drop (place + 1) records) (sym here)

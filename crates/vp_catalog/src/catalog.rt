@@ -1,12 +1,12 @@
 //! The catalogue and its look-ups.
 
-ghost use Rattle.std.specs.Prelude.{◌≡◌, ◌≤◌, ◌<◌, ◌++◌, ◌∷◌, [], length, map, slice_get, option_map, option_copied, if◌then◌else◌, is_ok, nat_lt, false, Some, None, OnOk, IfOk};
+ghost use Rattle.std.specs.Prelude.{◌≡◌, ◌≤◌, ◌<◌, ◌++◌, ◌∷◌, [], length, map, slice_get, option_map, option_copied, if◌then◌else◌, is_ok, nat_lt, false, IsTrue, Some, None, OnOk, IfOk};
 ghost use Rattle.vp_model.specs.Words.{first, keys, value_at, has};
 ghost use Rattle.vp_model.specs.Refresh.{members_in, other_holders_in};
 ghost use Rattle.vp_catalog.specs.Entries.{IsSite, IsRecord, last_site, has_port, has_name};
 ghost use Rattle.vp_catalog.specs.Adding.{IsAllowed, Adds};
 ghost use Rattle.vp_catalog.specs.Document.{IsCatalogueSoFar};
-ghost use Rattle.vp_model.specs.Catalogue.{sites_of, find_record, weights_of, holders, inside, total, accessible, weight, start_values, start_copies, copies_from};
+ghost use Rattle.vp_model.specs.Catalogue.{sites_of, find_record, weights_of, holders, has_holders, inside, total, accessible, weight, start_copies, copies_from};
 
 use crate::entry::Entry;
 use crate::fault::CatalogFault;
@@ -261,6 +261,17 @@ impl Catalog {
         }
     }
 
+    /// Whether the table has a weight for each holder of the record, and for no other site.
+    pub fn has_holders(&self, rec: RecId, table: &[(SiteId, u16)]) -> Result<bool, NoMemory>
+        ensures same { IfOk result (λ same. same ≡ has_holders self.now rec table.now) }
+        ensures few { IfOk result (λ same. IsTrue same → length table.now ≤ 16) }
+    {
+        match self.placed(rec) {
+            None => Ok(table.is_empty()),
+            Some(placed) => placed.has_holders(table),
+        }
+    }
+
     /// The holders of the record that are members of the view, except this site; none where there is no view.
     pub fn other_holders(
         &self,
@@ -341,8 +352,8 @@ impl Catalog {
     }
 
     /// Copies the values that the records start with, in their order.
-    pub fn start_values(&self) -> Result<Vec<Value>, NoMemory>
-        ensures { IfOk result (λ values. values.items ≡ start_values self.now) }
+    pub fn starts(&self) -> Result<Vec<Value>, NoMemory>
+        ensures { IfOk result (λ values. values.items ≡ map (λ entry. entry.start) self.now.records) }
     {
         let mut values = Vec::new(*self.records.allocator());
         for placed in self.records() {
@@ -394,7 +405,8 @@ fn copies_at(
     for (place, placed) in records.iter().enumerate() {
         if placed.is_held_by(site) {
             let stored = Stored {
-                value: placed.start().copy_of()?,
+                value: Some(placed.start().copy_of()?),
+                table: None,
                 date: ViewId { number: 0, site: 0 },
             };
             copies.push((RecId::new(place as u8), stored))?;

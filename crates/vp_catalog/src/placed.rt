@@ -1,9 +1,10 @@
 //! A record of the catalogue with the weights of its copies.
 
-ghost use Rattle.std.specs.Prelude.{◌≡◌, ◌≤◌, ◌<◌, ◌^◌, length, filter, sum_by, IfOk};
+ghost use Rattle.std.specs.Prelude.{◌≡◌, ◌≤◌, ◌<◌, ◌^◌, length, filter, sum_by, IfOk, IsTrue};
+ghost use Rattle.std.specs.Str.{bytes_eq};
 ghost use Rattle.std.specs.Option.{option_map_or};
 ghost use Rattle.vp_model.specs.Words.{has, keys, value_at};
-ghost use Rattle.vp_model.specs.Catalogue.{weight_inside};
+ghost use Rattle.vp_model.specs.Catalogue.{weight_inside, weight_total};
 
 use std::alloc::Global;
 use std::marker::Model;
@@ -117,18 +118,27 @@ impl CatalogRecord {
         has_site(self.holders.as_slice(), site)
     }
 
+    /// Whether the table has a weight for each holder, and for no other site.
+    pub fn has_holders(&self, table: &[(SiteId, u16)]) -> Result<bool, NoMemory>
+        ensures same { IfOk result (λ same. same ≡ bytes_eq (keys table.now) (keys self.now.weights)) }
+        ensures few { IfOk result (λ same. IsTrue same → length table.now ≤ 16) }
+    {
+        let sites = holders_of(*self.weights.allocator(), table)?;
+        Ok(sites.as_slice() == self.holders.as_slice())
+    }
+
     /// The weight of the copies at the members.
     pub fn inside(&self, members: &Sites) -> u32
         ensures { result ≡ weight_inside members.now self.now.weights }
     {
-        weight_at(&self.weights, members.as_slice())
+        weight_inside(&self.weights, members.as_slice())
     }
 
     /// The weight of all copies.
     pub fn total(&self) -> u32
         ensures { result ≡ sum_by (λ w. w.1) self.now.weights }
     {
-        weight_of(&self.weights)
+        weight_total(&self.weights)
     }
 }
 
@@ -161,7 +171,8 @@ pub fn has_site(sites: &[SiteId], site: SiteId) -> bool
     sites.contains(&site)
 }
 
-fn weight_at(weights: &[(SiteId, u16)], members: &[SiteId]) -> u32
+/// The weight, by a table, of the copies at the members.
+pub fn weight_inside(weights: &[(SiteId, u16)], members: &[SiteId]) -> u32
     requires { length weights.now ≤ 16 }
     ensures { result ≡ weight_inside members.now weights.now }
 {
@@ -174,9 +185,10 @@ fn weight_at(weights: &[(SiteId, u16)], members: &[SiteId]) -> u32
     inside
 }
 
-fn weight_of(weights: &[(SiteId, u16)]) -> u32
+/// The weight, by a table, of all copies.
+pub fn weight_total(weights: &[(SiteId, u16)]) -> u32
     requires { length weights.now ≤ 16 }
-    ensures { result ≡ sum_by (λ w. w.1) weights.now }
+    ensures { result ≡ weight_total weights.now }
 {
     let mut total = 0;
     for weight in weights {

@@ -3,7 +3,8 @@
 ghost use Rattle.std.specs.Prelude.{◌++◌, ◌∷◌, [], flat_map};
 ghost use Rattle.std.specs.Fmt.{decimal};
 ghost use Rattle.vp_text.specs.Printing.{Appends};
-ghost use Rattle.vp_model.specs.Texts.Schedule.{site_line, weight_text, record_line, catalogue_text};
+ghost use Rattle.vp_model.specs.Texts.Schedule.{site_line, record_line, catalogue_text};
+ghost use Rattle.vp_model.specs.Texts.Fields.{weight_text, table_text};
 
 use crate::catalog::Catalog;
 use crate::placed::CatalogRecord;
@@ -37,8 +38,9 @@ fn print_sites(out: &mut Vec<u8>, sites: &[(SiteId, u16)]) -> Result<(), NoMemor
     Ok(())
 }
 
-fn print_weights(out: &mut Vec<u8>, weights: &[(SiteId, u16)]) -> Result<(), NoMemory>
-    ensures { Appends result out.old.items (flat_map weight_text weights.now) out.new.items }
+/// Appends a space, the site and the weight for each weight. After want of memory a beginning of it may have been appended.
+pub fn print_weights(out: &mut Vec<u8>, weights: &[(SiteId, u16)]) -> Result<(), NoMemory>
+    ensures { Appends result out.old.items (table_text weights.now) out.new.items }
 {
     for weight in weights {
         print_pair(out, b" ", weight, b':')?;

@@ -1,4 +1,5 @@
 pub mod Found
+pub mod Calls
 pub mod Asked
 pub mod Conversations
 mod Shaped

@@ -10,9 +10,13 @@ use Rattle.vp_runs.specs.Asking.{answer_in, answer_from, answer_of}
 use Rattle.vp_wire.specs.declared.frame.Frame.{Frame}
 use Rattle.vp_wire.specs.declared.frame.Body.{Body}
 use Rattle.vp_wire.specs.declared.frame.Body.TheVariants as body
-use Rattle.vp_wire.specs.Grammar.{IsAnswer, IsBody, IsSpelling}
+use Rattle.vp_wire.specs.Grammar.{IsBody, IsSpelling}
 use Rattle.vp_wire.specs.Decoded.{read_frame}
 use Rattle.vp_wire.proofs.Decoded.{bytes_are_read}
+use Rattle.vp_wire.proofs.Later.{body_later}
+use Rattle.vp_contents.specs.Versions.{version_of}
+use Rattle.vp_contents.specs.declared.version.Version.TheVariants as versions
+use Rattle.vp_laws.specs.Shapes.{IsAnswer}
 use Rattle.vp_client.specs.Claims.{AnswersAreShaped}
 
 -- what is found under a condition is found
@@ -20,7 +24,7 @@ found : (b : Bool) (here there : Option Answer) (a : Answer) → (if b then here
 found true here there a e = e
 found false here there a e = absurd (let no : None ≡ Some a = e in cc)
 
-in_body : (words : Call) (from to : ℕ) (b : Body) (a : Answer) → answer_in words b ≡ Some a → IsBody from to b → IsAnswer a
+in_body : (words : Call) (from to : ℕ) (b : Body) (a : Answer) → answer_in words b ≡ Some a → IsBody versions.Second from to b → IsAnswer a
 in_body words from to (body.Reply said) a e h =
     let is : Some said ≡ Some a = found (answers words said) (Some said) None a e in
     let same : said ≡ a = cc in
@@ -32,7 +36,7 @@ in_body words from to body.ProbeNow a e h = absurd (let no : None ≡ Some a = e
 in_body words from to body.Stop a e h = absurd (let no : None ≡ Some a = e in cc)
 
 in_read : (site : ℕ) (words : Call) (bytes : List ℕ) (read : Result Frame ℕ) (a : Answer) → Answers IsSpelling (λ (f : Frame). f) (λ (at : ℕ). Some at) bytes read → answer_from site words read ≡ Some a → IsAnswer a
-in_read site words bytes (Ok f) a h e = in_body words f.from f.to f.body a (found (f.from == site) (answer_in words f.body) None a e) h.allowed
+in_read site words bytes (Ok f) a h e = in_body words f.from f.to f.body a (found (f.from == site) (answer_in words f.body) None a e) (body_later (version_of f.version) f.from f.to f.body h.allowed.2)
 in_read site words bytes (Err at) a h e = absurd (let no : None ≡ Some a = e in cc)
 
 pub answers_are_shaped : AnswersAreShaped

@@ -4,7 +4,7 @@ use Rattle.vp_model.specs.Types.{Answer, Call}
 use Rattle.vp_outside.specs.Links.{LinkState}
 use Rattle.vp_outside.specs.declared.datagram.Datagram.{Datagram}
 use Rattle.vp_runs.specs.Asking.{answer_of, first_answer}
-use Rattle.vp_wire.specs.Grammar.{IsAnswer}
+use Rattle.vp_laws.specs.Shapes.{IsAnswer}
 use Rattle.vp_client.specs.Asked.{HasFailed, Asks}
 use Rattle.vp_client.specs.declared.asking.AskFault.{AskFault}
 use Rattle.vp_client.specs.declared.asking.AskFault.TheVariants as faults

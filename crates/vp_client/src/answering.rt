@@ -55,6 +55,8 @@ fn is_answer(call: &Call, answer: &Answer) -> bool
         Call::Regroup => regroups(answer),
         Call::Read { txn, number, .. } => is_numbered(txn, *number, answer),
         Call::Write { txn, number, .. } => is_numbered(txn, *number, answer),
+        Call::Delete { txn, number, .. } => is_numbered(txn, *number, answer),
+        Call::Weigh { txn, number, .. } => is_numbered(txn, *number, answer),
         Call::Commit { txn, number } => is_numbered(txn, *number, answer),
         Call::Abort { txn, number } => is_numbered(txn, *number, answer),
     }
@@ -93,6 +95,10 @@ fn is_numbered(txn: &TxnId, number: CallNo, answer: &Answer) -> bool
             ..
         } => is_of(t, *n, txn, number),
         Answer::Written { txn: t, number: n } => is_of(t, *n, txn, number),
+        Answer::Absent { txn: t, number: n } => is_of(t, *n, txn, number),
+        Answer::Deleted { txn: t, number: n } => is_of(t, *n, txn, number),
+        Answer::Weighed { txn: t, number: n } => is_of(t, *n, txn, number),
+        Answer::BadTable { txn: t, number: n } => is_of(t, *n, txn, number),
         Answer::Committed { txn: t, number: n } => is_of(t, *n, txn, number),
         Answer::Aborted { txn: t, number: n } => is_of(t, *n, txn, number),
         Answer::Unknown { txn: t } => is_same_txn(t, txn),

@@ -4,7 +4,8 @@ ghost use Rattle.std.specs.Prelude.{◌≡◌, IsTrue, IfOk};
 ghost use Rattle.vp_base.specs.Calls.{IsCall};
 ghost use Rattle.vp_outside.specs.Links.{Sends, StaysBound};
 ghost use Rattle.vp_runs.specs.Asking.{call_frame};
-ghost use Rattle.vp_wire.specs.Grammar.{frame_bytes, IsAnswer};
+ghost use Rattle.vp_wire.specs.Grammar.{frame_bytes};
+ghost use Rattle.vp_laws.specs.Shapes.{IsAnswer};
 ghost use Rattle.vp_client.specs.Asked.{Asks, of_output};
 ghost use Rattle.vp_client.specs.declared.asking.AskFault.TheVariants.{LinkFault as LinkFailed, NoMemory as OutOfMemory};
 
@@ -84,6 +85,7 @@ pub fn ask<L: Link>(
 }
 
 /// Sends the frame of the call.
+#[tactic(auto, using(crate::proofs::Calls::call_is_framed))]
 fn send_call<L: Link>(
     alloc: Global,
     link: &mut L,
@@ -96,11 +98,7 @@ fn send_call<L: Link>(
     ensures { Sends port (frame_bytes (call_frame site call.now)) (L.state link.old) (L.state link.new)
         result }
 {
-    let frame = Frame {
-        from: 0,
-        to: site.get(),
-        body: Body::Call(call.copy_of()?),
-    };
+    let frame = Frame::of(0, site.get(), Body::Call(call.copy_of()?));
     let mut bytes = BytesMut::new(alloc);
     encode(&frame, &mut bytes)?;
     link.send(port, &bytes)

@@ -26,11 +26,7 @@ pub fn to_site(catalog: &Catalog, site: SiteId, body: Body) -> Result<Option<Let
     let Some(port) = catalog.port(site) else {
         return Ok(None);
     };
-    let frame = Frame {
-        from: 0,
-        to: site.get(),
-        body,
-    };
+    let frame = Frame::of(0, site.get(), body);
     Ok(Some(Letter {
         from: 0,
         to: port,

@@ -13,16 +13,19 @@ use vp_outside::{Datagram, Dispatch, Link, MemLink, SureLink};
 const PORT: u16 = 7001;
 
 /// The call to begin, to site 1.
-const BEGIN: &[u8] = b"\x56\x01\x20\0\x01\x01";
+const BEGIN: &[u8] = b"\x56\x02\x20\0\x01\x01";
 
 /// Begun 1.1.1 in the opening view, from site 1.
-const BEGUN: &[u8] = b"\x56\x01\x21\x01\0\x01\x01\0\0\0\x01\0\0\0\x01\0\0\0\0\0\0\0\0\0";
+const BEGUN: &[u8] = b"\x56\x02\x21\x01\0\x01\x01\0\0\0\x01\0\0\0\x01\0\0\0\0\0\0\0\0\0";
 
-/// The same with a byte after it.
-const LONGER: &[u8] = b"\x56\x01\x21\x01\0\x01\x01\0\0\0\x01\0\0\0\x01\0\0\0\0\0\0\0\0\0\0";
+/// The same in the first version.
+const BEGUN_OF_OLD: &[u8] = b"\x56\x01\x21\x01\0\x01\x01\0\0\0\x01\0\0\0\x01\0\0\0\0\0\0\0\0\0";
+
+/// The answer with a byte after it.
+const LONGER: &[u8] = b"\x56\x02\x21\x01\0\x01\x01\0\0\0\x01\0\0\0\x01\0\0\0\0\0\0\0\0\0\0";
 
 /// Inviting to 1@1, from site 1: no answer to a begin.
-const INVITING: &[u8] = b"\x56\x01\x21\x01\0\x06\0\0\0\0\0\0\0\x01\x01";
+const INVITING: &[u8] = b"\x56\x02\x21\x01\0\x06\0\0\0\0\0\0\0\x01\x01";
 
 fn datagram(alloc: Global, port: u16, bytes: &[u8]) -> Result<Datagram, AllocError> {
     Ok(Datagram {
@@ -59,15 +62,15 @@ fn the_call_is_sent_and_as_many_datagrams_are_taken_as_are_asked_for(rt: HostRun
 }
 
 /// These come one after the other: a reply from another port, bytes that are no frame, an answer to another call, a frame with a byte
-/// after it, and the answer.
-fn among_others(alloc: Global) -> Result<Vec<Datagram>, AllocError> {
+/// after it, and the answer, in this version.
+fn among_others(alloc: Global, answer: &[u8]) -> Result<Vec<Datagram>, AllocError> {
     let mut datagrams = Vec::new(alloc);
     for (port, bytes) in [
         (7002, BEGUN),
         (PORT, b"\x56".as_slice()),
         (PORT, INVITING),
         (PORT, LONGER),
-        (PORT, BEGUN),
+        (PORT, answer),
     ] {
         datagrams.push(datagram(alloc, port, bytes)?)?;
     }
@@ -75,17 +78,19 @@ fn among_others(alloc: Global) -> Result<Vec<Datagram>, AllocError> {
 }
 
 /// The result of a begin if they come.
-fn answered(rt: &impl Abort, alloc: Global, turns: u64) -> Result<Answer, AskFault> {
-    let datagrams = among_others(alloc).expect(rt, "memory");
+fn answered(rt: &impl Abort, alloc: Global, begun: &[u8], turns: u64) -> Result<Answer, AskFault> {
+    let datagrams = among_others(alloc, begun).expect(rt, "memory");
     let mut link = SureLink::new(alloc, datagrams);
     begin(alloc, &mut link, turns)
 }
 
 #[test]
 fn the_first_answer_from_the_port_of_the_site_is_taken(rt: HostRuntime) {
-    let answer = answered(&rt, rt.alloc(), 5);
-    assert!(rt; matches!(answer, Ok(Answer::Begun { .. })));
-    let answer = answered(&rt, rt.alloc(), 4);
+    for begun in [BEGUN, BEGUN_OF_OLD] {
+        let answer = answered(&rt, rt.alloc(), begun, 5);
+        assert!(rt; matches!(answer, Ok(Answer::Begun { .. })));
+    }
+    let answer = answered(&rt, rt.alloc(), BEGUN, 4);
     assert!(rt; matches!(answer, Err(AskFault::NoAnswer { turns: 4 })));
 }
 

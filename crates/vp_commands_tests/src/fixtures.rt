@@ -8,23 +8,23 @@ use vp_outside::Datagram;
 pub const PORT: u16 = 7001;
 
 /// The call to begin, to site 1.
-pub const BEGIN: &[u8] = b"\x56\x01\x20\0\x01\x01";
+pub const BEGIN: &[u8] = b"\x56\x02\x20\0\x01\x01";
 
 /// The call to regroup, to site 1.
-pub const REGROUP: &[u8] = b"\x56\x01\x20\0\x01\x02";
+pub const REGROUP: &[u8] = b"\x56\x02\x20\0\x01\x02";
 
 /// Begun 1.1.1 in the opening view, from site 1.
-pub const BEGUN: &[u8] = b"\x56\x01\x21\x01\0\x01\x01\0\0\0\x01\0\0\0\x01\0\0\0\0\0\0\0\0\0";
+pub const BEGUN: &[u8] = b"\x56\x02\x21\x01\0\x01\x01\0\0\0\x01\0\0\0\x01\0\0\0\0\0\0\0\0\0";
 
 /// The call to write 11 to x in 1.1.1, to site 1.
 pub const WRITE: &[u8] =
-    b"\x56\x01\x20\0\x01\x04\x01\0\0\0\x01\0\0\0\x01\0\0\0\x01\x01\x78\x02\x31\x31";
+    b"\x56\x02\x20\0\x01\x04\x01\0\0\0\x01\0\0\0\x01\0\0\0\x01\x01\x78\0\x02\x31\x31";
 
 /// The call to commit 1.1.1 after it, to site 1.
-pub const COMMIT: &[u8] = b"\x56\x01\x20\0\x01\x05\x01\0\0\0\x01\0\0\0\x01\0\0\0\x02";
+pub const COMMIT: &[u8] = b"\x56\x02\x20\0\x01\x05\x01\0\0\0\x01\0\0\0\x01\0\0\0\x02";
 
 /// The stop, to site 1.
-pub const STOP: &[u8] = b"\x56\x01\x24\0\x01";
+pub const STOP: &[u8] = b"\x56\x02\x24\0\x01";
 
 /// A log's first half after Start of life 1.
 pub const STARTED: &[u8] = b"\x01\0\0\0\0\0\0\0\x05\x01\0\0\0\x01\0";

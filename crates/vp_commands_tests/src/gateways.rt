@@ -19,7 +19,7 @@ pub(crate) const LINES: &[u8] = b"begin\n1.1.1 1 read x\nfoo\n";
 pub(crate) const ANSWERS: &[u8] = b"begun 1.1.1 0@0\nvalue 1.1.1 1 10\nbad at 1\n";
 
 /// The value 10, as the answer to the first call of 1.1.1, from site 1.
-const VALUE: &[u8] = b"\x56\x01\x21\x01\0\x02\x01\0\0\0\x01\0\0\0\x01\0\0\0\x01\x02\x31\x30";
+const VALUE: &[u8] = b"\x56\x02\x21\x01\0\x02\x01\0\0\0\x01\0\0\0\x01\0\0\0\x01\0\x02\x31\x30";
 
 /// What a gateway is given: its input, which comes in pieces of at most so many bytes, how many datagrams it waits for, and which calls of
 /// the source, the sink and the link fail, where 0 is none.

@@ -6,12 +6,12 @@ use std::process::Abort;
 use vp_status::Status;
 
 /// A checkpoint of the life 16,843,010, with the promise 1@1 and the copy of x.
-const CHECKPOINT: &[u8] = b"\x01\0\0\0\0\0\0\0\x35\x08\0\0\0\0\0\0\0\x01\x01\x01\x01\x02\
-    \0\0\0\0\0\0\0\x01\x01\0\x01\0\x02\x31\x30\0\0\0\0\0\0\0\0\0\0\0\0\0\0\0\0\0\0\0\0\0\0\0\0\0\0";
+const CHECKPOINT: &[u8] = b"\x01\0\0\0\0\0\0\0\x38\x0c\0\0\0\0\0\0\0\x01\x01\x01\x01\x02\
+    \0\0\0\0\0\0\0\x01\x01\0\x01\0\x01\0\x02\x31\x30\0\0\0\0\0\0\0\0\0\0\0\0\0\0\0\0\0\0\0\0\0\0\0\0\0\0\0";
 
 /// What is printed if the node regroups.
 const REGROUPED: &[u8] =
-    b"start 16843010\nin 560120000102\nout 560121010006000000000000000101\nin 5601240001\nend\n";
+    b"start 16843010\nin 560220000102\nout 560221010006000000000000000101\nin 5602240001\nend\n";
 
 /// Whether the node of the next life starts on this log, and leaves the halves as long as they are.
 fn goes_on(rt: &impl Abort, alloc: Global, ended: &Ended) -> bool {
@@ -22,7 +22,7 @@ fn goes_on(rt: &impl Abort, alloc: Global, ended: &Ended) -> bool {
     let ended = next.run(alloc, Vec::new(alloc)).expect(rt, "a run");
     ended.is(Status::LinkFault, b"start 16843011\nlink fault\n")
         && ended.disk.half(0).len() == 65_542
-        && ended.disk.half(1).len() == 77
+        && ended.disk.half(1).len() == 80
 }
 
 #[test]

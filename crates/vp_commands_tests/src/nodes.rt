@@ -29,7 +29,7 @@ const TURNS: [(&[u8], u64, &[u8], &[u8]); 3] = [
     (
         b"",
         1,
-        b"start 1\nin 560120000101\nout 560121010001010000000100000001000000000000000000\nend\n",
+        b"start 1\nin 560220000101\nout 560221010001010000000100000001000000000000000000\nend\n",
         STARTED,
     ),
     (b"", 0, b"start 1\nend\n", STARTED),
@@ -77,9 +77,9 @@ fn no_inputs(alloc: Global) -> Result<Vec<Datagram>, AllocError> {
         &[
             b"",
             b"\x56",
-            b"\x56\x01\x20\0\x01\x01\0",
-            b"\x56\x01\x20\x02\x01\x01",
-            b"\x56\x01\x20\0\x02\x01",
+            b"\x56\x02\x20\0\x01\x01\0",
+            b"\x56\x02\x20\x02\x01\x01",
+            b"\x56\x02\x20\0\x02\x01",
             BEGUN,
         ],
     )?;
@@ -88,8 +88,8 @@ fn no_inputs(alloc: Global) -> Result<Vec<Datagram>, AllocError> {
 }
 
 /// What is printed for them.
-const RECORDED: &str = "start 1\nbad 0\nbad 1\nbad 6\nbad 3\nstray 560120000201\n\
-    stray 560121010001010000000100000001000000000000000000\nstray 560120000101\nlink fault\n";
+const RECORDED: &str = "start 1\nbad 0\nbad 1\nbad 6\nbad 3\nstray 560220000201\n\
+    stray 560221010001010000000100000001000000000000000000\nstray 560220000101\nlink fault\n";
 
 #[test]
 fn what_is_no_input_is_recorded_and_changes_nothing(rt: HostRuntime) {
@@ -101,10 +101,11 @@ fn what_is_no_input_is_recorded_and_changes_nothing(rt: HostRuntime) {
     assert!(rt; ended.link.handed().is_empty() && ended.disk.half(0) == STARTED);
 }
 
-/// The vote of site 2 with one more byte, without its last one, and whole.
-const VOTES: [&[u8]; 3] = [
-    b"\x56\x01\x0b\x02\x01\x01\0\0\0\x01\0\0\0\x01\0",
-    b"\x56\x01\x0b\x02\x01\x01\0\0\0\x01\0\0\0",
+/// The vote of site 2 with one more byte, without its last one, and whole; and whole in the first version.
+const VOTES: [&[u8]; 4] = [
+    b"\x56\x02\x0b\x02\x01\x01\0\0\0\x01\0\0\0\x01\0",
+    b"\x56\x02\x0b\x02\x01\x01\0\0\0\x01\0\0\0",
+    b"\x56\x02\x0b\x02\x01\x01\0\0\0\x01\0\0\0\x01",
     b"\x56\x01\x0b\x02\x01\x01\0\0\0\x01\0\0\0\x01",
 ];
 
@@ -121,7 +122,7 @@ fn votes(alloc: Global) -> Result<Vec<Datagram>, AllocError> {
 fn a_vote_for_an_unknown_transaction_is_taken_if_it_is_whole(rt: HostRuntime) {
     let setup = Setup {
         catalogue: b"site 1 7001\nsite 2 7002\nrecord x 10 1:1 2:1\n",
-        turns: 3,
+        turns: 4,
         ..Setup::alone(b"")
     };
     let datagrams = votes(rt.alloc()).expect(&rt, "memory");
@@ -129,7 +130,7 @@ fn a_vote_for_an_unknown_transaction_is_taken_if_it_is_whole(rt: HostRuntime) {
     assert!(rt;
         ended.is(
             Status::Done,
-            b"start 1\nbad 14\nbad 13\nin 56010b0201010000000100000001\nend\n"
+            b"start 1\nbad 14\nbad 13\nin 56020b0201010000000100000001\nin 56010b0201010000000100000001\nend\n"
         )
     );
     assert!(rt; ended.link.handed().is_empty() && ended.disk.half(0) == STARTED);

@@ -8,7 +8,7 @@ use vp_outside::Dispatch;
 use vp_status::Status;
 
 /// The first call of 1.1.1, which reads x, to site 1.
-const READ: &[u8] = b"\x56\x01\x20\0\x01\x03\x01\0\0\0\x01\0\0\0\x01\0\0\0\x01\x01\x78";
+const READ: &[u8] = b"\x56\x02\x20\0\x01\x03\x01\0\0\0\x01\0\0\0\x01\0\0\0\x01\x01\x78";
 
 #[test]
 fn each_line_is_answered_in_any_cutting(rt: HostRuntime) {

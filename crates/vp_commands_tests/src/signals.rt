@@ -20,9 +20,9 @@ fn has_frame(rt: &impl Abort, alloc: Global, signal: Signal, frame: &[u8]) -> bo
 #[test]
 fn each_signal_has_its_frame(rt: HostRuntime) {
     for (signal, frame) in [
-        (Signal::Tick, b"\x56\x01\x22\0\x03"),
-        (Signal::Probe, b"\x56\x01\x23\0\x03"),
-        (Signal::Stop, b"\x56\x01\x24\0\x03"),
+        (Signal::Tick, b"\x56\x02\x22\0\x03"),
+        (Signal::Probe, b"\x56\x02\x23\0\x03"),
+        (Signal::Stop, b"\x56\x02\x24\0\x03"),
     ] {
         assert!(rt; has_frame(&rt, rt.alloc(), signal, frame), "at {signal:?}");
     }

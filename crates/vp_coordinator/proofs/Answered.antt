@@ -7,12 +7,13 @@ use Rattle.vp_model.specs.Types.obstacle
 use Rattle.vp_model.specs.Words.{for_some, has, is_empty}
 use Rattle.vp_model.specs.Catalogue.{Catalogue, find_record}
 use Rattle.vp_model.specs.Site.{Lent}
-use Rattle.vp_model.specs.Transactions.{live_of, close, decide}
-use Rattle.vp_model.specs.Calls.{answer_read, answer_write}
-use Rattle.vp_model.specs.Answers.{with_missing, count_in, read_answered, on_read_answer, write_answered, on_write_answer, refused_by, on_refuse, voted, on_vote}
+use Rattle.vp_base.specs.declared.site.Ending.TheVariants.{LockHeld}
+use Rattle.vp_model.specs.Transactions.{live_of, close, decide, complete}
+use Rattle.vp_model.specs.Calls.{answer_read, change_asked}
+use Rattle.vp_model.specs.Answers.{record_name, with_missing, count_in, read_answered, on_read_answer, write_answered, on_write_answer, refused_by, on_refuse, voted, on_vote}
 use Rattle.vp_transactions.specs.declared.handled.Handled.{Handled}
 use Rattle.vp_transactions.specs.Waiting.{with_call, pending_for, waiting_call}
-use Rattle.vp_coordinator.specs.Answered.{wanted_read, wanted_write, is_commit, refused_end, refusal, refusal_at}
+use Rattle.vp_coordinator.specs.Answered.{wanted_read, wanted_change, is_commit, refused_end, refusal, refusal_at}
 
 module _ (from : ℕ) (f : Live → Pending → Lent → Lent) (l : Lent) where
   if_waiting : (t : Live) (q : Option Pending) → for_some q (λ p l. if has p.missing from then f t p l else l) l ≡ for_some (option_map (with_call t) (option_map_or (λ p. if has p.missing from then Some p else None) q None)) (λ (h : Handled). f h.live h.pending) l
@@ -28,42 +29,37 @@ module _ (from : ℕ) (f : Live → Pending → Lent → Lent) (l : Lent) where
       [ None ↦ refl | Some t ↦ if_waiting t t.pending ]
 
 module _ (catalogue : Catalogue) (from number : ℕ) (t : Live) (p : Pending) (l : Lent) where
-  pub read_wanted : (value : List ℕ) (words : Call) → read_answered catalogue from number value t p words l ≡ for_some (wanted_read catalogue number p words) (λ rec. count_in from t p (answer_read t p rec value)) l
+  pub read_wanted : (value : Option (List ℕ)) (words : Call) → read_answered catalogue from number value t p words l ≡ for_some (wanted_read catalogue number p words) (λ rec. count_in from t p (answer_read t p rec value)) l
   read_wanted value (call.Read txn n name) =
       elim (p.number == number) as (λ b. (if b then for_some (find_record catalogue name) (λ rec. count_in from t p (answer_read t p rec value)) l else l) ≡ for_some (if b then find_record catalogue name else None) (λ rec. count_in from t p (answer_read t p rec value)) l)
       [ true ↦ refl | false ↦ refl ]
   read_wanted value (call.Write txn n name v) = refl
+  read_wanted value (call.Delete txn n name) = refl
+  read_wanted value (call.Weigh txn n name table) = refl
   read_wanted value (call.Commit txn n) = refl
   read_wanted value (call.Abort txn n) = refl
   read_wanted value call.Begin = refl
   read_wanted value call.Regroup = refl
 
-  found_write : (value : List ℕ) (found : Option ℕ) → for_some found (λ rec. count_in from t p (answer_write t p rec value)) l ≡ for_some (option_map (λ rec. (rec, value)) found) (λ (w : ℕ × List ℕ). count_in from t p (answer_write t p w.0 w.1)) l
-  found_write value None = refl
-  found_write value (Some rec) = refl
-
-  pub write_wanted : (words : Call) → write_answered catalogue from number t p words l ≡ for_some (wanted_write catalogue number p words) (λ (w : ℕ × List ℕ). count_in from t p (answer_write t p w.0 w.1)) l
-  write_wanted (call.Read txn n name) = refl
-  write_wanted (call.Write txn n name value) =
-      elim (p.number == number) as (λ b. (if b then for_some (find_record catalogue name) (λ rec. count_in from t p (answer_write t p rec value)) l else l) ≡ for_some (if b then option_map (λ rec. (rec, value)) (find_record catalogue name) else None) (λ (w : ℕ × List ℕ). count_in from t p (answer_write t p w.0 w.1)) l)
-      [ true ↦ found_write value (find_record catalogue name) | false ↦ refl ]
-  write_wanted (call.Commit txn n) = refl
-  write_wanted (call.Abort txn n) = refl
-  write_wanted call.Begin = refl
-  write_wanted call.Regroup = refl
+  pub change_wanted : write_answered catalogue from number t p l ≡ for_some (wanted_change catalogue number p) (λ deed. count_in from t p (complete t p deed)) l
+  change_wanted =
+      elim (p.number == number) as (λ b. (if b then for_some (change_asked catalogue p.call) (λ deed. count_in from t p (complete t p deed)) l else l) ≡ for_some (if b then change_asked catalogue p.call else None) (λ deed. count_in from t p (complete t p deed)) l)
+      [ true ↦ refl | false ↦ refl ]
 
 module _ (catalogue : Catalogue) (from : ℕ) (txn : TxnId) (number : ℕ) (l : Lent) where
-  pub read_waits : (value : List ℕ) → on_read_answer catalogue from txn number value l ≡ for_some (waiting_call txn from l.live) (λ (h : Handled). read_answered catalogue from number value h.live h.pending h.pending.call) l
+  pub read_waits : (value : Option (List ℕ)) → on_read_answer catalogue from txn number value l ≡ for_some (waiting_call txn from l.live) (λ (h : Handled). read_answered catalogue from number value h.live h.pending h.pending.call) l
   unfolding on_read_answer
   read_waits value = taken_up from (λ t p. read_answered catalogue from number value t p p.call) l txn
 
-  pub write_waits : on_write_answer catalogue from txn number l ≡ for_some (waiting_call txn from l.live) (λ (h : Handled). write_answered catalogue from number h.live h.pending h.pending.call) l
+  pub write_waits : on_write_answer catalogue from txn number l ≡ for_some (waiting_call txn from l.live) (λ (h : Handled). write_answered catalogue from number h.live h.pending) l
   unfolding on_write_answer
-  write_waits = taken_up from (λ t p. write_answered catalogue from number t p p.call) l txn
+  write_waits = taken_up from (write_answered catalogue from number) l txn
 
 pub vote_counts : (catalogue : Catalogue) (id from : ℕ) (t : Live) (p : Pending) (words : Call) (l : Lent) → voted catalogue id from t p words l ≡ (if is_commit words then count_in from t p (decide catalogue id t) l else l)
 vote_counts catalogue id from t p (call.Read txn n name) l = refl
 vote_counts catalogue id from t p (call.Write txn n name value) l = refl
+vote_counts catalogue id from t p (call.Delete txn n name) l = refl
+vote_counts catalogue id from t p (call.Weigh txn n name table) l = refl
 vote_counts catalogue id from t p (call.Commit txn n) l = refl
 vote_counts catalogue id from t p (call.Abort txn n) l = refl
 vote_counts catalogue id from t p call.Begin l = refl
@@ -73,17 +69,17 @@ pub vote_waits : (catalogue : Catalogue) (id from : ℕ) (txn : TxnId) (l : Lent
 unfolding on_vote
 vote_waits catalogue id from txn l = taken_up from (λ t p. voted catalogue id from t p p.call) l txn
 
-pub ruleset questions = (read_wanted, write_wanted, vote_counts)
+pub ruleset questions = (read_wanted, change_wanted, vote_counts)
 
 module _ (id from : ℕ) (t : Live) (l : Lent) where
   refused_ends : (why : Obstacle) (words : Call) → refused_by id why words from t l ≡ for_some (refused_end from why t.view words) (close id t) l
-  refused_ends (obstacle.Held holder) (call.Read txn n name) = refl
-  refused_ends (obstacle.Held holder) (call.Write txn n name value) = refl
-  refused_ends (obstacle.Held holder) (call.Commit txn n) = refl
-  refused_ends (obstacle.Held holder) (call.Abort txn n) = refl
-  refused_ends (obstacle.Held holder) call.Begin = refl
-  refused_ends (obstacle.Held holder) call.Regroup = refl
+  refused_ends (obstacle.Held holder) words = named (record_name words)
+    where
+      named : (name : Option (List ℕ)) → for_some name (λ name. close id t (LockHeld name from holder)) l ≡ for_some (option_map (λ name. LockHeld name from holder) name) (close id t) l
+      named None = refl
+      named (Some name) = refl
   refused_ends (obstacle.OtherView now) words = refl
+  refused_ends (obstacle.Barred inside total) words = refl
 
   pub refusal_ends : (number : ℕ) (why : Obstacle) (p : Pending) → (if p.number == number then refused_by id why p.call from t l else l) ≡ for_some (refusal from number why t.view p) (close id t) l
   refusal_ends number why p =

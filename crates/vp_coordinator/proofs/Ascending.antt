@@ -10,7 +10,7 @@ use Rattle.std.proofs.lemmas.Bool.Decides.{nat_tests}
 use Rattle.std.proofs.lemmas.Cmp.{ranked}
 use Rattle.std.proofs.lemmas.List.{length-map, get_or-map}
 use Rattle.std.proofs.lemmas.List.Quantifiers.{position-Some}
-use Rattle.vp_model.specs.Words.{keys, replace_at}
+use Rattle.vp_model.specs.Words.{keys, change_at}
 
 module _ {V : Type 0} where
   key_at : (pairs : List (ℕ × V)) (i : ℕ) (d : ℕ × V) → i < length pairs → slice_index (keys pairs) i ≡ (get_or pairs i d).0
@@ -124,19 +124,19 @@ module _ {V : Type 0} where
   searched [] ascend n (Err at) within parted = refl
   searched (p ∷ pairs) ascend n r within found = found_at (p ∷ pairs) ascend n p r within found
 
-  keys_kept : (n : ℕ) (v : V) (pairs : List (ℕ × V)) → keys (replace_at n v pairs) ≡ keys pairs
-  keys_kept n v [] = refl
-  keys_kept n v (p ∷ pairs) = let rest = keys_kept n v pairs in grind (arith, nat_tests, rest)
+  keys_kept : (n : ℕ) (f : V → V) (pairs : List (ℕ × V)) → keys (change_at n f pairs) ≡ keys pairs
+  keys_kept n f [] = refl
+  keys_kept n f (p ∷ pairs) = let rest = keys_kept n f pairs in grind (arith, nat_tests, rest)
 
-module _ {V : Type 0} (pairs : List (ℕ × V)) (ascend : IsStrictlyIncreasing (keys pairs)) (n : ℕ) (v : V) where
-  pub replaced : (at : ℕ) (d : ℕ × V) → position (λ p. p.0 == n) pairs ≡ Some at → set pairs at ((get_or pairs at d).0, v) ≡ replace_at n v pairs
-  replaced at d there =
+module _ {V : Type 0} (pairs : List (ℕ × V)) (ascend : IsStrictlyIncreasing (keys pairs)) (n : ℕ) (f : V → V) where
+  pub changed : (at : ℕ) (d : ℕ × V) → position (λ p. p.0 == n) pairs ≡ Some at → set pairs at ((get_or pairs at d).0, f (get_or pairs at d).1) ≡ change_at n f pairs
+  changed at d there =
       let place = position-Some (λ p. p.0 == n) pairs at d there in
       let here : (get_or pairs at d).0 ≡ n = eqb-true _ _ place.1 in
-      rw here (sym (one_changed (λ p. p.0 == n) (λ p. (n, v)) pairs at d place.0 place.1 (others_differ pairs ascend n at d place.0 here)))
+      rw here (sym (one_changed (λ p. p.0 == n) (λ p. (n, f p.1)) pairs at d place.0 place.1 (others_differ pairs ascend n at d place.0 here)))
 
-  pub replaced-nowhere : position (λ p. p.0 == n) pairs ≡ None → pairs ≡ replace_at n v pairs
-  replaced-nowhere there = sym (kept (λ p. p.0 == n) (λ p. (n, v)) pairs there)
+  pub changed-nowhere : position (λ p. p.0 == n) pairs ≡ None → pairs ≡ change_at n f pairs
+  changed-nowhere there = sym (kept (λ p. p.0 == n) (λ p. (n, f p.1)) pairs there)
 
-  pub still_ascend : (at : ℕ) (d : ℕ × V) → position (λ p. p.0 == n) pairs ≡ Some at → IsStrictlyIncreasing (keys (set pairs at ((get_or pairs at d).0, v)))
-  still_ascend at d there = rw (replaced at d there, keys_kept n v pairs) ascend
+  pub still_ascend : (at : ℕ) (d : ℕ × V) → position (λ p. p.0 == n) pairs ≡ Some at → IsStrictlyIncreasing (keys (set pairs at ((get_or pairs at d).0, f (get_or pairs at d).1)))
+  still_ascend at d there = rw (changed at d there, keys_kept n f pairs) ascend

@@ -2,6 +2,7 @@ pub mod Answered
 pub mod Operations
 pub mod Presence
 pub mod LastWrites
+pub mod HasChanged
 pub mod Some
 pub mod Ascending
 pub mod Each

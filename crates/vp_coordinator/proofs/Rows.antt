@@ -1,19 +1,20 @@
 -- A row that puts the transaction in its place, or ends it, does the same whatever was there before.
 use Rattle.std.proofs.Common.{◌≡◌, ℕ, true, false, if◌then◌else◌, List, [], ◌∷◌, ◌++◌, Some, None, refl, ap}
-use Rattle.vp_model.specs.Types.{Live, Pending, Op, Answer, Ending}
+use Rattle.vp_model.specs.Types.{Live, Pending, Ending}
 use Rattle.vp_model.specs.Words.{is_empty}
 use Rattle.vp_model.specs.Catalogue.{Catalogue}
 use Rattle.vp_model.specs.Site.{Lent, with_reply}
-use Rattle.vp_model.specs.Transactions.{last_writes, finish, close, keep_writes, decided, decide, complete, wait_for}
+use Rattle.vp_model.specs.Transactions.{Deed, with_done, deed_answer, entry_of, last_changes, finish, close, keep_writes, decided, decide, complete, wait_for}
 use Rattle.vp_model.specs.Calls.{handling}
 use Rattle.vp_coordinator.specs.InPlace.{in_place}
 use Rattle.vp_transactions.proofs.Hands.{put_live_again, drop_live_again}
 
 module _ (t : Live) (p : Pending) (l : Lent) where
-  pub complete_in_place : (op : Op) (a : Answer) → complete t p op a (in_place t l) ≡ complete t p op a l
+  pub complete_in_place : (deed : Deed) → complete t p deed (in_place t l) ≡ complete t p deed l
   unfolding complete
-  complete_in_place op a =
-      ap (λ live. record { coordinator = record l.coordinator { live = live }; here = l.here; effects = with_reply a p.port l.effects }) (put_live_again t (record t { ops = t.ops ++ op ∷ []; answers = t.answers ++ a ∷ []; pending = None }) l.coordinator.live refl)
+  complete_in_place deed =
+      let a = deed_answer t.txn p.number deed in
+      ap (λ live. record { coordinator = record l.coordinator { live = live }; here = l.here; effects = with_reply a p.port l.effects }) (put_live_again t (with_done deed a t) l.coordinator.live refl)
 
   pub close_in_place : (id : ℕ) (why : Ending) → close id (handling t p) why (in_place t l) ≡ close id (handling t p) why l
   unfolding close finish
@@ -22,7 +23,7 @@ module _ (t : Live) (p : Pending) (l : Lent) where
   pub decide_in_place : (catalogue : Catalogue) (id : ℕ) → decide catalogue id (handling t p) (in_place t l) ≡ decide catalogue id (handling t p) l
   unfolding decide keep_writes decided finish
   decide_in_place catalogue id =
-      elim (is_empty (last_writes t.ops)) as (λ b. decided id (handling t p) (if b then in_place t l else keep_writes catalogue id (handling t p) (in_place t l)) ≡ decided id (handling t p) (if b then l else keep_writes catalogue id (handling t p) l))
+      elim (is_empty (last_changes (entry_of t))) as (λ b. decided id (handling t p) (if b then in_place t l else keep_writes catalogue id (handling t p) (in_place t l)) ≡ decided id (handling t p) (if b then l else keep_writes catalogue id (handling t p) l))
       [ true ↦ rw (drop_live_again t l.coordinator.live) refl | false ↦ rw (drop_live_again t l.coordinator.live) refl ]
 
 -- the same where the pending call is the transaction's own
@@ -34,7 +35,7 @@ module _ (t : Live) (l : Lent) where
   pub decide_own : (catalogue : Catalogue) (id : ℕ) → decide catalogue id t (in_place t l) ≡ decide catalogue id t l
   unfolding decide keep_writes decided finish
   decide_own catalogue id =
-      elim (is_empty (last_writes t.ops)) as (λ b. decided id t (if b then in_place t l else keep_writes catalogue id t (in_place t l)) ≡ decided id t (if b then l else keep_writes catalogue id t l))
+      elim (is_empty (last_changes (entry_of t))) as (λ b. decided id t (if b then in_place t l else keep_writes catalogue id t (in_place t l)) ≡ decided id t (if b then l else keep_writes catalogue id t l))
       [ true ↦ rw (drop_live_again t l.coordinator.live) refl | false ↦ rw (drop_live_again t l.coordinator.live) refl ]
 
 pub wait_in_place : (t : Live) (p : Pending) (sites : List ℕ) (l : Lent) → wait_for t p sites (in_place t l) ≡ wait_for t p sites l

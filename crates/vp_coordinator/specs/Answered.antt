@@ -7,17 +7,18 @@ use Rattle.vp_model.specs.Types.obstacle
 use Rattle.vp_model.specs.Words.{for_some}
 use Rattle.vp_model.specs.Catalogue.{Catalogue, find_record}
 use Rattle.vp_model.specs.Site.{Lent}
-use Rattle.vp_model.specs.Transactions.{close}
+use Rattle.vp_model.specs.Transactions.{Deed, close}
+use Rattle.vp_model.specs.Calls.{change_asked}
+use Rattle.vp_model.specs.Answers.{record_name}
 
 -- the record that is read by a call with this number
 abbrev pub wanted_read : Catalogue → ℕ → Pending → Call → Option ℕ
 wanted_read catalogue number p (call.Read txn n name) = if p.number == number then find_record catalogue name else None
 wanted_read catalogue number p _ = None
 
--- the record that is written, with its value
-abbrev pub wanted_write : Catalogue → ℕ → Pending → Call → Option (ℕ × List ℕ)
-wanted_write catalogue number p (call.Write txn n name value) = if p.number == number then option_map (λ rec. (rec, value)) (find_record catalogue name) else None
-wanted_write catalogue number p _ = None
+-- what is changed by a call with this number
+abbrev pub wanted_change : Catalogue → ℕ → Pending → Option Deed
+wanted_change catalogue number p = if p.number == number then change_asked catalogue p.call else None
 
 abbrev pub is_commit : Call → Bool
 is_commit (call.Commit txn number) = true
@@ -25,10 +26,9 @@ is_commit _ = false
 
 -- how a transaction of this view ends where a site has refused its call
 abbrev pub refused_end : ℕ → Obstacle → ViewId → Call → Option Ending
-refused_end from (obstacle.Held holder) view (call.Read txn number name) = Some (LockHeld name from holder)
-refused_end from (obstacle.Held holder) view (call.Write txn number name value) = Some (LockHeld name from holder)
-refused_end from (obstacle.Held holder) view _ = None
+refused_end from (obstacle.Held holder) view words = option_map (λ name. LockHeld name from holder) (record_name words)
 refused_end from (obstacle.OtherView now) view words = Some (ViewChanged from view now)
+refused_end from (obstacle.Barred inside total) view words = None
 
 abbrev pub refusal : ℕ → ℕ → Obstacle → ViewId → Pending → Option Ending
 refusal from number why view p = if p.number == number then refused_end from why view p.call else None

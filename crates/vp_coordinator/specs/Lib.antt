@@ -1,4 +1,5 @@
 pub mod Answered
+pub mod Deeds
 pub mod Records
 pub mod InPlace
 pub mod Ends

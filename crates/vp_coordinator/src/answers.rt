@@ -1,17 +1,19 @@
 //! What the answers of other sites do to a call that waits for them, and what the inquiries of other sites do.
 
-ghost use Rattle.std.specs.Prelude.{◌≡◌, [], OnOk, IfOk, option_copied, true, false};
-ghost use Rattle.vp_model.specs.Calls.{answer_read, answer_write};
+ghost use Rattle.std.specs.Prelude.{◌≡◌, [], OnOk, IfOk, option_map, option_copied, true, false};
+ghost use Rattle.vp_model.specs.Calls.{answer_read};
 ghost use Rattle.vp_model.specs.Answers.{count_in, read_answered, write_answered, voted, on_read_answer, on_write_answer, on_refuse, on_vote, on_ack, on_inquire};
-ghost use Rattle.vp_model.specs.Transactions.{decide};
+ghost use Rattle.vp_model.specs.Transactions.{complete, decide};
 ghost use Rattle.vp_transactions.specs.Waiting.{waits};
 ghost use Rattle.vp_coordinator.specs.InPlace.{in_place};
-ghost use Rattle.vp_coordinator.specs.Answered.{wanted_read, wanted_write, is_commit, refused_end, refusal, refusal_at};
+ghost use Rattle.vp_coordinator.specs.Deeds.{as_deed};
+ghost use Rattle.vp_coordinator.specs.Answered.{wanted_read, wanted_change, is_commit, refused_end, refusal, refusal_at};
 
 use crate::coordinator::Coordinator;
+use crate::deeds::{Deed, change_asked, record_name};
 use vp_base::{
-    Call, CallNo, CopyOf, Ending, LogRecord, Message, NoMemory, Obstacle, Pending, RecId, SiteId,
-    TxnId, Value, ViewId,
+    Boxed, Call, CallNo, CopyOf, Ending, LogRecord, Message, NoMemory, Obstacle, Pending, RecId,
+    SiteId, TxnId, Value, ViewId,
 };
 use vp_catalog::{Catalog, others_of};
 use vp_transactions::Handled;
@@ -34,20 +36,14 @@ fn wanted_read(catalog: &Catalog, number: CallNo, p: &Pending) -> Option<RecId>
     }
 }
 
-/// The record that the pending call writes and its value, where it is a write with this number.
-fn wanted_write(
-    catalog: &Catalog,
-    number: CallNo,
-    p: &Pending,
-) -> Result<Option<(RecId, Value)>, NoMemory>
-    ensures { IfOk result (λ wanted. wanted ≡ wanted_write catalog.now number p.now p.now.call) }
+/// What the pending call asks to change, where it has this number.
+fn wanted_change(catalog: &Catalog, number: CallNo, p: &Pending) -> Result<Option<Deed>, NoMemory>
+    ensures { IfOk result (λ wanted. option_map as_deed wanted ≡ wanted_change catalog.now number p.now) }
 {
-    match &p.call {
-        Call::Write { name, value, .. } if p.number == number => match catalog.find(name) {
-            None => Ok(None),
-            Some(rec) => Ok(Some((rec, value.copy_of()?))),
-        },
-        _ => Ok(None),
+    if p.number == number {
+        change_asked(catalog, &p.call)
+    } else {
+        Ok(None)
     }
 }
 
@@ -72,14 +68,15 @@ fn refused_end(
             held: view,
             now: *now,
         })),
-        Obstacle::Held { owner } => match call {
-            Call::Read { name, .. } | Call::Write { name, .. } => Ok(Some(Ending::LockHeld {
+        Obstacle::Held { owner } => match record_name(call) {
+            None => Ok(None),
+            Some(name) => Ok(Some(Ending::LockHeld {
                 name: name.copy_of()?,
                 at: from,
                 owner: *owner,
             })),
-            _ => Ok(None),
         },
+        Obstacle::Barred { .. } => Ok(None),
     }
 }
 
@@ -99,6 +96,16 @@ fn refusal(
     }
 }
 
+/// Copies the content.
+fn content_of(value: &Option<Boxed<Value>>) -> Result<Option<Value>, NoMemory>
+    ensures { IfOk result (λ content. content ≡ value.now) }
+{
+    match value {
+        None => Ok(None),
+        Some(value) => Ok(Some(value.as_ref().copy_of()?)),
+    }
+}
+
 /// Counts the site's answer to a read; where no other is missing, the read is answered.
 #[tactic(auto, using(crate::proofs::Rows::wait_in_place))]
 fn count_read(
@@ -106,7 +113,7 @@ fn count_read(
     from: SiteId,
     handled: &mut Handled,
     rec: RecId,
-    value: Value,
+    value: Option<Value>,
 ) -> Result<(), NoMemory>
     ensures { OnOk result (lent.new ≡
         count_in from handled.old.live handled.old.pending (answer_read handled.old.live handled.old.pending rec value)
@@ -126,7 +133,7 @@ fn read_answered(
     came: &Incoming<'_>,
     handled: &mut Handled,
     number: CallNo,
-    value: &Value,
+    value: &Option<Boxed<Value>>,
 ) -> Result<(), NoMemory>
     requires { waits handled.old.live ≡ true }
     ensures { OnOk result (lent.new ≡
@@ -139,28 +146,27 @@ fn read_answered(
             Ok(())
         }
         Some(rec) => {
-            let value = value.copy_of()?;
+            let value = content_of(value)?;
             count_read(lent, came.from, handled, rec, value)
         }
     }
 }
 
-/// Counts the site's lock for a write; where no other is missing, the write is answered.
+/// Counts the site's lock for a change; where no other is missing, the change is answered.
 #[tactic(auto, using(crate::proofs::Rows::wait_in_place))]
-fn count_write(
+fn count_change(
     lent: &mut Coordinator,
     from: SiteId,
     handled: &mut Handled,
-    rec: RecId,
-    value: Value,
+    deed: Deed,
 ) -> Result<(), NoMemory>
     ensures { OnOk result (lent.new ≡
-        count_in from handled.old.live handled.old.pending (answer_write handled.old.live handled.old.pending rec value)
+        count_in from handled.old.live handled.old.pending (complete handled.old.live handled.old.pending (as_deed deed))
         (in_place handled.old.live lent.old)) }
 {
     let missing = others_of(&handled.pending.missing, from)?;
     if missing.as_slice().is_empty() {
-        lent.answer_write(handled, rec, &value)
+        lent.complete(handled, deed)
     } else {
         lent.wait_for(handled, missing)
     }
@@ -175,15 +181,15 @@ fn write_answered(
 ) -> Result<(), NoMemory>
     requires { waits handled.old.live ≡ true }
     ensures { OnOk result (lent.new ≡
-        write_answered came.now.catalog.now came.now.from number handled.old.live handled.old.pending handled.old.pending.call
+        write_answered came.now.catalog.now came.now.from number handled.old.live handled.old.pending
         (in_place handled.old.live lent.old)) }
 {
-    match wanted_write(came.catalog, number, &handled.pending)? {
+    match wanted_change(came.catalog, number, &handled.pending)? {
         None => {
             lent.put_back(handled);
             Ok(())
         }
-        Some((rec, value)) => count_write(lent, came.from, handled, rec, value),
+        Some(deed) => count_change(lent, came.from, handled, deed),
     }
 }
 
@@ -246,14 +252,14 @@ fn voted(lent: &mut Coordinator, came: &Incoming<'_>, handled: &mut Handled) -> 
 /// The messages of other sites for the transactions that this site began. After want of memory what is lent may be changed in part:
 /// drop it.
 impl Coordinator {
-    /// Takes the value that another site sends for the read that waits for it.
+    /// Takes the content that another site sends for the read that waits for it.
     #[tactic(auto, using(crate::proofs::Answered::awaited))]
     pub fn on_read_answer(
         &mut self,
         came: &Incoming<'_>,
         txn: &TxnId,
         number: CallNo,
-        value: &Value,
+        value: &Option<Boxed<Value>>,
     ) -> Result<(), NoMemory>
         ensures { OnOk result (self.new ≡
             on_read_answer came.now.catalog.now came.now.from txn.now number value.now self.old) }
@@ -264,7 +270,7 @@ impl Coordinator {
         }
     }
 
-    /// Takes the lock of another site for the write that waits for it.
+    /// Takes the lock of another site for the change that waits for it.
     #[tactic(auto, using(crate::proofs::Answered::awaited))]
     pub fn on_write_answer(
         &mut self,

@@ -12,10 +12,10 @@ ghost use Rattle.vp_coordinator.specs.InPlace.{in_place};
 ghost use Rattle.vp_coordinator.specs.Lent.{around};
 
 use crate::around::Around;
+use crate::changes::change_named;
 use crate::commits::commit;
 use crate::coordinator::Coordinator;
 use crate::reads::read_named;
-use crate::writes::write_named;
 use std::alloc::Global;
 use vp_base::{
     Answer, Call, CallNo, CopyOf, Ending, MOST_LIVE, NoMemory, Pending, Sites, TxnId, View, ViewId,
@@ -128,8 +128,10 @@ fn new_call(
         (in_place handled.old.live lent.old)) }
 {
     match call {
-        Call::Read { name, .. } => read_named(lent, at, handled, name),
-        Call::Write { name, value, .. } => write_named(lent, at, handled, name, value),
+        Call::Read { name, .. } => read_named(lent, at, handled, name, call),
+        Call::Write { name, .. } | Call::Delete { name, .. } | Call::Weigh { name, .. } => {
+            change_named(lent, at, handled, name, call)
+        }
         Call::Commit { .. } => commit(lent, at, handled),
         Call::Abort { .. } => {
             handled.attach_call()?;
@@ -232,6 +234,8 @@ impl Coordinator {
             Call::Regroup => Ok(()),
             Call::Read { txn, number, .. }
             | Call::Write { txn, number, .. }
+            | Call::Delete { txn, number, .. }
+            | Call::Weigh { txn, number, .. }
             | Call::Commit { txn, number }
             | Call::Abort { txn, number } => {
                 let asked = TxnCall {

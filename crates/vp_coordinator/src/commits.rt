@@ -1,18 +1,18 @@
-//! Committing: each part is asked for its vote, on the records that were read there and on the last values of those that it holds.
+//! Committing: each part is asked for its vote, on the records that were read there and on the last changes of those that it holds.
 
 ghost use Rattle.std.specs.Prelude.{◌≡◌, OnOk, IfOk, false};
 ghost use Rattle.vp_model.specs.Words.{is_empty};
 ghost use Rattle.vp_model.specs.Site.{with_each_message};
-ghost use Rattle.vp_model.specs.Transactions.{last_writes};
+ghost use Rattle.vp_model.specs.Transactions.{entry_of, last_changes};
 ghost use Rattle.vp_model.specs.Calls.{records_read_at, prepare_for, prepare_parts, commit};
 ghost use Rattle.vp_coordinator.specs.InPlace.{in_place};
 
 use crate::around::Around;
 use crate::coordinator::Coordinator;
-use crate::final_writes::{last_writes, writes_held};
+use crate::final_writes::{last_changes, writes_held};
 use std::alloc::Global;
 use vp_base::{
-    Boxed, CopyOf, Effects, Live, Message, NoMemory, Pending, RecId, Recs, SiteId, Sites, Value,
+    Boxed, Change, CopyOf, Effects, Live, Message, NoMemory, Pending, RecId, Recs, SiteId, Sites,
 };
 use vp_catalog::Catalog;
 use vp_lists::put;
@@ -63,7 +63,7 @@ fn ask_parts(
         with_each_message at.now.id (prepare_for at.now.catalog.now handled.now.live handled.now.pending) handled.now.live.parts effects.old) }
 {
     let t = &handled.live;
-    let writes = last_writes(t.ops.allocator(), t.ops.as_slice())?;
+    let writes = last_changes(t.ops.allocator(), t)?;
     for site in t.parts.as_slice() {
         let request = prepare_for(at.catalog, t, &handled.pending, writes.as_slice(), *site)?;
         effects.send(at.id, *site, request)?;
@@ -93,10 +93,10 @@ fn prepare_for(
     catalog: &Catalog,
     t: &Live,
     p: &Pending,
-    writes: &[(RecId, Value)],
+    writes: &[(RecId, Change)],
     site: SiteId,
 ) -> Result<Message, NoMemory>
-    requires { writes.now ≡ last_writes t.now.ops }
+    requires { writes.now ≡ last_changes (entry_of t.now) }
     ensures { IfOk result (λ message. message ≡ prepare_for catalog.now t.now p.now site) }
 {
     let alloc = t.ops.allocator();

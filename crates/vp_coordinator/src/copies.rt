@@ -3,12 +3,12 @@
 ghost use Rattle.std.specs.Prelude.{◌≡◌, ◌==◌, ◌<◌, IsTrue, IfOk, OnOk, IfSome, option_copied, is_some, length};
 ghost use Rattle.std.specs.List.{position};
 ghost use Rattle.std.specs.List.Sorted.{IsStrictlyIncreasing};
-ghost use Rattle.vp_model.specs.Words.{keys, value_at, replace_at};
-ghost use Rattle.vp_model.specs.Durable.{with_writes};
+ghost use Rattle.vp_model.specs.Words.{keys, value_at, change_at, replace_at};
+ghost use Rattle.vp_model.specs.Durable.{changed, with_writes};
 
 use std::marker::Model;
-use vp_base::{Copies, CopyOf, NoMemory, RecId, Stored, Value, ViewId};
-use vp_lists::{copy_all, replace_at};
+use vp_base::{Change, Copies, NoMemory, RecId, Stored, ViewId};
+use vp_lists::{change_at, change_copy, copy_all, replace_at};
 
 /// The copies of a site that is up. Where their records ascend, which is tested once, a copy is found by halving; else by a walk.
 #[derive(Drop)]
@@ -99,16 +99,27 @@ impl SiteCopies {
         Ok(())
     }
 
-    /// Stores what a transaction of the view `date` wrote. A record without a copy is passed over.
-    pub fn write(&mut self, date: &ViewId, writes: &[(RecId, Value)]) -> Result<(), NoMemory>
+    /// Does to the copy of the record, if there is one, what a transaction of the view `date` made of the record. After want of
+    /// memory the copy may be changed in part.
+    fn change(&mut self, rec: RecId, date: &ViewId, change: &Change) -> Result<(), NoMemory>
+        ensures { OnOk result (self.new ≡ change_at rec (changed date.now change.now) self.old) }
+    {
+        if !self.ascending {
+            return change_at(&mut self.copies, rec, date, change);
+        }
+        if let Some(place) = self.place_of(rec) {
+            change_copy(&mut self.copies[place].1, date, change)?;
+        }
+        Ok(())
+    }
+
+    /// Stores what a transaction of the view `date` changed. A record without a copy is passed over. After want of memory the copies
+    /// may be changed in part: drop them.
+    pub fn write(&mut self, date: &ViewId, writes: &[(RecId, Change)]) -> Result<(), NoMemory>
         ensures { OnOk result (self.new ≡ with_writes date.now writes.now self.old) }
     {
         for write in writes {
-            let stored = Stored {
-                value: write.1.copy_of()?,
-                date: *date,
-            };
-            self.replace(write.0, stored)?;
+            self.change(write.0, date, &write.1)?;
         }
         Ok(())
     }

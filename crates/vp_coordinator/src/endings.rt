@@ -1,21 +1,23 @@
-//! How a transaction goes on after an operation, and how it ends.
+//! How a transaction goes on after a call is done, and how it ends.
 
 ghost use Rattle.std.specs.Prelude.{◌≡◌, ◌++◌, ◌∷◌, [], OnOk, Some, None, true, false, if◌then◌else◌};
 ghost use Rattle.vp_base.specs.declared.message.Message.TheVariants as message;
 ghost use Rattle.vp_base.specs.declared.site.Ending.TheVariants as ending;
 ghost use Rattle.vp_model.specs.Words.{is_empty};
 ghost use Rattle.vp_model.specs.Site.{lent_reply, with_reply, with_commit, with_messages};
-ghost use Rattle.vp_model.specs.Transactions.{entry_of, last_writes, complete, wait_for, close, keep_writes, decided, decide};
-ghost use Rattle.vp_model.specs.Calls.{handling, answer_read, answer_write};
+ghost use Rattle.vp_model.specs.Transactions.{entry_of, last_changes, complete, wait_for, close, keep_writes, decided, decide};
+ghost use Rattle.vp_model.specs.Calls.{handling, answer_read};
 ghost use Rattle.vp_transactions.specs.Waiting.{waits, standing_for};
 ghost use Rattle.vp_coordinator.specs.InPlace.{in_place};
+ghost use Rattle.vp_coordinator.specs.Deeds.{as_deed};
 
 use crate::coordinator::Coordinator;
-use crate::final_writes::{last_writes, writes_held, writing_parts};
+use crate::deeds::{Deed, add_answer, deed_answer};
+use crate::final_writes::{last_changes, writes_held, writing_parts};
 use std::mem;
 use vp_base::{
     Answer, Commit, CopyOf, Effects, Ending, Live, LogRecord, Name, NoMemory, Op, Ops, Owner,
-    RecId, SiteId, Sites, Value, Writes,
+    RecId, SiteId, Sites, Tables, Value, Writes,
 };
 use vp_catalog::Catalog;
 use vp_transactions::{Handled, send_outcome};
@@ -42,59 +44,31 @@ impl Coordinator {
         self.effects.reply(port, answer)
     }
 
-    /// Adds the operation to the transaction; gives its answer and keeps it.
+    /// Answers the call: what it did is done, and the answer is kept.
     #[tactic(auto, unfolding(vp_model::specs::Transactions::complete), using(crate::proofs::Rows::in_places))]
-    pub fn complete(
-        &mut self,
-        handled: &mut Handled,
-        operation: Op,
-        answer: Answer,
-    ) -> Result<(), NoMemory>
+    pub fn complete(&mut self, handled: &mut Handled, deed: Deed) -> Result<(), NoMemory>
         ensures { OnOk result (self.new ≡
-            complete handled.old.live handled.old.pending operation answer
-            (in_place handled.old.live self.old)) }
+            complete handled.old.live handled.old.pending (as_deed deed) (in_place handled.old.live self.old)) }
     {
+        let answer = deed_answer(handled.txn(), handled.number(), &deed)?;
         reply_with(handled.pending.port, &answer, &mut self.effects)?;
-        add_answer(&mut handled.live, operation, answer)?;
+        add_answer(&mut handled.live, deed, answer)?;
         self.put_back(handled);
         Ok(())
     }
 
-    /// Answers the read with this value.
+    /// Answers the read with this content.
     pub fn answer_read(
         &mut self,
         handled: &mut Handled,
         rec: RecId,
-        value: Value,
+        value: Option<Value>,
     ) -> Result<(), NoMemory>
         ensures { OnOk result (self.new ≡
             answer_read handled.old.live handled.old.pending rec value (in_place handled.old.live self.old)) }
     {
-        let answer = Answer::Value {
-            txn: handled.txn(),
-            number: handled.number(),
-            value: value.copy_of()?,
-        };
-        self.complete(handled, Op::Read { rec, value }, answer)
-    }
-
-    /// Answers the write.
-    pub fn answer_write(
-        &mut self,
-        handled: &mut Handled,
-        rec: RecId,
-        value: &Value,
-    ) -> Result<(), NoMemory>
-        ensures { OnOk result (self.new ≡
-            answer_write handled.old.live handled.old.pending rec value.now
-            (in_place handled.old.live self.old)) }
-    {
-        let value = value.copy_of()?;
-        let answer = Answer::Written {
-            txn: handled.txn(),
-            number: handled.number(),
-        };
-        self.complete(handled, Op::Write { rec, value }, answer)
+        let operation = Op::Read { rec, value };
+        self.complete(handled, Deed::Operates { operation })
     }
 
     /// Lets the call wait for these sites.
@@ -149,7 +123,7 @@ impl Coordinator {
         t: &Live,
         writes: &Writes,
     ) -> Result<(), NoMemory>
-        requires { writes.now ≡ last_writes t.now.ops }
+        requires { writes.now ≡ last_changes (entry_of t.now) }
         ensures { OnOk result (self.new ≡ keep_writes catalog.now id t.now self.old) }
     {
         let alloc = t.ops.allocator();
@@ -165,12 +139,12 @@ impl Coordinator {
         })
     }
 
-    /// Forces the decision to the log where the transaction wrote.
-    fn keep_written(&mut self, catalog: &Catalog, id: SiteId, t: &Live) -> Result<(), NoMemory>
+    /// Forces the decision to the log where the transaction changed something.
+    fn keep_changed(&mut self, catalog: &Catalog, id: SiteId, t: &Live) -> Result<(), NoMemory>
         ensures { OnOk result (self.new ≡
-            (if is_empty (last_writes t.now.ops) then self.old else keep_writes catalog.now id t.now self.old)) }
+            (if is_empty (last_changes (entry_of t.now)) then self.old else keep_writes catalog.now id t.now self.old)) }
     {
-        let writes = last_writes(t.ops.allocator(), t.ops.as_slice())?;
+        let writes = last_changes(t.ops.allocator(), t)?;
         if writes.as_slice().is_empty() {
             return Ok(());
         }
@@ -180,7 +154,7 @@ impl Coordinator {
     #[tactic(auto, unfolding(vp_model::specs::Transactions::decided, vp_model::specs::Transactions::finish))]
     fn decided(&mut self, id: SiteId, t: &mut Live) -> Result<(), NoMemory>
         ensures row { OnOk result (self.new ≡ decided id t.old self.old) }
-        ensures left { OnOk result (t.new ≡ record t.old { ops = []; answers = [] }) }
+        ensures left { OnOk result (t.new ≡ record t.old { ops = []; tables = []; answers = [] }) }
     {
         send_commit(id, t, &mut self.effects)?;
         self.here.locks.release(t.txn);
@@ -188,15 +162,15 @@ impl Coordinator {
             .finish(t, Ending::Committed, &mut self.effects)
     }
 
-    /// Commits the transaction: where it wrote, the decision is forced to the log before any message of it is sent. Its operations
-    /// go to the journal, and its answers are kept with its end. (Two-phase commit: Bernstein, Hadzilacos and Goodman 1987, chapter
+    /// Commits the transaction: where it changed something, the decision is forced to the log before any message of it is sent. Its operations
+    /// and tables go to the journal, and its answers are kept with its end. (Two-phase commit: Bernstein, Hadzilacos and Goodman 1987, chapter
     /// 7.)
     #[tactic(auto, unfolding(vp_model::specs::Transactions::decide))]
     pub fn decide(&mut self, catalog: &Catalog, id: SiteId, t: &mut Live) -> Result<(), NoMemory>
         ensures row { OnOk result (self.new ≡ decide catalog.now id t.old self.old) }
-        ensures left { OnOk result (t.new ≡ record t.old { ops = []; answers = [] }) }
+        ensures left { OnOk result (t.new ≡ record t.old { ops = []; tables = []; answers = [] }) }
     {
-        self.keep_written(catalog, id, t)?;
+        self.keep_changed(catalog, id, t)?;
         self.decided(id, t)
     }
 }
@@ -208,28 +182,19 @@ fn reply_with(port: u16, answer: &Answer, effects: &mut Effects) -> Result<(), N
     effects.reply(port, answer.copy_of()?)
 }
 
-/// Adds the operation to the transaction, and keeps its answer.
-fn add_answer(t: &mut Live, operation: Op, answer: Answer) -> Result<(), NoMemory>
-    ensures { OnOk result (t.new ≡
-        record t.old { ops = t.old.ops ++ operation ∷ []; answers = t.old.answers ++ answer ∷ []; pending = None }) }
-{
-    t.pending = None;
-    t.ops.push(operation)?;
-    t.answers.push(answer)
-}
-
-/// Gives the transaction to the journal, with its operations, and sends its commit to its parts.
+/// Gives the transaction to the journal, with its operations and tables, and sends its commit to its parts.
 fn send_commit(id: SiteId, t: &mut Live, effects: &mut Effects) -> Result<(), NoMemory>
-    ensures live { OnOk result (t.new ≡ record t.old { ops = [] }) }
+    ensures live { OnOk result (t.new ≡ record t.old { ops = []; tables = [] }) }
     ensures effects { OnOk result (effects.new ≡
         with_messages id (message.Outcome t.old.txn true) t.old.parts (with_commit (entry_of t.old) effects.old)) }
 {
-    let none = Ops::new(t.ops.allocator());
-    let ops = mem::replace(&mut t.ops, none);
+    let no_ops = Ops::new(t.ops.allocator());
+    let no_tables = Tables::new(t.tables.allocator());
     effects.commit(Commit {
         txn: t.txn,
         view: t.view,
-        ops,
+        ops: mem::replace(&mut t.ops, no_ops),
+        tables: mem::replace(&mut t.tables, no_tables),
     })?;
     send_outcome(id, &t.txn, true, t.parts.as_slice(), effects)
 }

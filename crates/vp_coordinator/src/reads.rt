@@ -1,4 +1,4 @@
-//! Reading: the transaction's own write, else the copy here, else the lowest holder in the view is asked. (Reads use one copy and
+//! Reading: what the transaction itself wrote, else the copy here, else the lowest holder in the view is asked. (Reads use one copy and
 //! writes use all in the view: Bernstein, Hadzilacos and Goodman 1987, chapter 8.)
 
 ghost use Rattle.std.specs.Prelude.{◌≡◌, ◌++◌, ◌∷◌, [], OnOk, option_copied, true, false};
@@ -7,11 +7,12 @@ ghost use Rattle.vp_model.specs.Refresh.{other_holders_in};
 ghost use Rattle.vp_model.specs.Calls.{with_record, lock_here, answer_read, read_at, read};
 ghost use Rattle.vp_transactions.specs.Waiting.{waits};
 ghost use Rattle.vp_coordinator.specs.InPlace.{in_place};
+ghost use Rattle.vp_coordinator.specs.Deeds.{deed_asked};
 
 use crate::around::Around;
 use crate::coordinator::Coordinator;
-use crate::records::{NamedValue, copy_here, own_write, usable_record};
-use vp_base::{CopyOf, Live, Message, Name, NoMemory, RecId, SiteId};
+use crate::records::{copy_here, own_write, usable_record};
+use vp_base::{Call, Live, Message, Name, NoMemory, RecId, SiteId, Value};
 use vp_catalog::alone;
 use vp_lists::put_in;
 use vp_locks::LockFault;
@@ -67,15 +68,17 @@ fn read_here(
     lent: &mut Coordinator,
     id: SiteId,
     handled: &mut Handled,
-    found: &NamedValue<'_>,
+    name: &Name,
+    rec: RecId,
+    content: Option<Value>,
 ) -> Result<(), NoMemory>
     ensures { OnOk result (lent.new ≡
-        lock_here id handled.old.live handled.old.pending found.now.name.now found.now.rec false (answer_read handled.old.live handled.old.pending found.now.rec found.now.value.now)
+        lock_here id handled.old.live handled.old.pending name.now rec false (answer_read handled.old.live handled.old.pending rec content)
         (in_place handled.old.live lent.old)) }
 {
-    match lent.here.locks.take_shared(found.rec, handled.txn()) {
-        Ok(()) => lent.answer_read(handled, found.rec, found.value.copy_of()?),
-        Err(LockFault::Held { owner }) => lent.close_blocked(id, handled, found.name, owner),
+    match lent.here.locks.take_shared(rec, handled.txn()) {
+        Ok(()) => lent.answer_read(handled, rec, content),
+        Err(LockFault::Held { owner }) => lent.close_blocked(id, handled, name, owner),
         Err(LockFault::NoMemory) => Err(NoMemory),
     }
 }
@@ -94,12 +97,9 @@ fn read(
         (in_place handled.old.live lent.old)) }
 {
     match own_write(&handled.live, rec)? {
-        Some(value) => lent.answer_read(handled, rec, value),
+        Some(content) => lent.answer_read(handled, rec, content),
         None => match copy_here(&lent.here, rec)? {
-            Some(stored) => {
-                let value = &stored.into_value();
-                read_here(lent, at.id, handled, &NamedValue { name, rec, value })
-            }
+            Some(stored) => read_here(lent, at.id, handled, name, rec, stored.into_value()),
             None => read_there(lent, at, handled, rec),
         },
     }
@@ -112,14 +112,15 @@ pub fn read_named(
     at: &Around<'_, '_>,
     handled: &mut Handled,
     name: &Name,
+    call: &Call,
 ) -> Result<(), NoMemory>
     requires { waits handled.old.live ≡ true }
     ensures { OnOk result (lent.new ≡
-        with_record at.now.catalog.now (option_copied at.now.held) handled.old.live handled.old.pending name.now
+        with_record at.now.catalog.now (option_copied at.now.held) handled.old.live handled.old.pending name.now (deed_asked call.now)
         (read at.now.catalog.now at.now.id (option_copied at.now.held) handled.old.live handled.old.pending name.now)
         (in_place handled.old.live lent.old)) }
 {
-    match usable_record(at, handled, name)? {
+    match usable_record(at, handled, name, call)? {
         Ok(rec) => read(lent, at, handled, name, rec),
         Err(answer) => lent.refuse(handled, answer),
     }

@@ -1,43 +1,107 @@
-//! The record of an operation: whether it may be used, and what its transaction and its site have for it.
+//! The record of a call: whether it may be used as the call asks, and what its transaction and its site have for it.
 
-ghost use Rattle.std.specs.Prelude.{◌≡◌, IfOk, Some, None, nat_le, if◌then◌else◌, length, option_copied, is_some};
-ghost use Rattle.std.specs.Option.{option_map_or};
+ghost use Rattle.std.specs.Prelude.{◌≡◌, ◌≤◌, ◌||◌, IfOk, Some, None, false, is_some, nat_le, if◌then◌else◌, length, option_copied};
 ghost use Rattle.vp_base.specs.declared.answer.Answer.TheVariants as answer;
 ghost use Rattle.vp_model.specs.Words.{value_at};
-ghost use Rattle.vp_model.specs.Catalogue.{inside, total};
-ghost use Rattle.vp_model.specs.Refresh.{members_in, is_usable_in};
-ghost use Rattle.vp_model.specs.Transactions.{last_writes};
-ghost use Rattle.vp_coordinator.specs.Records.{usable_as, usable_record, writes};
+ghost use Rattle.vp_model.specs.Catalogue.{accessible, accessible_by, inside, total, weight_inside, weight_total};
+ghost use Rattle.vp_model.specs.Transactions.{entry_of, last_writes, last_changes};
+ghost use Rattle.vp_model.specs.Calls.{is_bad_table, is_too_large, short_by, short};
+ghost use Rattle.vp_coordinator.specs.Deeds.{as_deed, deed_asked};
+ghost use Rattle.vp_coordinator.specs.Records.{HasFewShares, usable_as, usable_record, writes};
 
 use crate::around::Around;
+use crate::deeds::{Deed, deed_asked};
 use crate::here::Here;
-use std::alloc::Global;
-use vp_base::{Answer, CopyOf, Live, MOST_OPS, Name, NoMemory, Op, RecId, Sites, Stored, Value};
-use vp_catalog::members_of;
+use crate::sizes::is_too_large;
+use vp_base::{
+    Answer, Call, CopyOf, Live, MOST_OPS, Name, NoMemory, Op, RecId, SiteId, Sites, Stored, Value,
+};
+use vp_catalog::{Catalog, members_of, weight_inside, weight_total};
+use vp_lists::value_at;
 use vp_transactions::Handled;
 
-/// A value that an operation reads from a record or writes to it. The record is given by name and by place.
-#[derive(Clone, Copy)]
-pub struct NamedValue<'a> {
-    pub name: &'a Name,
-    pub rec: RecId,
-    pub value: &'a Value,
+/// Whether the table that is asked for has other sites than the record's holders.
+fn is_bad_table(catalog: &Catalog, deed: &Deed) -> Result<bool, NoMemory>
+    ensures bad { IfOk result (λ bad. bad ≡ is_bad_table catalog.now (as_deed deed.now)) }
+    ensures few { IfOk result (λ bad. bad ≡ false → HasFewShares (as_deed deed.now)) }
+{
+    match deed {
+        Deed::Operates { .. } => Ok(false),
+        Deed::Weighs { rec, table } => Ok(!catalog.has_holders(*rec, table.as_slice())?),
+    }
 }
 
-/// Whether the record is accessible in the held view.
-fn is_usable(alloc: Global, at: &Around<'_, '_>, rec: RecId) -> bool
-    ensures { result ≡ is_usable_in at.now.catalog.now (option_copied at.now.held) rec }
+/// The weight inside and the whole weight by the table that is asked for, where no more than half is at the members.
+fn short_by(deed: &Deed, members: &Sites) -> Option<(u32, u32)>
+    requires { HasFewShares (as_deed deed.now) }
+    ensures { result ≡ short_by (as_deed deed.now) members.now }
 {
-    let none = Sites::new(alloc);
-    at.catalog.accessible(rec, members_of(at.held, &none))
+    match deed {
+        Deed::Operates { .. } => None,
+        Deed::Weighs { table, .. } => short_table(table.as_slice(), members.as_slice()),
+    }
 }
 
-/// The weight of the record's copies at the members of the held view.
-fn weight_inside(alloc: Global, at: &Around<'_, '_>, rec: RecId) -> u32
-    ensures { result ≡ inside at.now.catalog.now rec (members_in (option_copied at.now.held)) }
+/// Both weights by a table, where no more than half is at the members.
+fn short_table(table: &[(SiteId, u16)], members: &[SiteId]) -> Option<(u32, u32)>
+    requires { length table.now ≤ 16 }
+    ensures { result ≡
+        (if accessible_by table.now members.now then None else Some (weight_inside members.now table.now, weight_total table.now)) }
 {
-    let none = Sites::new(alloc);
-    at.catalog.inside(rec, members_of(at.held, &none))
+    let inside = weight_inside(table, members);
+    let total = weight_total(table);
+    if u64::from(total) < 2 * u64::from(inside) {
+        None
+    } else {
+        Some((inside, total))
+    }
+}
+
+/// Both weights by the catalogue, where no more than half is at the members.
+fn short_here(catalog: &Catalog, members: &Sites, rec: RecId) -> Option<(u32, u32)>
+    ensures { result ≡
+        (if accessible catalog.now rec members.now then None else Some (inside catalog.now rec members.now, total catalog.now rec)) }
+{
+    if catalog.accessible(rec, members) {
+        None
+    } else {
+        Some((catalog.inside(rec, members), catalog.total(rec)))
+    }
+}
+
+/// Why the record may not be used so in the held view, as two weights.
+fn short(at: &Around<'_, '_>, handled: &Handled, rec: RecId, deed: &Deed) -> Option<(u32, u32)>
+    requires { HasFewShares (as_deed deed.now) }
+    ensures { result ≡ short at.now.catalog.now (option_copied at.now.held) rec (as_deed deed.now) }
+{
+    let none = Sites::new(handled.live.ops.allocator());
+    let members = members_of(at.held, &none);
+    match short_by(deed, members) {
+        None => short_here(at.catalog, members, rec),
+        Some(weights) => Some(weights),
+    }
+}
+
+/// The answer that the record isn't accessible in the view, for these weights.
+fn inaccessible(handled: &Handled, name: &Name, weights: (u32, u32)) -> Result<Answer, NoMemory>
+    ensures { IfOk result (λ told. told ≡
+        answer.Inaccessible handled.now.live.txn handled.now.pending.number name.now weights.0 weights.1) }
+{
+    Ok(Answer::Inaccessible {
+        txn: handled.txn(),
+        number: handled.number(),
+        name: name.copy_of()?,
+        inside: weights.0,
+        total: weights.1,
+    })
+}
+
+/// Whether the transaction has had as many answers as it may have, or would get too large by this.
+fn is_over(t: &Live, deed: &Deed) -> Result<bool, NoMemory>
+    ensures { IfOk result (λ over. over ≡
+        (nat_le 64 (length t.now.answers) || is_too_large t.now (as_deed deed.now))) }
+{
+    Ok(t.answers.as_slice().len() >= usize::from(MOST_OPS) || is_too_large(t, deed)?)
 }
 
 fn usable_as(
@@ -45,56 +109,44 @@ fn usable_as(
     handled: &Handled,
     name: &Name,
     rec: RecId,
+    deed: &Deed,
 ) -> Result<Result<RecId, Answer>, NoMemory>
     ensures { IfOk result (λ found. found ≡
-        usable_as at.now.catalog.now (option_copied at.now.held) handled.now.live handled.now.pending name.now rec) }
+        usable_as at.now.catalog.now (option_copied at.now.held) handled.now.live handled.now.pending name.now rec (as_deed deed.now)) }
 {
-    let txn = handled.live.txn;
+    let txn = handled.txn();
     let number = handled.number();
-    let alloc = handled.live.ops.allocator();
-    if handled.live.ops.as_slice().len() >= usize::from(MOST_OPS) {
+    if is_bad_table(at.catalog, deed)? {
+        return Ok(Err(Answer::BadTable { txn, number }));
+    }
+    if is_over(&handled.live, deed)? {
         return Ok(Err(Answer::TooManyOps { txn, number }));
     }
-    if is_usable(alloc, at, rec) {
-        return Ok(Ok(rec));
+    match short(at, handled, rec, deed) {
+        None => Ok(Ok(rec)),
+        Some(weights) => Ok(Err(inaccessible(handled, name, weights)?)),
     }
-    Ok(Err(inaccessible(at, handled, name, rec)?))
 }
 
-/// The answer that the record isn't accessible in the view.
-fn inaccessible(
-    at: &Around<'_, '_>,
-    handled: &Handled,
-    name: &Name,
-    rec: RecId,
-) -> Result<Answer, NoMemory>
-    ensures { IfOk result (λ told. told ≡
-        answer.Inaccessible handled.now.live.txn handled.now.pending.number name.now (inside at.now.catalog.now rec (members_in (option_copied at.now.held))) (total at.now.catalog.now rec)) }
-{
-    Ok(Answer::Inaccessible {
-        txn: handled.txn(),
-        number: handled.number(),
-        name: name.copy_of()?,
-        inside: weight_inside(handled.live.ops.allocator(), at, rec),
-        total: at.catalog.total(rec),
-    })
-}
-
-/// Finds the record of the name, or else gives the answer that refuses its use.
+/// Finds the record that the call names, or else gives the answer that refuses its use.
 pub fn usable_record(
     at: &Around<'_, '_>,
     handled: &Handled,
     name: &Name,
+    call: &Call,
 ) -> Result<Result<RecId, Answer>, NoMemory>
     ensures { IfOk result (λ found. found ≡
-        usable_record at.now.catalog.now (option_copied at.now.held) handled.now.live handled.now.pending name.now) }
+        usable_record at.now.catalog.now (option_copied at.now.held) handled.now.live handled.now.pending name.now (deed_asked call.now)) }
 {
     match at.catalog.find(name) {
         None => Ok(Err(Answer::NoRecord {
-            txn: handled.live.txn,
+            txn: handled.txn(),
             number: handled.number(),
         })),
-        Some(rec) => usable_as(at, handled, name, rec),
+        Some(rec) => {
+            let deed = deed_asked(call, rec)?;
+            usable_as(at, handled, name, rec, &deed)
+        }
     }
 }
 
@@ -107,8 +159,8 @@ fn writes(op: &Op, rec: RecId) -> bool
     }
 }
 
-/// The value that the operations last wrote to the record.
-fn last_write<'a>(ops: &'a [Op], rec: RecId) -> Option<&'a Value>
+/// The content that the operations last wrote to the record.
+fn last_write<'a>(ops: &'a [Op], rec: RecId) -> Option<&'a Option<Value>>
     ensures { option_copied result ≡ value_at rec (last_writes ops.now) }
 {
     match ops.iter().rev().find(|op| writes(op, rec)) {
@@ -118,20 +170,33 @@ fn last_write<'a>(ops: &'a [Op], rec: RecId) -> Option<&'a Value>
     }
 }
 
-/// Whether the transaction has written the record.
-pub fn wrote(t: &Live, rec: RecId) -> bool
+fn has_written(t: &Live, rec: RecId) -> bool
     ensures { result ≡ is_some (value_at rec (last_writes t.now.ops)) }
 {
     last_write(t.ops.as_slice(), rec).is_some()
 }
 
-/// Copies the value that the transaction last wrote to the record.
-pub fn own_write(t: &Live, rec: RecId) -> Result<Option<Value>, NoMemory>
-    ensures { IfOk result (λ value. value ≡ value_at rec (last_writes t.now.ops)) }
+fn has_weighed(t: &Live, rec: RecId) -> bool
+    ensures { result ≡ is_some (value_at rec t.now.tables) }
+{
+    value_at(t.tables.as_slice(), rec).is_some()
+}
+
+/// Whether the transaction has changed the record.
+#[tactic(auto, using(crate::proofs::HasChanged::by_write, crate::proofs::HasChanged::by_table))]
+pub fn has_changed(t: &Live, rec: RecId) -> bool
+    ensures { result ≡ is_some (value_at rec (last_changes (entry_of t.now))) }
+{
+    has_written(t, rec) || has_weighed(t, rec)
+}
+
+/// Copies the content that the transaction last wrote to the record.
+pub fn own_write(t: &Live, rec: RecId) -> Result<Option<Option<Value>>, NoMemory>
+    ensures { IfOk result (λ content. content ≡ value_at rec (last_writes t.now.ops)) }
 {
     match last_write(t.ops.as_slice(), rec) {
         None => Ok(None),
-        Some(value) => Ok(Some(value.copy_of()?)),
+        Some(content) => Ok(Some(content.copy_of()?)),
     }
 }
 

@@ -1,6 +1,6 @@
 -- What a turn's frame asks of its site, and the message that it is.
 use Rattle.std.proofs.Common.{◌≡◌, ◌≢◌, ◌∙◌, ap, sym, subst, ℕ, ◌+◌, ◌-◌, suc, Bool, true, false, cond, List, ◌∷◌, [], refl, arith, Result, Ok, Err, ⊎_elim}
-use Rattle.std.specs.Prelude.{Option, Some, None, ◌==◌, slice_get, is_some, option_map}
+use Rattle.std.specs.Prelude.{Option, Some, None, ◌==◌, ◌&&◌, not, slice_get, is_some, option_map}
 use Rattle.std.specs.List.{position_from}
 use Rattle.std.specs.Str.{bytes_eq}
 use Rattle.std.proofs.lemmas.Bool.{eqb-true}
@@ -15,15 +15,19 @@ use Rattle.vp_wire.specs.declared.frame.Frame.{Frame}
 use Rattle.vp_wire.specs.declared.frame.Body.{Body}
 use Rattle.vp_wire.specs.declared.frame.Body.TheVariants as body
 use Rattle.vp_wire.specs.Decoded.{read_frame}
-use Rattle.vp_wire.specs.Grammar.{IsFrame, IsSpelling, frame_bytes, frame_of}
+use Rattle.vp_wire.specs.Grammar.{IsBody, IsFrame, IsSpelling, frame_bytes, frame_in}
 use Rattle.vp_wire.proofs.Decoded.{bytes_are_read}
 use Rattle.vp_wire.proofs.Told.{one_frame}
+use Rattle.vp_wire.proofs.Later.{body_later}
+use Rattle.vp_wire.proofs.CallForms.{call_of}
+use Rattle.vp_contents.specs.Versions.{version_of}
+use Rattle.vp_contents.specs.declared.version.Version.TheVariants as versions
 use Rattle.vp_laws.specs.ShapeLaws.{message_frame}
 use Rattle.vp_laws.proofs.Lists.Members.{Has, has_none, has_cons}
 use Rattle.vp_laws.proofs.Lists.Numbers.{eq_not}
 use Rattle.vp_laws.proofs.Moves.LocalViews.{letter}
 use Rattle.vp_runs.specs.declared.arrival.Arrival.TheVariants.{Stray, Gives}
-use Rattle.vp_fitting.specs.Asked.{asks, asks_body, asks_of}
+use Rattle.vp_fitting.specs.Asked.{asks, asks_body, asks_of, is_weigh}
 use Rattle.vp_fitting.specs.Merged.{same_sent, lowest, event_of}
 
 -- ---- what a frame asks
@@ -31,47 +35,47 @@ use Rattle.vp_fitting.specs.Merged.{same_sent, lowest, event_of}
 -- the input that the bytes are to the site
 pub data AskedBy (s : ℕ) (bytes : List ℕ) : Input → Type 0 where
   called : (words : Call) → IsCall words → AskedBy s bytes (input.Call 0 words)
-  sent : (from : ℕ) (m : Message) → IsFrame (message_frame (letter from s m)) → bytes ≡ frame_bytes (message_frame (letter from s m)) → AskedBy s bytes (input.Message from m)
+  sent : (from : ℕ) (m : Message) → IsFrame (message_frame (letter from s m)) → AskedBy s bytes (input.Message from m)
   ticked : AskedBy s bytes input.Tick
   probed : AskedBy s bytes input.Probe
 
-body_asks : (s : ℕ) (bytes : List ℕ) (from to : ℕ) (b : Body) → bytes ≡ frame_bytes (frame_of from to b) → IsFrame (frame_of from to b) → (given : Input) → asks_body s (frame_of from to b) b ≡ Gives given → AskedBy s bytes given
-body_asks s bytes from to (body.Message m) is frame given e = go (to == s) refl e
+body_asks : (s : ℕ) (bytes : List ℕ) (version from to : ℕ) (b : Body) → IsBody versions.Second from to b → (given : Input) → asks_body s (frame_in version from to b) b ≡ Gives given → AskedBy s bytes given
+body_asks s bytes version from to (body.Message m) form given e = go (to == s) refl e
   where
     go : (here : Bool) → (to == s) ≡ here → cond here (Gives (input.Message from m)) Stray ≡ Gives given → AskedBy s bytes given
     go true t q =
         let to_is : to ≡ s = eqb-true to s t in
         let same : input.Message from m ≡ given = cc in
-        subst (AskedBy s bytes) same (AskedBy.sent from m (subst (λ (to : ℕ). IsFrame (frame_of from to (body.Message m))) to_is frame) (is ∙ ap (λ (to : ℕ). frame_bytes (frame_of from to (body.Message m))) to_is))
+        subst (AskedBy s bytes) same (AskedBy.sent from m (omega arith, omega arith, subst (λ (to : ℕ). IsBody versions.Second from to (body.Message m)) to_is form))
     go false t q = absurd cc
-body_asks s bytes from to (body.Call words) is frame given e = go (to == s) e
+body_asks s bytes version from to (body.Call words) form given e = go ((to == s) && not (is_weigh words)) e
   where
     go : (here : Bool) → cond here (Gives (input.Call 0 words)) Stray ≡ Gives given → AskedBy s bytes given
-    go true q = let same : input.Call 0 words ≡ given = cc in subst (AskedBy s bytes) same (AskedBy.called words frame.2)
+    go true q = let same : input.Call 0 words ≡ given = cc in subst (AskedBy s bytes) same (AskedBy.called words (call_of words form.2))
     go false q = absurd cc
-body_asks s bytes from to (body.Reply answer) is frame given e = go (to == s) e
+body_asks s bytes version from to (body.Reply answer) form given e = go (to == s) e
   where
     go : (here : Bool) → cond here Stray Stray ≡ Gives given → AskedBy s bytes given
     go true q = absurd cc
     go false q = absurd cc
-body_asks s bytes from to body.Tick is frame given e = go (to == s) e
+body_asks s bytes version from to body.Tick form given e = go (to == s) e
   where
     go : (here : Bool) → cond here (Gives input.Tick) Stray ≡ Gives given → AskedBy s bytes given
     go true q = let same : input.Tick ≡ given = cc in subst (AskedBy s bytes) same AskedBy.ticked
     go false q = absurd cc
-body_asks s bytes from to body.ProbeNow is frame given e = go (to == s) e
+body_asks s bytes version from to body.ProbeNow form given e = go (to == s) e
   where
     go : (here : Bool) → cond here (Gives input.Probe) Stray ≡ Gives given → AskedBy s bytes given
     go true q = let same : input.Probe ≡ given = cc in subst (AskedBy s bytes) same AskedBy.probed
     go false q = absurd cc
-body_asks s bytes from to body.Stop is frame given e = absurd cc
+body_asks s bytes version from to body.Stop form given e = absurd cc
 
 pub asked_by : (s : ℕ) (bytes : List ℕ) (given : Input) → asks s bytes ≡ Gives given → AskedBy s bytes given
 unfolding asks
 asked_by s bytes given e = go (read_frame bytes) (bytes_are_read bytes) e
   where
     go : (read : Result Frame ℕ) → Answers IsSpelling (λ (f : Frame). f) (λ (at : ℕ). Some at) bytes read → asks_of s read ≡ Gives given → AskedBy s bytes given
-    go (Ok f) a q = body_asks s bytes f.from f.to f.body a.is a.allowed given q
+    go (Ok f) a q = body_asks s bytes f.version f.from f.to f.body (body_later (version_of f.version) f.from f.to f.body a.allowed.2) given q
     go (Err at) a q = absurd cc
 
 -- ---- the lowest number of a message
@@ -107,7 +111,7 @@ same_bytes xs ys e = (bytes_eq-Decides xs ys).1 e
 equal_bytes : (xs ys : List ℕ) → bytes_eq xs ys ≡ true → xs ≡ ys
 equal_bytes xs ys e = (bytes_eq-Decides xs ys).0 e
 
-joined : (f g t u : ℕ) (m n : Message) → f ≡ g → t ≡ u → m ≡ n → letter f t m ≡ letter g u n
+pub joined : (f g t u : ℕ) (m n : Message) → f ≡ g → t ≡ u → m ≡ n → letter f t m ≡ letter g u n
 joined f g t u m n a b c = rw (a, b, c) refl
 
 -- messages with the same frame are one
@@ -153,26 +157,24 @@ lowest_none m all e x h same =
 -- ---- a turn that waits
 
 -- the message that the site waits for, which no step has sent
-pub record WaitsFor (all : List Sent) (s : ℕ) (bytes : List ℕ) (given : Input) : Type 0 where
+pub record WaitsFor (all : List Sent) (s : ℕ) (given : Input) : Type 0 where
   pub from : ℕ
   pub message : Message
   pub given_is : given ≡ input.Message from message
-  pub bytes_are : bytes ≡ frame_bytes (message_frame (letter from s message))
-  pub none : (x : Sent) → Has all x → frame_bytes (message_frame x) ≢ bytes
+  pub none : (x : Sent) → Has all x → x ≢ letter from s message
 
 not_mapped : (o : Option ℕ) → is_some (option_map event.Deliver o) ≡ false → o ≡ None
 not_mapped None e = refl
 not_mapped (Some k) e = absurd cc
 
-pub waits_for : (all : List Sent) (s : ℕ) (bytes : List ℕ) (given : Input) → AskedBy s bytes given → is_some (event_of all s given) ≡ false → WaitsFor all s bytes given
+pub waits_for : (all : List Sent) (s : ℕ) (bytes : List ℕ) (given : Input) → AskedBy s bytes given → is_some (event_of all s given) ≡ false → WaitsFor all s given
 waits_for all s bytes _ (AskedBy.called words call) e = absurd cc
-waits_for all s bytes _ (AskedBy.sent from m frame is) e =
+waits_for all s bytes _ (AskedBy.sent from m frame) e =
     record {
       from = from;
       message = m;
       given_is = refl;
-      bytes_are = is;
-      none = λ x h same. lowest_none (letter from s m) all (not_mapped (lowest (letter from s m) all) e) x h (same ∙ is);
+      none = λ x h same. lowest_none (letter from s m) all (not_mapped (lowest (letter from s m) all) e) x h (ap (λ (x : Sent). frame_bytes (message_frame x)) same);
     }
 waits_for all s bytes _ AskedBy.ticked e = absurd cc
 waits_for all s bytes _ AskedBy.probed e = absurd cc

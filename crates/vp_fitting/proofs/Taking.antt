@@ -104,7 +104,7 @@ module _ (catalogue : Catalogue) where
   steps_on s w x _ bytes e up cuts frames AskedBy.probed is =
       let same : event.Probe s ≡ e = cc in
       subst (λ (e : Event). Steps e w s x input.Probe) same (record { delivered = w.delivered; next_is = at_site_next s w x input.Probe up; gives = Gives.probed refl; arrives = tt; single = tt; call = tt })
-  steps_on s w x _ bytes e up cuts frames (AskedBy.sent from m frame are) is = go (lowest (letter from s m) w.sent) refl is
+  steps_on s w x _ bytes e up cuts frames (AskedBy.sent from m frame) is = go (lowest (letter from s m) w.sent) refl is
     where
       at : (k : ℕ) → lowest (letter from s m) w.sent ≡ Some k → message_at w k ≡ Some (letter from s m)
       at k found = lowest_is (letter from s m) w k found frame (λ x here. frames x (message_at-has w k x here))

@@ -5,8 +5,6 @@ use Rattle.vp_model.specs.Types.{Event, Input, Sent, Message}
 use Rattle.vp_model.specs.Types.input
 use Rattle.vp_model.specs.Catalogue.{Catalogue, sites_of}
 use Rattle.vp_model.specs.World.{Place, Moment, Run, next, moment, one_step, run_of}
-use Rattle.vp_wire.specs.Grammar.{frame_bytes}
-use Rattle.vp_laws.specs.ShapeLaws.{message_frame}
 use Rattle.vp_laws.proofs.Lists.Members.{Has}
 use Rattle.vp_laws.proofs.Lists.Views.{same_site}
 use Rattle.vp_laws.proofs.Moves.LocalViews.{letter}
@@ -147,7 +145,7 @@ module _ (catalogue : Catalogue) (id : ℕ) where
 pub record WaitsAt (all : List Sent) (s : ℕ) (d : Due) : Type 0 where
   pub given : Input
   pub asks_is : asks s d.turn.frame ≡ Gives given
-  pub waits : WaitsFor all s d.turn.frame given
+  pub waits : WaitsFor all s given
 
 pub waits_at : (all : List Sent) (s : ℕ) (d : Due) → can_take all s d ≡ false → WaitsAt all s d
 waits_at all s d e = by (asks s d.turn.frame) refl e
@@ -168,5 +166,5 @@ waits_halt all s life d dues w =
       input.Message it.from it.message,
       more,
       ap (λ (a : Arrival). again_then (d.life - life) (asked_then a more)) a ∙ again_append (d.life - life) (Deed.takes (input.Message it.from it.message) ∷ more),
-      Halts.waits it.from it.message more (λ x has same. it.none x has (ap (λ (x : Sent). frame_bytes (message_frame x)) same ∙ sym it.bytes_are)),
+      Halts.waits it.from it.message more it.none,
     )

@@ -9,7 +9,8 @@ use Rattle.vp_model.specs.Durable.{empty_durable}
 use Rattle.vp_model.specs.Step.{step, start}
 use Rattle.vp_model.specs.Limits.{Limits, refused}
 use Rattle.vp_model.specs.World.{Place, WorldState, Schedule, next, run_of, moments_of}
-use Rattle.vp_wire.specs.Grammar.{IsFrame, frame_bytes}
+use Rattle.vp_model.specs.Types.input
+use Rattle.vp_wire.specs.Grammar.{IsFrame}
 use Rattle.vp_laws.specs.ShapeLaws.{message_frame}
 use Rattle.vp_laws.proofs.Lists.Items.{all_at}
 use Rattle.vp_laws.proofs.Lists.Members.{Has, has_of, contains, has_right, has_first, both_true}
@@ -24,7 +25,8 @@ use Rattle.vp_fitting.specs.Laws.{over, AreTold, MatchesAll, IsWhole, MergesMatc
 use Rattle.vp_fitting.specs.Merged.{Merging, Choice, Merge, Done, tells, is_own, is_told, can_take, own_events, event_of, events_in, is_ready, done_with, done_from, turn_done, taken_by, first_of, ready, merge_end, end_of, gone_on, by_choice, merged_from, merged, turns_left, first_track, at_first}
 use Rattle.vp_fitting.proofs.Runs.{Runs, run_in, begins, no_moments, limit_none}
 use Rattle.vp_fitting.proofs.Choices.{IsChosen, chosen_is, Stays, none_chosen, none_left, fewer_left}
-use Rattle.vp_fitting.proofs.Messages.{asked_by}
+use Rattle.vp_laws.proofs.Moves.LocalViews.{letter}
+use Rattle.vp_fitting.proofs.Messages.{asked_by, joined}
 use Rattle.vp_fitting.proofs.Follows.{AreDue, dues_rise, dues_numbered, one_due, Follows, follows_first, follows_same, follows_takes, follows_stops, asked_now, gives_other, stops_other, bad_other, stray_other, none_recorded}
 use Rattle.vp_runs.proofs.Through.{starts_at}
 use Rattle.vp_fitting.proofs.Deeds.{frames_of}
@@ -303,15 +305,27 @@ module _ (limits : Limits) (catalogue : Catalogue) (recordings : List Recording)
         fitting : (events : List Event) → IsFitting (over catalogue events) recordings → (id : ℕ) → Has sites id → Starts (deeds_of id (moments_of (over catalogue events))) (asked id)
         fitting events fits id l = fits.each id (contains sites id l)
 
-        never : (s : Schedule) → s.catalogue ≡ catalogue → IsFitting s recordings → (x : Sent) → Has (run_of s).world.sent x → frame_bytes (message_frame x) ≢ c.due.turn.frame
-        never s same = subst (λ (s : Schedule). IsFitting s recordings → (x : Sent) → Has (run_of s).world.sent x → frame_bytes (message_frame x) ≢ c.due.turn.frame) (ap (λ (c : Catalogue). over c s.events) (sym same))
+        -- the message that the turn takes
+        is_letter : (x : Sent) → x.to ≡ c.site → asks c.site c.due.turn.frame ≡ Gives (input.Message x.from x.message) → x ≡ letter waits_there.waits.from c.site waits_there.waits.message
+        is_letter x to e =
+            let it = waits_there.waits in
+            let z : Gives (input.Message x.from x.message) ≡ Gives (input.Message it.from it.message) = sym e ∙ waits_there.asks_is ∙ ap Gives it.given_is in
+            let from : x.from ≡ it.from = cc in
+            let message : x.message ≡ it.message = cc in
+            joined x.from it.from x.to c.site x.message it.message from to message
+
+        abbrev Unlike : WorldState → Type 0
+        Unlike w = (x : Sent) → Has w.sent x → x ≢ letter waits_there.waits.from c.site waits_there.waits.message
+
+        never : (s : Schedule) → s.catalogue ≡ catalogue → IsFitting s recordings → Unlike (run_of s).world
+        never s same = subst (λ (s : Schedule). IsFitting s recordings → Unlike (run_of s).world) (ap (λ (c : Catalogue). over c s.events) (sym same))
             (λ fits x has.
             let h = held_last catalogue m.world.sent asked bound holds s.events in
             waits_there.waits.none x (sent_before catalogue m.world.sent asked bound holds (run_in catalogue s.events) h.agrees (h.stays (fitting s.events fits)) x has))
 
         never_sent : IsNeverSent catalogue recordings c.site c.due.number
-        never_sent s same fits d has e x there =
-            subst (λ (d : Due). frame_bytes (message_frame x) ≢ d.turn.frame) (is_due d (has_of (dues_of c.site recordings) d has) e) (never s same fits x (has_of (run_of s).world.sent x there))
+        never_sent s same fits d has e x there to takes =
+            never s same fits x (has_of (run_of s).world.sent x there) (is_letter x to (subst (λ (d : Due). asks c.site d.turn.frame ≡ Gives (input.Message x.from x.message)) (sym (is_due d (has_of (dues_of c.site recordings) d has) e)) takes))
 
         -- so no schedule does all
         not_all : (events : List Event) → MatchesAll (over catalogue events) recordings → ⊥

@@ -1,5 +1,8 @@
 -- What recordings ask of each site: its turns over its lives, and what a turn's frame is to it.
-use Rattle.std.specs.Prelude.{ℕ, ◌+◌, ◌==◌, ◌&&◌, Bool, not, if◌then◌else◌, List, [], ◌∷◌, ◌++◌, length, map, Result, Ok, Err}
+use Rattle.std.specs.Prelude.{ℕ, ◌+◌, ◌==◌, ◌&&◌, Bool, true, false, not, if◌then◌else◌, List, [], ◌∷◌, ◌++◌, length, map, Result, Ok, Err}
+use Rattle.vp_model.specs.Types.{Call}
+use Rattle.vp_model.specs.Types.call
+use Rattle.vp_model.specs.Types.input
 use Rattle.vp_model.specs.Words.{is_empty}
 use Rattle.vp_wire.specs.declared.frame.Frame.{Frame}
 use Rattle.vp_wire.specs.declared.frame.Body.{Body}
@@ -7,7 +10,7 @@ use Rattle.vp_wire.specs.declared.frame.Body.TheVariants as body
 use Rattle.vp_wire.specs.Decoded.{read_frame}
 use Rattle.vp_runs.specs.Arrivals.{arrival_in}
 use Rattle.vp_runs.specs.declared.arrival.Arrival.{Arrival}
-use Rattle.vp_runs.specs.declared.arrival.Arrival.TheVariants.{Bad, Stray, Stops}
+use Rattle.vp_runs.specs.declared.arrival.Arrival.TheVariants.{Bad, Stray, Stops, Gives}
 use Rattle.vp_recording.specs.declared.recording.Recording.{Recording}
 use Rattle.vp_recording.specs.declared.recording.Turn.{Turn}
 
@@ -43,9 +46,16 @@ outs_of d = map (λ out. out.bytes) d.turn.outs
 
 -- ---- what a frame is
 
--- a frame that stops its node; else what the frame is to the site, to which calls come from port 0
+-- no schedule has a call that changes a table yet
+abbrev pub is_weigh : Call → Bool
+is_weigh (call.Weigh txn number name table) = true
+is_weigh _ = false
+
+-- a frame that stops its node; else what the frame is to the site, to which calls come from port 0; a call that no schedule has is none of its
+-- calls
 abbrev pub asks_body : ℕ → Frame → Body → Arrival
 asks_body site frame body.Stop = Stops
+asks_body site frame (body.Call words) = if frame.to == site && not (is_weigh words) then Gives (input.Call 0 words) else Stray
 asks_body site frame b = if frame.to == site then arrival_in 0 frame.from b else Stray
 
 abbrev pub asks_of : ℕ → Result Frame ℕ → Arrival

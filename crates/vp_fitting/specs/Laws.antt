@@ -6,8 +6,8 @@ use Rattle.vp_model.specs.Catalogue.{Catalogue, sites_of}
 use Rattle.vp_model.specs.Limits.{Limits, limit_reached}
 use Rattle.vp_model.specs.World.{Schedule, run_of, moments_of}
 use Rattle.vp_catalog.specs.Document.{IsCatalogue}
-use Rattle.vp_laws.specs.ShapeLaws.{IsEvent, message_frame}
-use Rattle.vp_wire.specs.Grammar.{frame_bytes}
+use Rattle.vp_model.specs.Types.input
+use Rattle.vp_laws.specs.ShapeLaws.{IsEvent}
 use Rattle.vp_runs.specs.declared.arrival.Arrival.{Arrival}
 use Rattle.vp_runs.specs.declared.arrival.Arrival.TheVariants.{Bad, Stray, Stops, Gives}
 use Rattle.vp_recording.specs.Recordings.{AreOfNodes}
@@ -50,10 +50,10 @@ abbrev pub MergesMatch : Type 0
 MergesMatch = (limits : Limits) (catalogue : Catalogue) (recordings : List Recording) (events : List Event) →
     IsCatalogue catalogue → AreOfNodes catalogue recordings → merged limits catalogue recordings ≡ Merge.whole events → IsWhole limits catalogue recordings events
 
--- No schedule that fits sends the frame of this turn, at any time.
+-- No schedule that fits sends the message that this turn takes, at any time.
 abbrev pub IsNeverSent : Catalogue → List Recording → ℕ → ℕ → Type 0
 IsNeverSent catalogue recordings site number = (s : Schedule) → s.catalogue ≡ catalogue → IsFitting s recordings →
-    (d : Due) → Contains (dues_of site recordings) d → d.number ≡ number → (sent : Sent) → Contains (run_of s).world.sent sent → frame_bytes (message_frame sent) ≢ d.turn.frame
+    (d : Due) → Contains (dues_of site recordings) d → d.number ≡ number → (sent : Sent) → Contains (run_of s).world.sent sent → sent.to ≡ site → asks site d.turn.frame ≢ Gives (input.Message sent.from sent.message)
 
 -- Where no further turn can be done, no schedule that fits sends the message that the turn waits for.
 abbrev pub UnsentIsNeverSent : Type 0

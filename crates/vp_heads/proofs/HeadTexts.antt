@@ -10,7 +10,7 @@ use Rattle.vp_text.proofs.Exact.{Exact, Made, made_exact, exact_as}
 use Rattle.vp_text.proofs.Words.{literal_exact}
 use Rattle.vp_text.proofs.Choices.{IsClear, Opens, differ, clear_keys, made_opens, either_exact}
 use Rattle.vp_model.specs.Catalogue.{Catalogue}
-use Rattle.vp_model.specs.Texts.Schedule.{weight_text}
+use Rattle.vp_model.specs.Texts.Fields.{weight_text}
 use Rattle.vp_catalog.specs.declared.entry.Entry.{Entry}
 use Rattle.vp_catalog.specs.declared.entry.Entry.TheVariants as entry
 use Rattle.vp_catalog.specs.Entries.{EntryText, SiteText, RecordText}

@@ -11,8 +11,9 @@ pub mod Refreshes
 pub mod Values
 pub mod Writes
 pub mod Brought
-pub mod CopiesKept
 pub mod Usable
+pub mod NewCopies
+pub mod CopiesKept
 pub mod OwnUse
 pub mod RefreshKept
 pub mod DoubtBase

@@ -5,6 +5,8 @@ pub mod Places
 pub mod UpTo
 pub mod Acts
 pub mod ValuesAfter
+pub mod Changed
+pub mod LastChanges
 pub mod ValuesGrow
 pub mod Playing
 pub mod Contents

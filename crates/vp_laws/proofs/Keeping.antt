@@ -20,6 +20,7 @@ pub mod Leaving
 pub mod Closing
 pub mod Listed
 pub mod Settled
+pub mod Once
 pub mod Dated
 pub mod Used
 pub mod Does

@@ -1,5 +1,7 @@
--- Well-formed sites: every step keeps them so, and so does every schedule. It uses Lists, Moves and Worlds.
+-- Well-formed sites: every step keeps them so, and so does every schedule. It uses Lists, Journal, Moves and Worlds.
 pub mod Numbers
+pub mod Versions
+pub mod Sizes
 pub mod Doubts
 pub mod Catalogue
 pub mod Live
@@ -11,4 +13,5 @@ pub mod Fold
 pub mod Parts
 pub mod Coordinator
 pub mod Steps
+pub mod Frames
 pub mod Worlds

@@ -1,5 +1,7 @@
 -- What one step of a site keeps and reports, in each file a table of the small moves. It uses Lists, Journal and Moves.
 pub mod ToldLines
+pub mod Heard
+pub mod Weighs
 pub mod ToldCalls
 pub mod LocalLocks
 pub mod Calls

@@ -8,3 +8,4 @@ pub mod FairTold
 pub mod OneCopy
 pub mod InOpening
 pub mod ReportsFit
+pub mod Tables

@@ -24,6 +24,10 @@ answers_numbered txn number (answer.Inaccessible t n name inside total) = is_of 
 answers_numbered txn number (answer.LockHeld t n name at owner) = is_of txn number t n
 answers_numbered txn number (answer.ViewChanged t n at held now) = is_of txn number t n
 answers_numbered txn number (answer.TimedOut t n at) = is_of txn number t n
+answers_numbered txn number (answer.Absent t n) = is_of txn number t n
+answers_numbered txn number (answer.Deleted t n) = is_of txn number t n
+answers_numbered txn number (answer.Weighed t n) = is_of txn number t n
+answers_numbered txn number (answer.BadTable t n) = is_of txn number t n
 answers_numbered txn number _ = false
 
 abbrev pub answers_begin : Answer → Bool
@@ -45,3 +49,5 @@ answers (call.Read txn number name) a = answers_numbered txn number a
 answers (call.Write txn number name value) a = answers_numbered txn number a
 answers (call.Commit txn number) a = answers_numbered txn number a
 answers (call.Abort txn number) a = answers_numbered txn number a
+answers (call.Delete txn number name) a = answers_numbered txn number a
+answers (call.Weigh txn number name table) a = answers_numbered txn number a

@@ -10,7 +10,7 @@ use Rattle.vp_model.specs.World.{Place, WorldState, place_of}
 use Rattle.vp_laws.specs.Entries.{doubts_of}
 use Rattle.vp_laws.specs.Sites.{copies_of}
 
--- none of these sites is in doubt about a transaction that writes the record
+-- none of these sites is in doubt about a transaction that changes the record
 abbrev pub AreCertain : WorldState → List ℕ → ℕ → Type 0
 AreCertain w sites rec = (s : ℕ) (u : Doubt) → Contains sites s → Contains (doubts_of w s) u → Contains (keys u.writes) rec → ⊥
 
@@ -18,7 +18,7 @@ AreCertain w sites rec = (s : ℕ) (u : Doubt) → Contains sites s → Contains
 abbrev pub IsNewest : WorldState → List ℕ → ℕ → Stored → Type 0
 IsNewest w sites rec copy = (s : ℕ) (c : Stored) → Contains sites s → value_at rec (copies_of w s) ≡ Some c → view_before copy.date c.date ≡ false
 
--- Where more than half of a record's weight is at sites that are not in doubt about it, the newest of their copies has the value
+-- Where more than half of a record's weight is at sites that are not in doubt about it, the newest of their copies has the content
 -- that the committed transactions, ordered by view and then by moment of commit, leave.
 abbrev pub MajoritiesTell : Catalogue → WorldState → Type 0
 MajoritiesTell catalogue w =

@@ -9,6 +9,8 @@ use Rattle.vp_model.specs.Types.message
 use Rattle.vp_model.specs.Words.{value_at}
 use Rattle.vp_model.specs.Catalogue.{Catalogue, find_record}
 use Rattle.vp_model.specs.Site.{SiteState}
+use Rattle.vp_model.specs.Types.op
+use Rattle.vp_model.specs.Transactions.{Deed, deed_answer, entry_of}
 use Rattle.vp_model.specs.Step.{step}
 use Rattle.vp_model.specs.World.{WorldState, site_of}
 use Rattle.vp_model.specs.Headline.{is_readable}
@@ -22,19 +24,19 @@ WaitsForOne p from = Contains p.missing from × ((q : ℕ) → Contains p.missin
 abbrev pub LastVotesCommit : Catalogue → WorldState → Type 0
 LastVotesCommit catalogue w =
     (site from : ℕ) (x : SiteState) (t : Live) (p : Pending) → site_of w site ≡ Some x → Contains x.live t → t.pending ≡ Some p → is_commit p.call ≡ true → WaitsForOne p from →
-    ((step catalogue x (input.Message from (message.Vote t.txn))).effects.commits ≡ (record { txn = t.txn; view = t.view; ops = t.ops }) ∷ [])
+    ((step catalogue x (input.Message from (message.Vote t.txn))).effects.commits ≡ (entry_of t) ∷ [])
     × ((step catalogue x (input.Message from (message.Vote t.txn))).effects.replies ≡ (record { to = p.port; answer = answer.Committed t.txn p.number }) ∷ [])
 
 -- the transaction's next call is an operation with this number on the record of this name and place, no call is pending, and fewer
--- than 64 operations are done
+-- than 64 calls are answered
 pub record IsNextOperation (catalogue : Catalogue) (t : Live) (number : ℕ) (name : List ℕ) (rec : ℕ) : Type 0 where
   pub idle : t.pending ≡ None
   pub next : number ≡ length t.answers + 1
   pub found : find_record catalogue name ≡ Some rec
-  pub few : length t.ops < 64
+  pub few : length t.answers < 64
 
--- a read whose record is accessible, with a copy here that has no refresh lock and no exclusive lock on it, gives the copy's value
+-- a read whose record is accessible, with a copy here that has no refresh lock and no exclusive lock on it, gives the copy's content
 abbrev pub ReadableCopiesAreRead : Catalogue → WorldState → Type 0
 ReadableCopiesAreRead catalogue w =
     (site port number rec : ℕ) (name : List ℕ) (x : SiteState) (t : Live) (copy : Stored) → site_of w site ≡ Some x → Contains x.live t → IsNextOperation catalogue t number name rec → value_at rec x.copies ≡ Some copy → is_readable catalogue x rec ≡ true →
-    (step catalogue x (input.Call port (call.Read t.txn number name))).effects.replies ≡ (record { to = port; answer = answer.Value t.txn number copy.value }) ∷ []
+    (step catalogue x (input.Call port (call.Read t.txn number name))).effects.replies ≡ (record { to = port; answer = deed_answer t.txn number (Deed.operates (op.Read rec copy.value)) }) ∷ []

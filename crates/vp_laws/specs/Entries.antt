@@ -4,8 +4,8 @@ use Rattle.std.specs.List.{Contains}
 use Rattle.vp_model.specs.Types.{TxnId, View, Commit, Live, Op, Doubt}
 use Rattle.vp_model.specs.Types.op
 use Rattle.vp_model.specs.Types.message
-use Rattle.vp_model.specs.Words.{is_empty}
-use Rattle.vp_model.specs.Catalogue.{Catalogue, accessible}
+use Rattle.vp_model.specs.Words.{keys, is_empty, value_at}
+use Rattle.vp_model.specs.Catalogue.{Catalogue, Table, accessible, accessible_by, has_holders}
 use Rattle.vp_model.specs.Site.{SiteState}
 use Rattle.vp_model.specs.Transactions.{last_changes, entry_of, writes_held}
 use Rattle.vp_model.specs.World.{Place, WorldState, place_of, site_of}
@@ -19,8 +19,8 @@ doubts_in (Some place) = place.durable.doubts
 abbrev pub doubts_of : WorldState → ℕ → List Doubt
 doubts_of w site = doubts_in (place_of site w.places)
 
--- as long as a transaction is live, each site that voted on it and holds a record that it wrote is in doubt about it, in its view
--- and with its last values there
+-- as long as a transaction is live, each site that voted on it and holds a record that it changed is in doubt about it, in its
+-- view and with its last changes there
 abbrev pub VotesLeaveDoubts : Catalogue → WorldState → Type 0
 VotesLeaveDoubts catalogue w =
     (from to : ℕ) (txn : TxnId) (x : SiteState) (t : Live) → Contains w.sent (record { from = from; to = to; message = message.Vote txn }) → site_of w txn.site ≡ Some x → Contains x.live t → t.txn ≡ txn → is_empty (writes_held catalogue from (last_changes (entry_of t))) ≡ false → Contains (doubts_of w from) (record { txn = txn; view = t.view; writes = writes_held catalogue from (last_changes (entry_of t)) })
@@ -30,7 +30,15 @@ abbrev pub record_in : Op → ℕ
 record_in (op.Read rec value) = rec
 record_in (op.Write rec value) = rec
 
--- each entry is of an agreed view of which its coordinator is a member, and in which each record that it uses is accessible
+-- each entry is of an agreed view of which its coordinator is a member, and in which each record that it uses or changes is
+-- accessible; to give a record a table is to change it
 abbrev pub EntriesAreAccessible : Catalogue → WorldState → Type 0
 EntriesAreAccessible catalogue w =
     (e : Commit) → Contains w.journal e → (v : View) × Contains w.agreed v × (v.id ≡ e.view) × Contains v.members e.txn.site × ((operation : Op) → Contains e.ops operation → accessible catalogue (record_in operation) v.members ≡ true)
+    × ((rec : ℕ) → Contains (keys (last_changes e)) rec → accessible catalogue rec v.members ≡ true)
+
+-- each table that an entry gives a record has the record's holders, and by it too the members of the entry's view have more than half
+-- of the weight
+abbrev pub TablesAreAccessible : Catalogue → WorldState → Type 0
+TablesAreAccessible catalogue w =
+    (e : Commit) (rec : ℕ) (table : Table) → Contains w.journal e → value_at rec e.tables ≡ Some table → (v : View) × Contains w.agreed v × (v.id ≡ e.view) × (has_holders catalogue rec table ≡ true) × (accessible_by table v.members ≡ true)

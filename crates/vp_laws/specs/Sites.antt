@@ -21,7 +21,7 @@ copies_in (Some place) = place.durable.copies
 abbrev pub copies_of : WorldState → ℕ → List (ℕ × Stored)
 copies_of w site = copies_in (place_of site w.places)
 
--- each copy that is not dated by the opening view has the view of an entry that wrote the record
+-- each copy that is not dated by the opening view has the view of an entry that changed the record
 abbrev pub CopiesAreDated : WorldState → Type 0
 CopiesAreDated w =
     (s : ℕ) (c : ℕ × Stored) → Contains (copies_of w s) c → (c.1.date ≡ opening → ⊥) → (e : Commit) × Contains w.journal e × Contains (keys (last_changes e)) c.0 × (e.view ≡ c.1.date)

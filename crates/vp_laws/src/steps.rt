@@ -11,14 +11,12 @@ pub fn refusals_change_nothing()
 
 /// In every world of every schedule the vote of the last missing site commits a live transaction whose commit is pending, and the
 /// commit is answered.
-/// the commit is answered.
 pub fn last_votes_commit()
     ensures { (s : Schedule) → LastVotesCommit s.catalogue (run_of s).world }
 {}
 
-/// In every world of every schedule a read of an accessible record, whose copy at the site may be read, gives the value of that
-/// copy, where the call is the transaction's next, none is pending, and fewer than 64 operations are done.
-/// where the call is the transaction's next, none is pending, and fewer than 64 operations are done.
+/// In every world of every schedule a read of an accessible record, whose copy at the site may be read, gives the content of that
+/// copy, where the call is the transaction's next, none is pending, and fewer than 64 calls are answered.
 pub fn readable_copies_are_read()
     ensures { (s : Schedule) → ReadableCopiesAreRead s.catalogue (run_of s).world }
 {}

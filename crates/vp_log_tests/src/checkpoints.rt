@@ -15,14 +15,16 @@ use vp_stable::{AppendFault, Log, LogFault};
 const START: &[u8] = b"\x01\0\0\0\0\0\0\0\x05\x01\0\0\0\x01\0";
 
 /// One batch, a Checkpoint of generation 1 and life 1 without copies, and a closed gate.
-const CHECKPOINT: &[u8] = b"\x01\0\0\0\0\0\0\0\x28\x08\0\0\0\0\0\0\0\x01\0\0\0\x01\
+const CHECKPOINT: &[u8] = b"\x01\0\0\0\0\0\0\0\x28\x0c\0\0\0\0\0\0\0\x01\0\0\0\x01\
     \0\0\0\0\0\0\0\0\0\0\0\0\0\0\0\0\0\0\0\0\0\0\0\0\0\0\0\0";
 
 /// The same with one copy, that of record 0 with the value 10.
-const WITH_A_COPY: &[u8] = b"\x01\0\0\0\0\0\0\0\x35\x08\0\0\0\0\0\0\0\x01\0\0\0\x01\
-    \0\0\0\0\0\0\0\0\0\0\x01\0\x02\x31\x30\0\0\0\0\0\0\0\0\0\0\0\0\0\0\0\0\0\0\0\0\0\0\0\0\0\0";
+const WITH_A_COPY: &[u8] = b"\x01\0\0\0\0\0\0\0\x38\x0c\0\0\0\0\0\0\0\x01\0\0\0\x01\
+    \0\0\0\0\0\0\0\0\0\0\x01\0\x01\0\x02\x31\x30\0\0\0\0\0\0\0\0\0\0\0\0\0\0\0\0\0\0\0\0\0\0\0\0\0\0\0";
 
-/// Where its generation, its life and the gate after it are.
+/// Where the code of the first one, its generation, its life and the gate after it are.
+const CODE: usize = 9;
+
 const GENERATION: usize = 17;
 
 const LIFE: usize = 21;
@@ -64,6 +66,13 @@ fn only_record(batches: &Batches) -> Option<(u64, u32)> {
         [LogRecord::Start { life }] => Some((0, *life)),
         [
             LogRecord::Checkpoint {
+                generation,
+                life,
+                ..
+            },
+        ] => Some((*generation, *life)),
+        [
+            LogRecord::CheckpointOfValues {
                 generation,
                 life,
                 ..
@@ -128,6 +137,17 @@ fn the_half_of_the_higher_generation_is_current(rt: HostRuntime) {
 }
 
 #[test]
+fn a_checkpoint_of_the_first_version_has_its_generation(rt: HostRuntime) {
+    let two = checkpoint(&rt, rt.alloc(), 2, 7);
+    let three = checkpoint(&rt, rt.alloc(), 3, 8);
+    let old_two = changed(&rt, rt.alloc(), &two, CODE, 8);
+    let old_three = changed(&rt, rt.alloc(), &three, CODE, 8);
+    assert!(rt; recovered(&rt, rt.alloc(), START, &old_two) == Some((2, 7)));
+    assert!(rt; recovered(&rt, rt.alloc(), &two, &old_three) == Some((3, 8)));
+    assert!(rt; recovered(&rt, rt.alloc(), &old_two, &three) == Some((3, 8)));
+}
+
+#[test]
 fn half_0_is_current_where_both_have_one_generation(rt: HostRuntime) {
     let eight = checkpoint(&rt, rt.alloc(), 3, 8);
     let nine = checkpoint(&rt, rt.alloc(), 3, 9);
@@ -148,7 +168,7 @@ fn a_checkpoint_that_is_not_whole_does_not_count(rt: HostRuntime) {
     assert!(rt; is_passed_over(&rt, alloc, b"\0"));
     assert!(rt; is_passed_over(&rt, alloc, &changed_to(&rt, alloc, 0, 0)));
     assert!(rt; is_passed_over(&rt, alloc, &CHECKPOINT[..GATE]));
-    assert!(rt; is_passed_over(&rt, alloc, &changed_to(&rt, alloc, 9, 0x63)));
+    assert!(rt; is_passed_over(&rt, alloc, &changed_to(&rt, alloc, CODE, 0x63)));
 }
 
 /// The index at which recovery refuses half 1.
@@ -188,7 +208,8 @@ fn with_a_copy(rt: &impl Abort, alloc: Global) -> Durable
 {
     let opening = ViewId { number: 0, site: 0 };
     let stored = Stored {
-        value: Value::read(alloc, b"10").expect(rt, "a value"),
+        value: Some(Value::read(alloc, b"10").expect(rt, "a value")),
+        table: None,
         date: opening,
     };
     let mut copies = Copies::new(alloc);

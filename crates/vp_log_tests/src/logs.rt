@@ -4,9 +4,10 @@ ghost use Rattle.vp_records.specs.Batches.{IsBatch};
 
 use std::alloc::Global;
 use std::process::Abort;
-use vp_base::{Batch, Batches, LogRecord, Word};
+use vp_base::{Batch, Batches, Copies, LogRecord, RecId, Stored, Value, ViewId, Word};
 use vp_disks::{MemDisk, SureDisk};
 use vp_outside::Disk;
+use vp_records::Durable;
 use vp_stable::{AppendFault, Log, LogFault};
 
 /// One batch, Start of life 1, after an open gate, and a closed gate.
@@ -263,4 +264,55 @@ fn each_call_that_fails_is_answered(rt: HostRuntime) {
         assert!(rt; done(&rt, rt.alloc(), call) == 1, "{call}");
     }
     assert!(rt; done(&rt, rt.alloc(), 100) == 2);
+}
+
+/// A batch with a copy of the first version, of record 0 with the value 11, and one with a copy of the second, of record 1 without a value
+/// and with a table.
+const OF_BOTH_VERSIONS: &[u8] = b"\x01\0\0\0\0\0\0\0\x0e\x06\0\x02\x31\x31\0\0\0\0\0\0\0\x01\x01\
+    \x01\0\0\0\0\0\0\0\x11\x0b\x01\0\x01\x01\x01\0\x07\0\0\0\0\0\0\0\x01\x02\0";
+
+/// Copies of the records 0 and 1 with this value, of the opening view.
+fn two_copies(rt: &impl Abort, alloc: Global, value: &[u8]) -> Durable {
+    let mut copies = Copies::new(alloc);
+    for rec in 0..2u8 {
+        let stored = Stored {
+            value: Some(Value::read(alloc, value).expect(rt, "a value")),
+            table: None,
+            date: ViewId { number: 0, site: 0 },
+        };
+        copies.push((RecId::new(rec), stored)).expect(rt, "memory");
+    }
+    Durable::empty(copies)
+}
+
+/// What the records of a log make of them.
+fn folded(rt: &impl Abort, alloc: Global, bytes: &[u8]) -> Durable {
+    let mut disk = holding(rt, alloc, bytes);
+    let (_, batches) = Log::recover(alloc, &mut disk).expect(rt, "a log");
+    let mut durable = two_copies(rt, alloc, b"10");
+    for batch in batches.as_slice() {
+        for entry in batch.as_slice() {
+            durable.apply(entry).expect(rt, "memory");
+        }
+    }
+    durable
+}
+
+/// Whether the copy of the record has this value, or none, is of the view 1 of this site, and has a table or not.
+fn is_copy(durable: &Durable, rec: u8, value: Option<&[u8]>, site: u8, weighed: bool) -> bool {
+    let Some(stored) = durable.stored(RecId::new(rec)) else {
+        return false;
+    };
+    let is_content = match (&stored.value, value) {
+        (Some(stored), Some(value)) => stored.is(value),
+        (stored, value) => stored.is_none() && value.is_none(),
+    };
+    is_content && stored.date == ViewId { number: 1, site } && stored.table.is_some() == weighed
+}
+
+#[test]
+fn a_log_of_both_versions_folds_through_both(rt: HostRuntime) {
+    let durable = folded(&rt, rt.alloc(), OF_BOTH_VERSIONS);
+    assert!(rt; is_copy(&durable, 0, Some(b"11"), 1, false));
+    assert!(rt; is_copy(&durable, 1, None, 2, true));
 }

@@ -21,7 +21,8 @@ use Rattle.vp_fitting.proofs.Choices.{fewer_left}
 use Rattle.vp_merge.specs.Dues.{due_of, dues_left}
 use Rattle.vp_merge.specs.Lives.{Lives, StartsLives, Takes, TakesEvent}
 use Rattle.vp_merge.specs.Merging.{AreThere, IsMerging, TakesTurn, choice_at, left_of, state_of}
-use Rattle.vp_merge.specs.Numbers.{HasFrame, IsIndex}
+use Rattle.vp_merge.specs.Numbers.{HasTurn, IsIndex, as_sent}
+use Rattle.vp_merge.specs.SentFrames.{bytes_in}
 use Rattle.vp_merge.specs.Played.{IsPlayed, IsPut, done_at}
 use Rattle.vp_merge.specs.Telling.{bytes_of}
 use Rattle.vp_merge.specs.Tracks.{IsNext, IsTrack, can_go, dues_with, is_ready_by, own_event, track_of}
@@ -59,17 +60,17 @@ module _ (recordings : List Recording) (m : Merging) (h : IsMerging m.played.wor
   next_is : (t : Track) (n : NextTurn) → t.next ≡ Some n → IsTrack t → IsNext t.site n
   next_is t n is it = subst (λ (o : Option NextTurn). IfSome o (IsNext t.site)) is it
 
-  frame_there : (t : Track) (n : NextTurn) → t.next ≡ Some n → AreThere m.numbers t → HasFrame m.numbers n.due.turn.now.frame
-  frame_there t n is there = (subst (λ (o : Option NextTurn). AllByRecursion (λ (d : Due). HasFrame m.numbers d.turn.frame) (dues_with o (dues_left t.rest))) is there).0
+  frame_there : (t : Track) (n : NextTurn) → t.next ≡ Some n → AreThere m.numbers t → HasTurn m.numbers n.due.turn.now.frame
+  frame_there t n is there = (subst (λ (o : Option NextTurn). AllByRecursion (λ (d : Due). HasTurn m.numbers d.turn.frame) (dues_with o (dues_left t.rest))) is there).0
 
-  rest_there : (t : Track) (n : NextTurn) → t.next ≡ Some n → AreThere m.numbers t → AllByRecursion (λ (d : Due). HasFrame m.numbers d.turn.frame) (dues_left t.rest)
-  rest_there t n is there = (subst (λ (o : Option NextTurn). AllByRecursion (λ (d : Due). HasFrame m.numbers d.turn.frame) (dues_with o (dues_left t.rest))) is there).1
+  rest_there : (t : Track) (n : NextTurn) → t.next ≡ Some n → AreThere m.numbers t → AllByRecursion (λ (d : Due). HasTurn m.numbers d.turn.frame) (dues_left t.rest)
+  rest_there t n is there = (subst (λ (o : Option NextTurn). AllByRecursion (λ (d : Due). HasTurn m.numbers d.turn.frame) (dues_with o (dues_left t.rest))) is there).1
 
-  passed : (t : Track) (n : NextTurn) → t.next ≡ Some n → IsTrack t → AreThere m.numbers t → passes t.site (due_of n.due) ≡ is_ready_by m.numbers t.site n.due.turn.now.frame n.asked
+  passed : (t : Track) (n : NextTurn) → t.next ≡ Some n → IsTrack t → AreThere m.numbers t → passes t.site (due_of n.due) ≡ is_ready_by m.numbers t.site (bytes_in n.frame) n.asked
   passed t n is it there =
       let next = next_is t n is it in
       ap (is_ready m.played.world.world.sent t.site) (sym next.asked)
-      ∙ sym (same_ready m.numbers m.played.world.world.sent h.index t.site n.due.turn.now.frame (frame_there t n is there) n.asked (sym next.asked))
+      ∙ sym (same_ready m.numbers m.played.world.world.sent h.index t.site (bytes_in n.frame) n.due.turn.now.frame next.frame (frame_there t n is there) n.asked (sym next.asked))
 
   agree : (ts : List Track) → AllByRecursion (λ (t : Track). left_of recordings tracks t.site ≡ track_of t) ts → AllByRecursion IsTrack ts → AllByRecursion (AreThere m.numbers) ts
       → AllByRecursion (Agrees m.numbers passes (left_of recordings tracks)) ts
@@ -136,25 +137,25 @@ module _ (recordings : List Recording) (m : Merging) (h : IsMerging m.played.wor
       is_next : IsNext t.site n
       is_next = next_is t n n_is (all_there IsTrack tracks place t h.tracks_are there)
 
-      its_frame : HasFrame m.numbers n.due.turn.now.frame
+      its_frame : HasTurn m.numbers n.due.turn.now.frame
       its_frame = frame_there t n n_is (all_there (AreThere m.numbers) tracks place t h.there there)
 
       -- its event is one of a schedule
-      pub event_put : IfSome (own_event m.numbers t.site n.due.turn.now.frame n.asked) (IsPut (sites_of catalogue))
-      event_put = event_is_put m.numbers m.played.world.world.sent h.index t.site n.due.turn.now.frame its_frame (sites_of catalogue) site_listed h.played.few_sent n.asked is_next.form
+      pub event_put : IfSome (own_event m.numbers t.site (bytes_in n.frame) n.asked) (IsPut (sites_of catalogue))
+      event_put = event_is_put m.numbers m.played.world.world.sent h.index t.site (bytes_in n.frame) n.due.turn.now.frame is_next.frame its_frame (sites_of catalogue) site_listed h.played.few_sent n.asked (sym is_next.asked) is_next.form
 
       life_is : (left_of recordings tracks t.site).life ≡ t.life
       life_is = ap (λ (left : Left). left.life) (all_there (λ (t : Track). left_of recordings tracks t.site ≡ track_of t) tracks place t (left_fits recordings tracks apart) there)
 
       pub own : List Event
-      own = events_in (own_event m.numbers t.site n.due.turn.now.frame n.asked)
+      own = events_in (own_event m.numbers t.site (bytes_in n.frame) n.asked)
 
       turn_is : turn_done world_limits catalogue state c ≡ done_from world_limits catalogue t.site (restarts_then t.site (n.due.life - t.life) own) (done_at m.played [])
       unfolding own
       turn_is =
           ap (λ life. done_from world_limits catalogue t.site (restarts_then t.site (n.due.life - life) (own_events m.played.world.world.sent t.site (asks t.site n.due.turn.now.frame))) (done_at m.played [])) life_is
           ∙ ap (λ (events : List Event). done_from world_limits catalogue t.site (restarts_then t.site (n.due.life - t.life) events) (done_at m.played []))
-          (ap (own_events m.played.world.world.sent t.site) (sym is_next.asked) ∙ sym (same_events m.numbers m.played.world.world.sent h.index t.site n.due.turn.now.frame its_frame n.asked (sym is_next.asked)))
+          (ap (own_events m.played.world.world.sent t.site) (sym is_next.asked) ∙ sym (same_events m.numbers m.played.world.world.sent h.index t.site (bytes_in n.frame) n.due.turn.now.frame is_next.frame its_frame n.asked (sym is_next.asked)))
 
       goes_on : (turns : ℕ) → merged_from (turns + 1) world_limits catalogue state ≡ gone_on (merged_from turns world_limits catalogue) state c (turn_done world_limits catalogue state c)
       unfolding merged_from
@@ -174,7 +175,7 @@ module _ (recordings : List Recording) (m : Merging) (h : IsMerging m.played.wor
 
       -- the event was not done
       pub event_ends : (mid : Played) (after : FrameNumbers) → Lives t.site (n.due.life - t.life) m.played mid → (fault : MergeFault)
-          → TakesEvent t.site (own_event m.numbers t.site n.due.turn.now.frame n.asked) n.due.short (bytes_of n.due.turn.now.outs) mid (Err fault) m.numbers after → TakesTurn catalogue recordings m (Err fault)
+          → TakesEvent t.site (own_event m.numbers t.site (bytes_in n.frame) n.asked) n.due.short (bytes_of n.due.turn.now.outs) mid (Err fault) m.numbers after → TakesTurn catalogue recordings m (Err fault)
       unfolding own
       event_ends mid after lives (faults.Limit what limit) e =
           (λ turns. too_long what (lives.on own [] ∙ subst (λ (k : Catalogue). done_from world_limits k t.site own (done_at mid []) ≡ Err what) lives.catalogue e.0) turns, e.1)
@@ -184,7 +185,7 @@ module _ (recordings : List Recording) (m : Merging) (h : IsMerging m.played.wor
 
       -- the lives were begun, and the event was done
       module _ (mid new : Played) (told : Bool) (after : FrameNumbers) (lives : Lives t.site (n.due.life - t.life) m.played mid)
-          (takes : Takes t.site (own_event m.numbers t.site n.due.turn.now.frame n.asked) n.due.short (bytes_of n.due.turn.now.outs) mid new told m.numbers after) where
+          (takes : Takes t.site (own_event m.numbers t.site (bytes_in n.frame) n.asked) n.due.short (bytes_of n.due.turn.now.outs) mid new told m.numbers after) where
         done_is : turn_done world_limits catalogue state c ≡ Ok (done_at new takes.made)
         unfolding own
         done_is = turn_is ∙ lives.on own [] ∙ subst (λ (k : Catalogue). done_from world_limits k t.site own (done_at mid []) ≡ Ok (done_at new takes.made)) lives.catalogue takes.on
@@ -214,12 +215,12 @@ module _ (recordings : List Recording) (m : Merging) (h : IsMerging m.played.wor
               (ap (λ (x : Played). x.world.world) (sym played_is)) (ap (λ (x : Played). x.events) (sym played_is)) (left_now ∙ ap (left_of recordings) (sym tracks_are))
 
           frames_kept : (x : Track) → AreThere m.numbers x → AreThere after x
-          frames_kept x = all_each (λ (d : Due). HasFrame m.numbers d.turn.frame) (λ (d : Due). HasFrame after d.turn.frame) (λ d there. takes.same d.turn.frame ∙ there) (track_of x).dues
+          frames_kept x = all_each (λ (d : Due). HasTurn m.numbers d.turn.frame) (λ (d : Due). HasTurn after d.turn.frame) (λ d there. takes.same (as_sent d.turn.frame) ∙ there) (track_of x).dues
 
           next_there : AreThere after next
           next_there =
-              subst (λ (left : Left). AllByRecursion (λ (d : Due). HasFrame after d.turn.frame) left.dues) (sym left)
-              (all_each (λ (d : Due). HasFrame m.numbers d.turn.frame) (λ (d : Due). HasFrame after d.turn.frame) (λ d there. takes.same d.turn.frame ∙ there) (dues_left t.rest)
+              subst (λ (left : Left). AllByRecursion (λ (d : Due). HasTurn after d.turn.frame) left.dues) (sym left)
+              (all_each (λ (d : Due). HasTurn m.numbers d.turn.frame) (λ (d : Due). HasTurn after d.turn.frame) (λ d there. takes.same (as_sent d.turn.frame) ∙ there) (dues_left t.rest)
               (rest_there t n n_is (all_there (AreThere m.numbers) tracks place t h.there there)))
 
           merging_now : IsMerging catalogue now

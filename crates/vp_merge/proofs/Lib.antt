@@ -1,5 +1,6 @@
 mod Entries
 mod Index
+mod SentAgain
 mod OwnEvents
 mod Comparing
 mod Reached

@@ -1,48 +1,155 @@
 -- The event of a turn by the index is that of the definition.
-use Rattle.std.proofs.Common.{◌≡◌, ◌∙◌, ap, sym, subst, true, ℕ, ◌≤◌, List, Some, None, length, refl, arith}
-use Rattle.std.specs.Prelude.{Option, option_map, option_and_then, is_some, IfSome}
-use Rattle.std.proofs.lemmas.Bool.{false≢true}
-use Rattle.vp_model.specs.Types.{Input, Sent}
+use Rattle.std.proofs.Common.{◌≡◌, ◌∙◌, ap, sym, subst, Bool, true, false, cond, ℕ, ◌≤◌, List, Some, None, Result, Ok, Err, length, refl, arith}
+use Rattle.std.specs.Prelude.{Option, option_map, option_and_then, is_some, IfSome, ◌==◌, ◌&&◌, not}
+use Rattle.std.proofs.lemmas.Bool.{false≢true, eqb-true}
+use Rattle.vp_model.specs.Types.{Call, Input, Message, Sent}
+use Rattle.vp_model.specs.Types.call
 use Rattle.vp_model.specs.Types.event
 use Rattle.vp_model.specs.Types.input
 use Rattle.vp_model.specs.Words.{has}
+use Rattle.vp_contents.specs.Versions.{version_of}
+use Rattle.vp_contents.specs.declared.version.Version.TheVariants as versions
+use Rattle.vp_wire.specs.declared.frame.Frame.{Frame}
+use Rattle.vp_wire.specs.declared.frame.Body.{Body}
+use Rattle.vp_wire.specs.declared.frame.Body.TheVariants as body
+use Rattle.vp_wire.specs.Decoded.{read_frame}
+use Rattle.vp_wire.specs.Grammar.{IsBody, IsFrame, frame_bytes, frame_of}
+use Rattle.vp_laws.specs.Shapes.{IsInput}
+use Rattle.vp_laws.specs.ShapeLaws.{message_frame}
+use Rattle.vp_laws.proofs.Moves.LocalViews.{letter}
+use Rattle.vp_schedule.specs.Grammar.{IsReadable}
 use Rattle.vp_runs.specs.Arrivals.{IsArrival}
 use Rattle.vp_runs.specs.declared.arrival.Arrival.{Arrival}
 use Rattle.vp_runs.specs.declared.arrival.Arrival.TheVariants.{Bad, Stray, Stops, Gives}
-use Rattle.vp_fitting.specs.Asked.{asks}
+use Rattle.vp_fitting.specs.Asked.{asks, asks_body, asks_of, is_weigh}
 use Rattle.vp_fitting.specs.Merged.{event_of, is_ready, own_events, lowest, events_in}
 use Rattle.vp_fitting.proofs.Messages.{AskedBy, asked_by}
-use Rattle.vp_merge.specs.Numbers.{entry_of, number_in, number_of, IsIndex, HasFrame}
+use Rattle.vp_merge.specs.Numbers.{sent_again, as_sent, entry_of, number_in, number_of, IsIndex, HasFrame, HasTurn}
 use Rattle.vp_merge.specs.Played.{IsPut}
 use Rattle.vp_merge.specs.Tracks.{event_by, own_event, is_ready_by}
 use Rattle.vp_merge.specs.declared.numbers.FrameNumbers.{FrameNumbers}
 use Rattle.vp_merge.proofs.Index.{position-within}
 
-module _ (numbers : FrameNumbers) (all : List Sent) (index : IsIndex numbers all) (site : ℕ) (frame : List ℕ) (there : HasFrame numbers frame) where
+-- the frame of a turn that takes a message is sent as that of the message
+asked_frame : (site : ℕ) (recorded : List ℕ) (from : ℕ) (m : Message) → asks site recorded ≡ Gives (input.Message from m) → as_sent recorded ≡ frame_bytes (message_frame (letter from site m))
+unfolding asks as_sent
+asked_frame site recorded from m e = go (read_frame recorded) e
+  where
+    no_call : (here : Bool) (words : Call) → cond here (Gives (input.Call 0 words)) Stray ≡ Gives (input.Message from m) → ⊥
+    no_call true words q = cc
+    no_call false words q = cc
+
+    other : (here : Bool) (given : Input) → cond here (Gives given) Stray ≡ Gives (input.Message from m) → given ≡ input.Message from m
+    other true given q = cc
+    other false given q = absurd cc
+
+    no_reply : (here : Bool) → cond here Stray Stray ≡ Gives (input.Message from m) → ⊥
+    no_reply true q = cc
+    no_reply false q = cc
+
+    here_is : (here : Bool) (given : Input) → cond here (Gives given) Stray ≡ Gives (input.Message from m) → here ≡ true
+    here_is true given q = refl
+    here_is false given q = absurd cc
+
+    same_letter : (k l : ℕ) (n : Message) → input.Message k n ≡ input.Message from m → l ≡ site → frame_bytes (frame_of k l (body.Message n)) ≡ frame_bytes (message_frame (letter from site m))
+    same_letter k l n given to =
+        let a : k ≡ from = cc in
+        let b : n ≡ m = cc in
+        rw (a, b, to) refl
+
+    of_body : (f : Frame) (b : Body) → asks_body site f b ≡ Gives (input.Message from m) → frame_bytes (frame_of f.from f.to b) ≡ frame_bytes (message_frame (letter from site m))
+    of_body f (body.Message n) q = same_letter f.from f.to n (other (f.to == site) (input.Message f.from n) q) (eqb-true f.to site (here_is (f.to == site) (input.Message f.from n) q))
+    of_body f (body.Call words) q = absurd (no_call ((f.to == site) && not (is_weigh words)) words q)
+    of_body f (body.Reply answer) q = absurd (no_reply (f.to == site) q)
+    of_body f body.Tick q = let bad : input.Tick ≡ input.Message from m = other (f.to == site) input.Tick q in absurd cc
+    of_body f body.ProbeNow q = let bad : input.Probe ≡ input.Message from m = other (f.to == site) input.Probe q in absurd cc
+    of_body f body.Stop q = absurd cc
+
+    go : (read : Result Frame ℕ) → asks_of site read ≡ Gives (input.Message from m) → sent_again read recorded ≡ frame_bytes (message_frame (letter from site m))
+    go (Ok f) q = of_body f f.body q
+    go (Err at) q = absurd cc
+
+-- a call that is asked may be in a schedule
+asked_call : (site : ℕ) (recorded : List ℕ) (port : ℕ) (words : Call) → asks site recorded ≡ Gives (input.Call port words) → is_weigh words ≡ false
+unfolding asks
+asked_call site recorded port words e = go (read_frame recorded) e
+  where
+    no_input : (here : Bool) (given : Input) → (given ≡ input.Call port words → ⊥) → cond here (Gives given) Stray ≡ Gives (input.Call port words) → ⊥
+    no_input true given never q = never (let same : given ≡ input.Call port words = cc in same)
+    no_input false given never q = cc
+
+    no_reply : (here : Bool) → cond here Stray Stray ≡ Gives (input.Call port words) → ⊥
+    no_reply true q = cc
+    no_reply false q = cc
+
+    of_call : (to weighs : Bool) (other : Call) → is_weigh other ≡ weighs → cond (to && not weighs) (Gives (input.Call 0 other)) Stray ≡ Gives (input.Call port words) → is_weigh words ≡ false
+    of_call true false other is q = let same : other ≡ words = cc in subst (λ (w : Call). is_weigh w ≡ false) same is
+    of_call true true other is q = absurd cc
+    of_call false weighs other is q = absurd cc
+
+    of_body : (f : Frame) (b : Body) → asks_body site f b ≡ Gives (input.Call port words) → is_weigh words ≡ false
+    of_body f (body.Message n) q = absurd (no_input (f.to == site) (input.Message f.from n) (λ same. cc) q)
+    of_body f (body.Call other) q = of_call (f.to == site) (is_weigh other) other refl q
+    of_body f (body.Reply answer) q = absurd (no_reply (f.to == site) q)
+    of_body f body.Tick q = absurd (no_input (f.to == site) input.Tick (λ same. cc) q)
+    of_body f body.ProbeNow q = absurd (no_input (f.to == site) input.Probe (λ same. cc) q)
+    of_body f body.Stop q = absurd cc
+
+    go : (read : Result Frame ℕ) → asks_of site read ≡ Gives (input.Call port words) → is_weigh words ≡ false
+    go (Ok f) q = of_body f f.body q
+    go (Err at) q = absurd cc
+
+readable : (words : Call) → is_weigh words ≡ false → IsReadable words
+readable call.Begin e = tt
+readable call.Regroup e = tt
+readable (call.Read txn number name) e = tt
+readable (call.Write txn number name value) e = tt
+readable (call.Commit txn number) e = tt
+readable (call.Abort txn number) e = tt
+readable (call.Delete txn number name) e = tt
+readable (call.Weigh txn number name table) e = cc
+
+-- what is asked of a site has its form
+pub asks_form : (site : ℕ) (recorded : List ℕ) (a : Arrival) → asks site recorded ≡ a → IsArrival a
+asks_form site recorded (Gives given) e = of given (asked_by site recorded given e)
+  where
+    body_form : (f : Frame) → IsFrame f → IsBody (version_of f.version) f.from f.to f.body
+    body_form f h = h.2
+
+    of : (given : Input) → AskedBy site recorded given → IsInput given
+    of _ (AskedBy.called words call) = (omega arith, call)
+    of _ (AskedBy.sent from m form) = let b : IsBody versions.Second from site (body.Message m) = body_form (message_frame (letter from site m)) form in (b.0, b.2)
+    of _ AskedBy.ticked = tt
+    of _ AskedBy.probed = tt
+asks_form site recorded (Bad at) e = tt
+asks_form site recorded Stray e = tt
+asks_form site recorded Stops e = tt
+
+module _ (numbers : FrameNumbers) (all : List Sent) (index : IsIndex numbers all) (site : ℕ) (frame recorded : List ℕ) (is : frame ≡ as_sent recorded) (there : HasTurn numbers recorded) where
   number_is : number_in numbers frame ≡ number_of frame all
-  number_is = by (entry_of numbers frame) refl there
+  number_is = by (entry_of numbers frame) refl (subst (HasFrame numbers) (sym is) there)
     where
       by : (o : Option (Option ℕ)) → entry_of numbers frame ≡ o → is_some o ≡ true → option_and_then (λ (number : Option ℕ). number) o ≡ number_of frame all
       by None e some = absurd (false≢true some)
       by (Some number) e some = index frame number e
 
-  by_asked : (given : Input) → AskedBy site frame given → event_by numbers site frame given ≡ event_of all site given
+  by_asked : (given : Input) → AskedBy site recorded given → asks site recorded ≡ Gives given → event_by numbers site frame given ≡ event_of all site given
   unfolding lowest
-  by_asked _ (AskedBy.called words call) = refl
-  by_asked _ (AskedBy.sent from m fr is) = ap (option_map event.Deliver) (number_is ∙ ap (λ bytes. number_of bytes all) is)
-  by_asked _ AskedBy.ticked = refl
-  by_asked _ AskedBy.probed = refl
+  by_asked _ (AskedBy.called words call) e = refl
+  by_asked _ (AskedBy.sent from m form) e = ap (option_map event.Deliver) (number_is ∙ ap (λ bytes. number_of bytes all) (is ∙ asked_frame site recorded from m e))
+  by_asked _ AskedBy.ticked e = refl
+  by_asked _ AskedBy.probed e = refl
 
-  same_event : (given : Input) → asks site frame ≡ Gives given → event_by numbers site frame given ≡ event_of all site given
-  same_event given e = by_asked given (asked_by site frame given e)
+  same_event : (given : Input) → asks site recorded ≡ Gives given → event_by numbers site frame given ≡ event_of all site given
+  same_event given e = by_asked given (asked_by site recorded given e) e
 
-  pub same_ready : (a : Arrival) → asks site frame ≡ a → is_ready_by numbers site frame a ≡ is_ready all site a
+  pub same_ready : (a : Arrival) → asks site recorded ≡ a → is_ready_by numbers site frame a ≡ is_ready all site a
   same_ready (Gives given) e = ap is_some (same_event given e)
   same_ready (Bad at) e = refl
   same_ready Stray e = refl
   same_ready Stops e = refl
 
-  pub same_events : (a : Arrival) → asks site frame ≡ a → events_in (own_event numbers site frame a) ≡ own_events all site a
+  pub same_events : (a : Arrival) → asks site recorded ≡ a → events_in (own_event numbers site frame a) ≡ own_events all site a
   same_events (Gives given) e = ap events_in (same_event given e)
   same_events (Bad at) e = refl
   same_events Stray e = refl
@@ -54,11 +161,11 @@ module _ (numbers : FrameNumbers) (all : List Sent) (index : IsIndex numbers all
     delivered None e = tt
     delivered (Some k) e = let w = position-within _ all 1 k e in (tt, (omega (arith, w.0), omega (arith, w.1, few)))
 
-    pub event_is_put : (a : Arrival) → IsArrival a → IfSome (own_event numbers site frame a) (IsPut sites)
-    event_is_put (Gives (input.Call port words)) form = (tt, (known, form.1))
-    event_is_put (Gives (input.Message from message)) form = subst (λ (o : Option ℕ). IfSome (option_map event.Deliver o) (IsPut sites)) (sym number_is) (delivered (number_of frame all) refl)
-    event_is_put (Gives input.Tick) form = (tt, known)
-    event_is_put (Gives input.Probe) form = (tt, known)
-    event_is_put (Bad at) form = tt
-    event_is_put Stray form = tt
-    event_is_put Stops form = tt
+    pub event_is_put : (a : Arrival) → asks site recorded ≡ a → IsArrival a → IfSome (own_event numbers site frame a) (IsPut sites)
+    event_is_put (Gives (input.Call port words)) e form = (tt, (known, form.1, readable words (asked_call site recorded port words e)))
+    event_is_put (Gives (input.Message from message)) e form = subst (λ (o : Option ℕ). IfSome (option_map event.Deliver o) (IsPut sites)) (sym number_is) (delivered (number_of frame all) refl)
+    event_is_put (Gives input.Tick) e form = (tt, known)
+    event_is_put (Gives input.Probe) e form = (tt, known)
+    event_is_put (Bad at) e form = tt
+    event_is_put Stray e form = tt
+    event_is_put Stops e form = tt

@@ -141,7 +141,7 @@ module _ (catalogue : Catalogue) (w : WorldState) (events : List Event) (e : Eve
 
   given_is : (s : ℕ) (given : Input) → Gives e w s given → IsInput given
   given_is s _ (Gives.called words is) = (omega arith, (subst (IsPut (sites_of catalogue)) is put).1.1)
-  given_is s _ (Gives.came k m is at to) = let f = all_at (λ (sent : Sent). IsFrame (message_frame sent)) w.sent world_is_shaped.sent_are m (message_at-has w k m at) in (f.0, f.2)
+  given_is s _ (Gives.came k m is at to) = let f = all_at (λ (sent : Sent). IsFrame (message_frame sent)) w.sent world_is_shaped.sent_are m (message_at-has w k m at) in (f.2.0, f.2.2)
   given_is s _ (Gives.ticked is) = tt
   given_is s _ (Gives.probed is) = tt
 

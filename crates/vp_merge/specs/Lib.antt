@@ -1,5 +1,6 @@
 pub mod Faults
 pub mod Numbers
+pub mod SentFrames
 pub mod Dues
 pub mod Telling
 pub mod Tracks

@@ -10,7 +10,7 @@ use Rattle.vp_fitting.specs.Asked.{Due}
 use Rattle.vp_fitting.specs.Merged.{Track as Left, Merging as MergingState, Merge, Choice, first_track, merged_from, turns_left}
 use Rattle.vp_merge.specs.Dues.{due_of, dues_left}
 use Rattle.vp_merge.specs.Tracks.{track_of, IsTrack}
-use Rattle.vp_merge.specs.Numbers.{HasFrame, IsIndex}
+use Rattle.vp_merge.specs.Numbers.{HasTurn, IsIndex}
 use Rattle.vp_merge.specs.Played.{IsPlayed}
 use Rattle.vp_merge.specs.declared.fault.MergeFault.{MergeFault}
 use Rattle.vp_merge.specs.declared.fault.MergeFault.TheVariants as faults
@@ -33,7 +33,7 @@ choice_at t = option_map (λ (n : NextTurn). record { site = t.site; due = due_o
 
 -- each frame that a site has left is there
 abbrev pub AreThere : FrameNumbers → Track → Type 0
-AreThere numbers t = AllByRecursion (λ (d : Due). HasFrame numbers d.turn.frame) (track_of t).dues
+AreThere numbers t = AllByRecursion (λ (d : Due). HasTurn numbers d.turn.frame) (track_of t).dues
 
 -- The state of a merge: there is a track for each site, and the index is that of the messages that were sent.
 pub record IsMerging (catalogue : Catalogue) (m : Merging) : Type 0 where

@@ -1,12 +1,22 @@
 -- The lowest numbers under which messages were sent, by the bytes of their frames.
-use Rattle.std.specs.Prelude.{◌≡◌, ℕ, ◌+◌, List, ◌++◌, length, Option, Some, is_some, true, option_and_then}
+use Rattle.std.specs.Prelude.{◌≡◌, ℕ, ◌+◌, List, ◌++◌, length, Option, Some, is_some, true, option_and_then, Result, Ok, Err}
 use Rattle.std.specs.List.{position_from}
 use Rattle.std.specs.Str.{bytes_eq}
 use Rattle.indexmap.specs.IndexMap.{get_by}
 use Rattle.vp_model.specs.Types.{Sent}
 use Rattle.vp_laws.specs.ShapeLaws.{message_frame}
-use Rattle.vp_wire.specs.Grammar.{frame_bytes}
+use Rattle.vp_wire.specs.Grammar.{frame_bytes, frame_of}
+use Rattle.vp_wire.specs.Decoded.{read_frame}
+use Rattle.vp_wire.specs.declared.frame.Frame.{Frame}
 use Rattle.vp_merge.specs.declared.numbers.FrameNumbers.{FrameNumbers}
+
+-- the bytes of a recorded frame as a node sends it, in the second version; those that are no frame stay as they are
+abbrev pub sent_again : Result Frame ℕ → List ℕ → List ℕ
+sent_again (Ok f) bytes = frame_bytes (frame_of f.from f.to f.body)
+sent_again (Err at) bytes = bytes
+
+unfoldable pub as_sent : List ℕ → List ℕ
+as_sent bytes = sent_again (read_frame bytes) bytes
 
 -- the entry of a frame
 abbrev pub entry_of : FrameNumbers → List ℕ → Option (Option ℕ)
@@ -26,6 +36,10 @@ IsIndex n all = (bytes : List ℕ) (number : Option ℕ) → entry_of n bytes �
 
 abbrev pub HasFrame : FrameNumbers → List ℕ → Type 0
 HasFrame n bytes = is_some (entry_of n bytes) ≡ true
+
+-- the frame of a turn is there, as it is sent
+abbrev pub HasTurn : FrameNumbers → List ℕ → Type 0
+HasTurn n frame = HasFrame n (as_sent frame)
 
 -- the same frames are there
 abbrev pub HaveSame : FrameNumbers → FrameNumbers → Type 0

@@ -11,13 +11,15 @@ use Rattle.vp_runs.specs.declared.arrival.Arrival.TheVariants.{Bad, Stray, Stops
 use Rattle.vp_fitting.specs.Asked.{Due, asks}
 use Rattle.vp_fitting.specs.Merged.{Track as Left}
 use Rattle.vp_merge.specs.Dues.{due_of, dues_left}
-use Rattle.vp_merge.specs.Numbers.{number_in}
+use Rattle.vp_merge.specs.Numbers.{as_sent, number_in}
+use Rattle.vp_merge.specs.SentFrames.{bytes_in}
 use Rattle.vp_merge.specs.declared.numbers.FrameNumbers.{FrameNumbers}
 use Rattle.vp_merge.specs.declared.track.NextTurn.{NextTurn}
 use Rattle.vp_merge.specs.declared.track.Track.{Track}
 
--- It is known what the turn's frame asks of the site.
+-- The turn's frame is there as it is sent, and it is known what it asks of the site.
 pub record IsNext (site : ℕ) (n : NextTurn) : Type 0 where
+  pub frame : bytes_in n.frame ≡ as_sent n.due.turn.now.frame
   pub asked : n.asked ≡ asks site n.due.turn.now.frame
   pub form : IsArrival n.asked
 
@@ -60,4 +62,4 @@ is_ready_by numbers site frame Stops = true
 
 -- the site has a next turn, and it can be done
 abbrev pub can_go : FrameNumbers → Track → Bool
-can_go numbers t = option_map_or (λ (n : NextTurn). is_ready_by numbers t.site n.due.turn.now.frame n.asked) t.next false
+can_go numbers t = option_map_or (λ (n : NextTurn). is_ready_by numbers t.site (bytes_in n.frame) n.asked) t.next false

@@ -1,13 +1,13 @@
 //! What the frame of a turn asks of its site.
 
 ghost use Rattle.std.specs.Prelude.{◌≡◌, if◌then◌else◌, IfOk};
-ghost use Rattle.vp_fitting.specs.Asked.{asks, asks_body};
+ghost use Rattle.vp_fitting.specs.Asked.{asks, asks_body, is_weigh};
 ghost use Rattle.vp_runs.specs.Arrivals.{IsArrival};
 ghost use Rattle.vp_runs.specs.declared.arrival.Arrival.TheVariants.{Gives, Stray};
 ghost use Rattle.vp_wire.specs.Grammar.{IsFrame};
 
 use std::alloc::Global;
-use vp_base::{Input, NoMemory, SiteId};
+use vp_base::{Call, Input, NoMemory, SiteId};
 use vp_runs::Arrival;
 use vp_wire::{Body, Frame, WireFault, decode, frames_are_read};
 
@@ -22,13 +22,27 @@ fn given(here: bool, input: Input) -> Arrival
     }
 }
 
+/// Whether the call changes a table. No schedule has such a call yet.
+fn is_weigh(call: &Call) -> bool
+    ensures { result ≡ is_weigh call.now }
+{
+    match call {
+        Call::Weigh { .. } => true,
+        _ => false,
+    }
+}
+
 /// What the frame asks of the site. A frame that stops a node stops that of any site.
 fn asked_by(site: SiteId, frame: Frame) -> Arrival
     requires { IsFrame frame }
-    ensures what { result ≡ asks_body site frame frame.body }
-    ensures form { IsArrival result }
+    ensures { result ≡ asks_body site frame frame.body }
 {
-    let Frame { from, to, body } = frame;
+    let Frame {
+        version: _,
+        from,
+        to,
+        body,
+    } = frame;
     let here = to == site.get();
     match body {
         Body::Message(message) => given(
@@ -38,7 +52,10 @@ fn asked_by(site: SiteId, frame: Frame) -> Arrival
                 message,
             },
         ),
-        Body::Call(call) => given(here, Input::Call { from: 0, call }),
+        Body::Call(call) => {
+            let here = here && !is_weigh(&call);
+            given(here, Input::Call { from: 0, call })
+        }
         Body::Reply(_) => Arrival::Stray,
         Body::Tick => given(here, Input::Tick),
         Body::ProbeNow => given(here, Input::Probe),

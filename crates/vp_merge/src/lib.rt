@@ -10,6 +10,7 @@ mod merging;
 mod numbers;
 mod played;
 mod putting;
+mod sent_frame;
 mod telling;
 mod track;
 

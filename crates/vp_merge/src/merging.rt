@@ -7,13 +7,14 @@ ghost use Rattle.vp_catalog.specs.Document.{IsCatalogue};
 ghost use Rattle.vp_fitting.specs.Merged.{at_first, first_track};
 ghost use Rattle.vp_recording.specs.declared.recording.Recording.{Recording};
 ghost use Rattle.vp_merge.specs.Merging.{IsMerging, TakesTurn, state_of, waits_at};
-ghost use Rattle.vp_merge.specs.Numbers.{HasFrame, IsIndex};
+ghost use Rattle.vp_merge.specs.Numbers.{HasFrame, HasTurn, IsIndex};
 ghost use Rattle.vp_merge.specs.Tracks.{IsTrack, can_go, track_of};
 
 use crate::fault::MergeFault;
 use crate::lives::{start_lives, take_event};
 use crate::numbers::FrameNumbers;
 use crate::played::Played;
+use crate::sent_frame::SentFrame;
 use crate::track::Track;
 use bytes::BytesMut;
 use std::alloc::Global;
@@ -34,14 +35,15 @@ pub struct Merging<'a> {
     pub room: BytesMut,
 }
 
-/// Adds the frames of turns, without numbers.
+/// Adds the frames of turns as they are sent, without numbers.
 fn add_frames(alloc: Global, turns: &[Turn], numbers: &mut FrameNumbers) -> Result<(), NoMemory>
     ensures index { OnOk result (IsIndex numbers.old [] → IsIndex numbers.new []) }
-    ensures there { OnOk result (AllByRecursion (λ turn. HasFrame numbers.new turn.frame) turns.now) }
+    ensures there { OnOk result (AllByRecursion (λ turn. HasTurn numbers.new turn.frame) turns.now) }
     ensures kept { OnOk result ((bytes : List ℕ) → HasFrame numbers.old bytes → HasFrame numbers.new bytes) }
 {
     for turn in turns {
-        numbers.add(alloc, turn.frame.as_slice())?;
+        let frame = SentFrame::of(alloc, turn.frame.as_slice())?;
+        numbers.add(alloc, frame.as_slice())?;
     }
     Ok(())
 }
@@ -49,7 +51,7 @@ fn add_frames(alloc: Global, turns: &[Turn], numbers: &mut FrameNumbers) -> Resu
 /// The frames of all turns, without numbers.
 fn frames_of(alloc: Global, recordings: &[Recording]) -> Result<FrameNumbers, NoMemory>
     ensures index { IfOk result (λ n. IsIndex n []) }
-    ensures there { IfOk result (λ n. AllByRecursion (λ r. AllByRecursion (λ turn. HasFrame n turn.frame) r.turns) recordings.now) }
+    ensures there { IfOk result (λ n. AllByRecursion (λ r. AllByRecursion (λ turn. HasTurn n turn.frame) r.turns) recordings.now) }
 {
     let mut numbers = FrameNumbers::new(alloc);
     for recording in recordings {

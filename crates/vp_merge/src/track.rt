@@ -3,20 +3,23 @@
 ghost use Rattle.std.specs.Prelude.{◌≡◌, ◌&&◌, ℕ, IfOk, OnOk};
 ghost use Rattle.vp_fitting.specs.Merged.{first_track, is_own};
 ghost use Rattle.vp_merge.specs.Dues.{dues_left};
+ghost use Rattle.vp_merge.specs.SentFrames.{bytes_in};
 ghost use Rattle.vp_merge.specs.Tracks.{IsTrack, TakesNext, can_go, is_ready_by, own_event, track_of};
 
 use crate::asking::asked;
 use crate::dues::{Due, Dues};
 use crate::numbers::FrameNumbers;
+use crate::sent_frame::SentFrame;
 use std::alloc::Global;
 use vp_base::{CopyOf, Event, Input, NoMemory, SiteId};
 use vp_recording::Recording;
 use vp_runs::Arrival;
 
-/// The next turn of a site, with what its frame asks.
+/// The next turn of a site, with its frame as it is sent, and what that asks.
 #[derive(Drop)]
 pub struct NextTurn<'a> {
     pub due: Due<'a>,
+    pub frame: SentFrame<'a>,
     pub asked: Arrival,
 }
 
@@ -42,18 +45,20 @@ fn take_next<'a>(
     let Some(due) = rest.next()? else {
         return Ok(None);
     };
-    let asked = asked(alloc, site, due.turn.frame.as_slice())?;
-    Ok(Some(NextTurn { due, asked }))
+    let recorded = due.turn.frame.as_slice();
+    let frame = SentFrame::of(alloc, recorded)?;
+    let asked = asked(alloc, site, recorded)?;
+    Ok(Some(NextTurn { due, frame, asked }))
 }
 
 impl<'a> NextTurn<'a> {
     /// Whether the turn can be done: its frame is no message to the site that no step has sent.
     pub fn is_ready(&self, numbers: &FrameNumbers) -> bool
-        ensures { (site : ℕ) → result ≡ is_ready_by numbers.now site self.now.due.turn.now.frame self.now.asked }
+        ensures { (site : ℕ) → result ≡ is_ready_by numbers.now site (bytes_in self.now.frame) self.now.asked }
     {
         match &self.asked {
             Arrival::Gives { input } => match input {
-                Input::Message { .. } => numbers.number(self.due.turn.frame.as_slice()).is_some(),
+                Input::Message { .. } => numbers.number(self.frame.as_slice()).is_some(),
                 Input::Call { .. } | Input::Tick | Input::Probe => true,
             },
             Arrival::Bad { .. } | Arrival::Stray | Arrival::Stops => true,
@@ -62,7 +67,7 @@ impl<'a> NextTurn<'a> {
 
     /// The event by which the input of the turn comes to the site. A frame that is no input has none.
     pub fn event(&self, site: SiteId, numbers: &FrameNumbers) -> Result<Option<Event>, NoMemory>
-        ensures { IfOk result (λ event. event ≡ own_event numbers.now site self.now.due.turn.now.frame self.now.asked) }
+        ensures { IfOk result (λ event. event ≡ own_event numbers.now site (bytes_in self.now.frame) self.now.asked) }
     {
         let Arrival::Gives { input } = &self.asked else {
             return Ok(None);
@@ -73,7 +78,7 @@ impl<'a> NextTurn<'a> {
                 call: call.copy_of()?,
             })),
             Input::Message { .. } => {
-                let number = numbers.number(self.due.turn.frame.as_slice());
+                let number = numbers.number(self.frame.as_slice());
                 Ok(number.map(|k| Event::Deliver { k }))
             }
             Input::Tick => Ok(Some(Event::Tick { site })),

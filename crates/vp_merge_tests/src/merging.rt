@@ -45,18 +45,18 @@ fn is_refused(alloc: Global, head: &[u8], lines: &[u8], why: MergeFault) -> bool
 #[test]
 fn recordings_are_merged(rt: HostRuntime) {
     let begin =
-        b"node 1\nstart 1\nin 560120000101\nout 560121010001010000000100000001000000000000000000\nend\n";
+        b"node 1\nstart 1\nin 560220000101\nout 560221010001010000000100000001000000000000000000\nend\n";
     assert!(rt; gives(rt.alloc(), ONE, begin, b"events\ncall 1 begin\n"));
-    let cut_short = b"node 1\nstart 1\nin 560120000101\n";
+    let cut_short = b"node 1\nstart 1\nin 560220000101\n";
     assert!(rt; gives(rt.alloc(), ONE, cut_short, b"events\ncall 1 begin\n"));
-    let third_life = b"node 1\nstart 3\nin 560120000101\n";
+    let third_life = b"node 1\nstart 3\nin 560220000101\n";
     let restarts = b"events\ncrash 1\nrestart 1\ncrash 1\nrestart 1\ncall 1 begin\n";
     assert!(rt; gives(rt.alloc(), ONE, third_life, restarts));
 }
 
 #[test]
 fn a_message_that_nobody_sent_is_unsent(rt: HostRuntime) {
-    let vote = b"node 2\nstart 1\nin 56010b0102010000000100000001\nend\n";
+    let vote = b"node 2\nstart 1\nin 56020b0102010000000100000001\nend\n";
     let why = MergeFault::Unsent {
         site: SiteId::of(2),
         turn: 1,
@@ -66,10 +66,33 @@ fn a_message_that_nobody_sent_is_unsent(rt: HostRuntime) {
 
 #[test]
 fn a_turn_with_other_datagrams_differs(rt: HostRuntime) {
-    let without_answer = b"node 1\nstart 1\nin 560120000101\nend\n";
+    let without_answer = b"node 1\nstart 1\nin 560220000101\nend\n";
     let why = MergeFault::Differs {
         site: SiteId::of(1),
         turn: 1,
     };
     assert!(rt; is_refused(rt.alloc(), ONE, without_answer, why));
+}
+
+/// The turns of these recordings take frames of version 1, and what they have given is in version 2.
+#[test]
+fn frames_of_both_versions_are_taken(rt: HostRuntime) {
+    let call =
+        b"node 1\nstart 1\nin 560120000101\nout 560221010001010000000100000001000000000000000000\nend\n";
+    assert!(rt; gives(rt.alloc(), ONE, call, b"events\ncall 1 begin\n"));
+    let probe =
+        b"node 2\nstart 1\nin 5601110102000000000000000000\nend\nnode 1\nstart 1\nin 5601230001\nout 5602110102000000000000000000\nend\n";
+    assert!(rt; gives(rt.alloc(), TWO, probe, b"events\nprobe 1\ndeliver 1\n"));
+}
+
+/// A datagram of version 1 is none that a step gives.
+#[test]
+fn an_answer_of_version_1_differs(rt: HostRuntime) {
+    let answered =
+        b"node 1\nstart 1\nin 560220000101\nout 560121010001010000000100000001000000000000000000\nend\n";
+    let why = MergeFault::Differs {
+        site: SiteId::of(1),
+        turn: 1,
+    };
+    assert!(rt; is_refused(rt.alloc(), ONE, answered, why));
 }

@@ -69,7 +69,7 @@ fn first_block(recorded: &RecordingSet) -> Option<(u8, u32, bool, usize, usize)>
 #[test]
 fn blocks_are_read(rt: HostRuntime) {
     let lines =
-        b"node 1\nstart 2\nbad 0\nin 560120000101\nout 56\nout 01\nstray 00\nin ff\nlink fault\nnode 1\nstart 3\n";
+        b"node 1\nstart 2\nbad 0\nin 560220000101\nout 56\nout 01\nstray 00\nin ff\nlink fault\nnode 1\nstart 3\n";
     let recorded = parse_after(rt.alloc(), lines).expect(&rt, "recordings");
     assert_eq!(rt; recorded.recordings.as_slice().len(), 2);
     assert!(rt; first_block(&recorded) == Some((1, 2, true, 2, 2)));

@@ -1,5 +1,5 @@
 -- What a message does to the transactions that this site began: answers, refusals, votes, acknowledgements and inquiries.
-use Rattle.std.specs.Prelude.{ℕ, Bool, not, ◌==◌, ◌&&◌, if◌then◌else◌, List, filter}
+use Rattle.std.specs.Prelude.{ℕ, Bool, not, ◌==◌, ◌&&◌, if◌then◌else◌, List, filter, Option, Some, None}
 use Rattle.std.specs.List.{list_any}
 use Rattle.vp_model.specs.Types.{TxnId, Call, Message, Obstacle, Pending, Live, Decision}
 use Rattle.vp_base.specs.declared.site.Ending.TheVariants.{LockHeld, ViewChanged}
@@ -11,8 +11,8 @@ use Rattle.vp_model.specs.Words.{◌|>◌, for_some, same_txn, has, is_empty}
 use Rattle.vp_model.specs.Catalogue.{Catalogue, find_record}
 use Rattle.vp_model.specs.Durable.{acknowledged}
 use Rattle.vp_model.specs.Site.{CoordinatorState, Lent, lent_force, lent_send, lent_coordinator}
-use Rattle.vp_model.specs.Transactions.{live_of, close, decide, wait_for}
-use Rattle.vp_model.specs.Calls.{answer_read, answer_write}
+use Rattle.vp_model.specs.Transactions.{live_of, close, decide, complete, wait_for}
+use Rattle.vp_model.specs.Calls.{answer_read, change_asked}
 
 -- where the transaction is live, and its pending call waits for the site
 unfoldable pub with_missing : TxnId → ℕ → (Live → Pending → Lent → Lent) → Lent → Lent
@@ -27,34 +27,39 @@ count_in from t p done l =
     let missing = filter (λ q. not (q == from)) p.missing in
     if is_empty missing then done l else wait_for t p missing l
 
-abbrev pub read_answered : Catalogue → ℕ → ℕ → List ℕ → Live → Pending → Call → Lent → Lent
+abbrev pub read_answered : Catalogue → ℕ → ℕ → Option (List ℕ) → Live → Pending → Call → Lent → Lent
 read_answered catalogue from number value t p (call.Read txn n name) l =
     if p.number == number
     then l |> for_some (find_record catalogue name) (λ rec. count_in from t p (answer_read t p rec value))
     else l
 read_answered catalogue from number value t p _ l = l
 
-unfoldable pub on_read_answer : Catalogue → ℕ → TxnId → ℕ → List ℕ → Lent → Lent
+unfoldable pub on_read_answer : Catalogue → ℕ → TxnId → ℕ → Option (List ℕ) → Lent → Lent
 on_read_answer catalogue from txn number value l =
     with_missing txn from (λ t p. read_answered catalogue from number value t p p.call) l
 
-abbrev pub write_answered : Catalogue → ℕ → ℕ → Live → Pending → Call → Lent → Lent
-write_answered catalogue from number t p (call.Write txn n name value) l =
+abbrev pub write_answered : Catalogue → ℕ → ℕ → Live → Pending → Lent → Lent
+write_answered catalogue from number t p l =
     if p.number == number
-    then l |> for_some (find_record catalogue name) (λ rec. count_in from t p (answer_write t p rec value))
+    then l |> for_some (change_asked catalogue p.call) (λ deed. count_in from t p (complete t p deed))
     else l
-write_answered catalogue from number t p _ l = l
 
 unfoldable pub on_write_answer : Catalogue → ℕ → TxnId → ℕ → Lent → Lent
-on_write_answer catalogue from txn number l =
-    with_missing txn from (λ t p. write_answered catalogue from number t p p.call) l
+on_write_answer catalogue from txn number l = with_missing txn from (write_answered catalogue from number) l
 
--- a lock of another owner closes a transaction by its read or write, and another view by any call
+-- the record that a call names
+abbrev pub record_name : Call → Option (List ℕ)
+record_name (call.Read txn number name) = Some name
+record_name (call.Write txn number name value) = Some name
+record_name (call.Delete txn number name) = Some name
+record_name (call.Weigh txn number name table) = Some name
+record_name _ = None
+
+-- a lock of another owner closes a transaction by its call on a record, and another view by any call
 abbrev pub refused_by : ℕ → Obstacle → Call → ℕ → Live → Lent → Lent
-refused_by id (obstacle.Held holder) (call.Read txn number name) from t l = close id t (LockHeld name from holder) l
-refused_by id (obstacle.Held holder) (call.Write txn number name value) from t l = close id t (LockHeld name from holder) l
-refused_by id (obstacle.Held holder) _ from t l = l
+refused_by id (obstacle.Held holder) words from t l = l |> for_some (record_name words) (λ name. close id t (LockHeld name from holder))
 refused_by id (obstacle.OtherView now) words from t l = close id t (ViewChanged from t.view now) l
+refused_by id (obstacle.Barred inside total) words from t l = l
 
 unfoldable pub on_refuse : ℕ → ℕ → TxnId → ℕ → Obstacle → Lent → Lent
 on_refuse id from txn number why l =

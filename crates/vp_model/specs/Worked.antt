@@ -25,8 +25,9 @@ pub mod NoEvents
 pub mod LastNumbers
 pub mod ManyFinished
 pub mod Limited
-use Rattle.std.specs.Prelude.{ℕ, List}
-use Rattle.vp_model.specs.Types.{ViewId, TxnId, Op, Commit, Message, Sent, Answer, Reply, Event, Shown, Line}
+use Rattle.std.specs.Prelude.{ℕ, List, [], None}
+use Rattle.vp_model.specs.Types.puts
+use Rattle.vp_model.specs.Types.{ViewId, TxnId, Change, Op, Commit, Message, Sent, Answer, Reply, Event, Shown, Line}
 use Rattle.vp_model.specs.Catalogue.{RecordEntry}
 
 -- the identifier whose text is number@site
@@ -44,10 +45,14 @@ abbrev pub reply : Answer → Reply
 reply answer = record { to = 0; answer = answer }
 
 abbrev pub committed : TxnId → ViewId → List Op → Commit
-committed txn view ops = record { txn = txn; view = view; ops = ops }
+committed txn view ops = record { txn = txn; view = view; ops = ops; tables = [] }
 
 abbrev pub line : ℕ → Event → Shown → ℕ × Line
 line number event shown = (number, record { event = event; shown = shown })
+
+-- a value is put
+abbrev pub value : List ℕ → Change
+value v = record { put = puts.Value v; table = None }
 
 -- a record of the catalogue
 abbrev pub stored : List ℕ → List ℕ → List (ℕ × ℕ) → RecordEntry

@@ -1,11 +1,12 @@
 -- A worked cluster of two sites: a commit, a kill within the turn that decides it, and what the network repeats.
-use Rattle.std.specs.Prelude.{ℕ, List, [], ◌∷◌, true, codes}
-use Rattle.vp_model.specs.Types.{LogRecord, ViewId, TxnId, Call, Commit, Message}
+use Rattle.std.specs.Prelude.{ℕ, List, [], ◌∷◌, Some, None, true, codes}
+use Rattle.vp_model.specs.Types.{LogRecord, ViewId, TxnId, Change, Call, Commit, Message}
 use Rattle.vp_model.specs.Types.call
 use Rattle.vp_model.specs.Types.log_record
 use Rattle.vp_model.specs.Types.message
 use Rattle.vp_model.specs.Types.op
 use Rattle.vp_model.specs.Words.{opening}
+use Rattle.vp_model.specs.Worked.{value}
 use Rattle.vp_outside.specs.declared.datagram.Datagram.{Datagram}
 use Rattle.vp_wire.specs.declared.frame.Body.TheVariants as body
 use Rattle.vp_wire.specs.Grammar.{frame_of}
@@ -21,8 +22,8 @@ from_one m = datagram_to 7001 (frame_of 1 2 (body.Message m))
 abbrev pub from_two : Message → Datagram
 from_two m = datagram_to 7002 (frame_of 2 1 (body.Message m))
 
-abbrev pub writes : List (ℕ × List ℕ)
-writes = (0, codes "11") ∷ []
+abbrev pub writes : List (ℕ × Change)
+writes = (0, value (codes "11")) ∷ []
 
 -- a client writes x at site 1, and commits; site 2 votes
 abbrev pub prepared_run : List Happening
@@ -55,7 +56,7 @@ killed_run =
     ended = (log_record.Start 1 ∷ []) ∷ (log_record.Yes (txn 1) opening writes ∷ []) ∷ (log_record.Outcome (txn 1) true ∷ []) ∷ []
 
 abbrev pub run_commits : List Commit
-run_commits = record { txn = txn 1; view = opening; ops = op.Write 0 (codes "11") ∷ [] } ∷ []
+run_commits = record { txn = txn 1; view = opening; ops = op.Write 0 (Some (codes "11")) ∷ []; tables = [] } ∷ []
 
 -- ---- forged messages
 
@@ -102,7 +103,7 @@ forgotten_run =
     ∷ Happening.Comes 1 (datagram_to 7100 (frame_of 0 1 body.Tick))
     ∷ Happening.Comes 2 (from_one (message.ViewCommit view (1 ∷ 2 ∷ [])))
     ∷ Happening.Comes 2 (from_one (message.RefreshRequest view 0))
-    ∷ Happening.Comes 1 (from_two (message.RefreshAnswer view 0 (record { value = codes "11"; date = opening })))
+    ∷ Happening.Comes 1 (from_two (message.RefreshAnswer view 0 (record { value = Some (codes "11"); table = None; date = opening })))
     ∷ Happening.Comes 1 (datagram_of_call call.Begin)
     ∷ Happening.Comes 1 (datagram_of_call (call.Read next_life 1 (codes "x")))
     ∷ Happening.Comes 1 (datagram_of_call (call.Commit next_life 2))

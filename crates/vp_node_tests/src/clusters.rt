@@ -14,23 +14,23 @@ const SECOND: u16 = 7002;
 /// The most rounds of passing on that follow a call.
 const ROUNDS: usize = 10;
 
-const WRITTEN: &[u8] = b"\x56\x01\x21\x01\0\x03\x01\0\0\0\x01\0\0\0\x01\0\0\0\x01";
+const WRITTEN: &[u8] = b"\x56\x02\x21\x01\0\x03\x01\0\0\0\x01\0\0\0\x01\0\0\0\x01";
 
-const COMMITTED: &[u8] = b"\x56\x01\x21\x01\0\x04\x01\0\0\0\x01\0\0\0\x01\0\0\0\x02";
+const COMMITTED: &[u8] = b"\x56\x02\x21\x01\0\x04\x01\0\0\0\x01\0\0\0\x01\0\0\0\x02";
 
 /// The call to begin, to site 2, and its answer.
-const BEGIN_THERE: &[u8] = b"\x56\x01\x20\0\x02\x01";
+const BEGIN_THERE: &[u8] = b"\x56\x02\x20\0\x02\x01";
 
-const BEGUN_THERE: &[u8] = b"\x56\x01\x21\x02\0\x01\x02\0\0\0\x01\0\0\0\x01\0\0\0\0\0\0\0\0\0";
+const BEGUN_THERE: &[u8] = b"\x56\x02\x21\x02\0\x01\x02\0\0\0\x01\0\0\0\x01\0\0\0\0\0\0\0\0\0";
 
 /// The call to read x in 2.1.1, to site 2, and the value 11.
-const READ_THERE: &[u8] = b"\x56\x01\x20\0\x02\x03\x02\0\0\0\x01\0\0\0\x01\0\0\0\x01\x01\x78";
+const READ_THERE: &[u8] = b"\x56\x02\x20\0\x02\x03\x02\0\0\0\x01\0\0\0\x01\0\0\0\x01\x01\x78";
 
-const VALUE: &[u8] = b"\x56\x01\x21\x02\0\x02\x02\0\0\0\x01\0\0\0\x01\0\0\0\x01\x02\x31\x31";
+const VALUE: &[u8] = b"\x56\x02\x21\x02\0\x02\x02\0\0\0\x01\0\0\0\x01\0\0\0\x01\0\x02\x31\x31";
 
 /// The log of a site that has voted and got the commit: its life, its vote with the write, and the outcome.
 const OF_A_PARTICIPANT: &[u8] = b"\x01\0\0\0\0\0\0\0\x05\x01\0\0\0\x01\
-    \x01\0\0\0\0\0\0\0\x18\x03\x01\0\0\0\x01\0\0\0\x01\0\0\0\0\0\0\0\0\0\x01\0\x02\x31\x31\
+    \x01\0\0\0\0\0\0\0\x1b\x09\x01\0\0\0\x01\0\0\0\x01\0\0\0\0\0\0\0\0\0\x01\0\x01\0\x02\x31\x31\0\
     \x01\0\0\0\0\0\0\0\x0b\x04\x01\0\0\0\x01\0\0\0\x01\x01\0";
 
 /// A site, all that has come to it, and how many of the datagrams that it hands over were passed on.

@@ -11,36 +11,36 @@ use vp_status::Status;
 
 /// What it prints if no call fails.
 const RECORDING: &str = "start 1\n\
-in 560120000101\n\
-out 560121010001010000000100000001000000000000000000\n\
-in 560120000104010000000100000001000000010178023131\n\
-out 56012101000301000000010000000100000001\n\
-in 56012000010501000000010000000100000002\n\
-out 56012101000401000000010000000100000002\n\
-in 5601240001\n\
+in 560220000101\n\
+out 560221010001010000000100000001000000000000000000\n\
+in 56022000010401000000010000000100000001017800023131\n\
+out 56022101000301000000010000000100000001\n\
+in 56022000010501000000010000000100000002\n\
+out 56022101000401000000010000000100000002\n\
+in 5602240001\n\
 end\n";
 
 /// Calls of the link, the disk and the sink that fail, and how the run ends then: the status, how many lines of the recording are
-/// printed, how many datagrams were handed over, and how long the log is: 15 bytes with the start of its life, 49 with the commit.
+/// printed, how many datagrams were handed over, and how long the log is: 15 bytes with the start of its life, 52 with the commit.
 const FAULTS: [(u64, u64, u64, Status, usize, usize, usize); 17] = [
     // Call 1 of the link binds; then each turn receives, and each turn but the last sends. What isn't sent is lost. There is no call 9.
     (1, 0, 0, Status::LinkFault, 0, 0, 15),
     (2, 0, 0, Status::LinkFault, 1, 0, 15),
-    (3, 0, 0, Status::Done, 9, 3, 49),
+    (3, 0, 0, Status::Done, 9, 3, 52),
     (4, 0, 0, Status::LinkFault, 3, 1, 15),
-    (5, 0, 0, Status::Done, 9, 3, 49),
+    (5, 0, 0, Status::Done, 9, 3, 52),
     (6, 0, 0, Status::LinkFault, 5, 2, 15),
-    (7, 0, 0, Status::Done, 9, 3, 49),
-    (8, 0, 0, Status::LinkFault, 7, 3, 49),
-    (9, 0, 0, Status::Done, 9, 3, 49),
+    (7, 0, 0, Status::Done, 9, 3, 52),
+    (8, 0, 0, Status::LinkFault, 7, 3, 52),
+    (9, 0, 0, Status::Done, 9, 3, 52),
     // Each of the first line, the lines of a turn and the last line is put by one call of the sink; the datagrams of a turn are sent
     // after its lines, and its records are kept before them.
     (0, 0, 1, Status::SinkFault, 0, 0, 15),
     (0, 0, 2, Status::SinkFault, 1, 0, 15),
     (0, 0, 3, Status::SinkFault, 3, 1, 15),
-    (0, 0, 4, Status::SinkFault, 5, 2, 49),
-    (0, 0, 5, Status::SinkFault, 7, 3, 49),
-    (0, 0, 6, Status::SinkFault, 8, 3, 49),
+    (0, 0, 4, Status::SinkFault, 5, 2, 52),
+    (0, 0, 5, Status::SinkFault, 7, 3, 52),
+    (0, 0, 6, Status::SinkFault, 8, 3, 52),
     // The line of a fault that is not printed is a fault of the sink.
     (0, 1, 1, Status::SinkFault, 0, 0, 0),
     (2, 0, 2, Status::SinkFault, 1, 0, 15),
@@ -48,7 +48,7 @@ const FAULTS: [(u64, u64, u64, Status, usize, usize, usize); 17] = [
 
 /// How its log begins once another life has started on it, if it has the commit: the closed gate after the batches ends it.
 const COMMIT_BETWEEN: &[u8] = b"\x01\0\0\0\0\0\0\0\x05\x01\0\0\0\x01\
-    \x01\0\0\0\0\0\0\0\x19\x05\x01\0\0\0\x01\0\0\0\x01\0\0\0\0\0\0\0\0\0\x01\0\x02\x31\x31\0\
+    \x01\0\0\0\0\0\0\0\x1c\x0a\x01\0\0\0\x01\0\0\0\x01\0\0\0\0\0\0\0\0\0\x01\0\x01\0\x02\x31\x31\0\0\
     \x01\0\0\0\0\0\0\0\x05\x01\0\0\0\x02\0";
 
 fn run(rt: &impl Abort, alloc: Global, failing: Failing) -> Ended {
@@ -143,14 +143,14 @@ const TWO: &[u8] = b"site 1 7001\nsite 2 7002\nrecord x 10 1:1 2:1\n";
 
 /// What the next life prints when it regroups: it starts again in the life that failed to start, starts in the next one, or knows the
 /// view that was promised.
-const STARTED_AGAIN: &[u8] = b"start 16843010\nin 560120000102\n\
-    out 5601010102000000000000000101\nout 560121010006000000000000000101\nlink fault\n";
+const STARTED_AGAIN: &[u8] = b"start 16843010\nin 560220000102\n\
+    out 5602010102000000000000000101\nout 560221010006000000000000000101\nlink fault\n";
 
-const STARTED_NEXT: &[u8] = b"start 16843011\nin 560120000102\n\
-    out 5601010102000000000000000101\nout 560121010006000000000000000101\nlink fault\n";
+const STARTED_NEXT: &[u8] = b"start 16843011\nin 560220000102\n\
+    out 5602010102000000000000000101\nout 560221010006000000000000000101\nlink fault\n";
 
-const PROMISED: &[u8] = b"start 16843011\nin 560120000102\n\
-    out 5601010102000000000000000201\nout 560121010006000000000000000201\nlink fault\n";
+const PROMISED: &[u8] = b"start 16843011\nin 560220000102\n\
+    out 5602010102000000000000000201\nout 560221010006000000000000000201\nlink fault\n";
 
 /// A node on this log that regroups, whose call of the disk with this number fails.
 fn regroup(rt: &impl Abort, alloc: Global, halves: [&[u8]; 2], disk: u64) -> Ended {

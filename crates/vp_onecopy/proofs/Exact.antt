@@ -4,6 +4,7 @@ use Rattle.std.specs.Prelude.{codes, IfSome, Option}
 use Rattle.vp_text.specs.Tokens.{IsLiteral, IsNumber, Either}
 use Rattle.std.specs.Fmt.{decimal}
 use Rattle.std.proofs.lemmas.Bool.{false≢true}
+use Rattle.std.proofs.lemmas.Bool.Decides.{nat_tests}
 use Rattle.std.proofs.lemmas.List.{length-append}
 use Rattle.vp_text.specs.Reading.{is_digit, either, next_at}
 use Rattle.vp_text.specs.Classes.{has, most}
@@ -20,12 +21,12 @@ use Rattle.vp_base.specs.Reading.{starts_any}
 use Rattle.vp_base.proofs.Txns.{txn_exact, txn_goes}
 use Rattle.vp_base.proofs.Views.{view_from_exact, view_from_goes}
 use Rattle.vp_base.proofs.Among.{among_exact, place_goes}
-use Rattle.vp_model.specs.Types.{ViewId, Op}
+use Rattle.vp_model.specs.Types.{ViewId, Op, Commit as CommitType}
 use Rattle.vp_model.specs.Types.op
 use Rattle.vp_onecopy.specs.declared.line.HistoryLine.{HistoryLine}
 use Rattle.vp_onecopy.specs.declared.line.HistoryLine.TheVariants.{Start, Commit, End}
 use Rattle.vp_onecopy.specs.Lines.{AllNames, Before, OpText, OpsText, some_names, may_start, LineText}
-use Rattle.vp_onecopy.specs.Reading.{commit_of, read_at, write_at, op_at, ops_at, start_at, commit_at, ending_at, later_at, line_at}
+use Rattle.vp_onecopy.specs.Reading.{commit_of, read_at, write_at, absent_at, delete_at, bare_op_at, later_op_at, op_at, ops_at, start_at, commit_at, ending_at, later_at, line_at}
 
 -- ---- an operation
 
@@ -33,37 +34,112 @@ use Rattle.vp_onecopy.specs.Reading.{commit_of, read_at, write_at, op_at, ops_at
 abbrev OpParts : List (List ℕ) → List ℕ → (ℕ → List ℕ → Op) → Op → List ℕ → Type 0
 OpParts names key make = Then (IsLiteral key) (λ _. Then (IsPlace names) (λ place. Then (IsLiteral (32 ∷ [])) (λ _. Made IsValue (λ value. make place value))))
 
-read_exact : (names : List (List ℕ)) → starts_any names [] ≡ true → AllNames names → Exact (OpParts names (codes " r ") (λ place value. op.Read place value)) (read_at names)
+-- key NAME
+abbrev BareParts : List (List ℕ) → List ℕ → (ℕ → Op) → Op → List ℕ → Type 0
+BareParts names key make = Then (IsLiteral key) (λ _. Made (IsPlace names) make)
+
+abbrev ReadParts : List (List ℕ) → Op → List ℕ → Type 0
+ReadParts names = OpParts names (codes " r ") (λ place value. op.Read place (Some value))
+
+abbrev WriteParts : List (List ℕ) → Op → List ℕ → Type 0
+WriteParts names = OpParts names (codes " w ") (λ place value. op.Write place (Some value))
+
+abbrev AbsentParts : List (List ℕ) → Op → List ℕ → Type 0
+AbsentParts names = BareParts names (codes " a ") (λ place. op.Read place None)
+
+abbrev DeleteParts : List (List ℕ) → Op → List ℕ → Type 0
+DeleteParts names = BareParts names (codes " d ") (λ place. op.Write place None)
+
+abbrev BareChoice : List (List ℕ) → Op → List ℕ → Type 0
+BareChoice names = Either (AbsentParts names) (DeleteParts names)
+
+abbrev LaterChoice : List (List ℕ) → Op → List ℕ → Type 0
+LaterChoice names = Either (WriteParts names) (BareChoice names)
+
+abbrev OpChoice : List (List ℕ) → Op → List ℕ → Type 0
+OpChoice names = Either (ReadParts names) (LaterChoice names)
+
+-- ---- they are read exactly
+
+read_exact : (names : List (List ℕ)) → starts_any names [] ≡ true → AllNames names → Exact (ReadParts names) (read_at names)
 unfolding read_at
 read_exact names some all =
     literal_then (codes " r ") (then_exact (follows_from (has classes.Name) (place_goes names all) (λ place. literal_outside (has classes.Name) (32 ∷ []) refl)) (among_exact names some)
-    (λ place. literal_then (32 ∷ []) (made_exact (λ value. op.Read place value) (class_exact classes.Value))))
+    (λ place. literal_then (32 ∷ []) (made_exact (λ value. op.Read place (Some value)) (class_exact classes.Value))))
 
-write_exact : (names : List (List ℕ)) → starts_any names [] ≡ true → AllNames names → Exact (OpParts names (codes " w ") (λ place value. op.Write place value)) (write_at names)
+write_exact : (names : List (List ℕ)) → starts_any names [] ≡ true → AllNames names → Exact (WriteParts names) (write_at names)
 unfolding write_at
 write_exact names some all =
     literal_then (codes " w ") (then_exact (follows_from (has classes.Name) (place_goes names all) (λ place. literal_outside (has classes.Name) (32 ∷ []) refl)) (among_exact names some)
-    (λ place. literal_then (32 ∷ []) (made_exact (λ value. op.Write place value) (class_exact classes.Value))))
+    (λ place. literal_then (32 ∷ []) (made_exact (λ value. op.Write place (Some value)) (class_exact classes.Value))))
+
+absent_exact : (names : List (List ℕ)) → starts_any names [] ≡ true → Exact (AbsentParts names) (absent_at names)
+unfolding absent_at
+absent_exact names some = literal_then (codes " a ") (made_exact (λ place. op.Read place None) (among_exact names some))
+
+delete_exact : (names : List (List ℕ)) → starts_any names [] ≡ true → Exact (DeleteParts names) (delete_at names)
+unfolding delete_at
+delete_exact names some = literal_then (codes " d ") (made_exact (λ place. op.Write place None) (among_exact names some))
+
+-- ---- what they may go on with
 
 op_goes : (names : List (List ℕ)) → starts_any names [] ≡ true → AllNames names → (key : List ℕ) (make : ℕ → List ℕ → Op) → GoesOn (has classes.Value) (OpParts names key make)
 op_goes names some all key make =
     literal_goes (has classes.Value) key (then_goes (has classes.Value) (one_value (among_exact names some)) (follows_from (has classes.Name) (place_goes names all) (λ place. literal_outside (has classes.Name) (32 ∷ []) refl))
     (λ place. literal_goes (has classes.Value) (32 ∷ []) (made_goes (has classes.Value) (word_goes (has classes.Value) (most classes.Value)))))
 
-opens_read : (names : List (List ℕ)) → Opens (codes " r ") (OpParts names (codes " r ") (λ place value. op.Read place value))
+value_byte : (c : ℕ) → has classes.Name c ≡ true → has classes.Value c ≡ true
+value_byte c h = grind (arith, nat_tests, h)
+
+bare_goes : (names : List (List ℕ)) → AllNames names → (key : List ℕ) (make : ℕ → Op) → GoesOn (has classes.Value) (BareParts names key make)
+bare_goes names all key make =
+    literal_goes (has classes.Value) key (made_goes (has classes.Value) (λ a a2 text x r before longer. value_byte x (place_goes names all a a2 text x r before longer)))
+
+-- ---- they begin differently
+
+opens_read : (names : List (List ℕ)) → Opens (codes " r ") (ReadParts names)
 opens_read names = literal_opens (codes " r ")
 
-opens_write : (names : List (List ℕ)) → Opens (codes " w ") (OpParts names (codes " w ") (λ place value. op.Write place value))
+opens_write : (names : List (List ℕ)) → Opens (codes " w ") (WriteParts names)
 opens_write names = literal_opens (codes " w ")
 
-clear_read : (names : List (List ℕ)) → IsClear (OpParts names (codes " r ") (λ place value. op.Read place value)) (OpParts names (codes " w ") (λ place value. op.Write place value))
-clear_read names = clear_keys (codes " r ") (codes " w ") refl (opens_read names) (opens_write names)
+opens_absent : (names : List (List ℕ)) → Opens (codes " a ") (AbsentParts names)
+opens_absent names = literal_opens (codes " a ")
 
-clear_write : (names : List (List ℕ)) → IsClear (OpParts names (codes " w ") (λ place value. op.Write place value)) (OpParts names (codes " r ") (λ place value. op.Read place value))
-clear_write names = clear_keys (codes " w ") (codes " r ") refl (opens_write names) (opens_read names)
+opens_delete : (names : List (List ℕ)) → Opens (codes " d ") (DeleteParts names)
+opens_delete names = literal_opens (codes " d ")
 
-abbrev OpChoice : List (List ℕ) → Op → List ℕ → Type 0
-OpChoice names = Either (OpParts names (codes " r ") (λ place value. op.Read place value)) (OpParts names (codes " w ") (λ place value. op.Write place value))
+clear_absent : (names : List (List ℕ)) → IsClear (AbsentParts names) (DeleteParts names)
+clear_absent names = clear_keys (codes " a ") (codes " d ") refl (opens_absent names) (opens_delete names)
+
+clear_delete : (names : List (List ℕ)) → IsClear (DeleteParts names) (AbsentParts names)
+clear_delete names = clear_keys (codes " d ") (codes " a ") refl (opens_delete names) (opens_absent names)
+
+clear_write : (names : List (List ℕ)) → IsClear (WriteParts names) (BareChoice names)
+clear_write names = clear_or (WriteParts names) (AbsentParts names) (DeleteParts names)
+    (clear_keys (codes " w ") (codes " a ") refl (opens_write names) (opens_absent names))
+    (clear_keys (codes " w ") (codes " d ") refl (opens_write names) (opens_delete names))
+
+clear_bare : (names : List (List ℕ)) → IsClear (BareChoice names) (WriteParts names)
+clear_bare names = or_clear (WriteParts names) (AbsentParts names) (DeleteParts names)
+    (clear_keys (codes " a ") (codes " w ") refl (opens_absent names) (opens_write names))
+    (clear_keys (codes " d ") (codes " w ") refl (opens_delete names) (opens_write names))
+
+clear_read : (names : List (List ℕ)) → IsClear (ReadParts names) (LaterChoice names)
+clear_read names = clear_or (ReadParts names) (WriteParts names) (BareChoice names)
+    (clear_keys (codes " r ") (codes " w ") refl (opens_read names) (opens_write names))
+    (clear_or (ReadParts names) (AbsentParts names) (DeleteParts names)
+    (clear_keys (codes " r ") (codes " a ") refl (opens_read names) (opens_absent names))
+    (clear_keys (codes " r ") (codes " d ") refl (opens_read names) (opens_delete names)))
+
+clear_other : (names : List (List ℕ)) → IsClear (LaterChoice names) (ReadParts names)
+clear_other names = or_clear (ReadParts names) (WriteParts names) (BareChoice names)
+    (clear_keys (codes " w ") (codes " r ") refl (opens_write names) (opens_read names))
+    (or_clear (ReadParts names) (AbsentParts names) (DeleteParts names)
+    (clear_keys (codes " a ") (codes " r ") refl (opens_absent names) (opens_read names))
+    (clear_keys (codes " d ") (codes " r ") refl (opens_delete names) (opens_read names)))
+
+-- ---- the parts are the operation's text
 
 op_to : (names : List (List ℕ)) (op : Op) (t : List ℕ) → OpChoice names op t → OpText names op t
 op_to names op t h =
@@ -72,14 +148,20 @@ op_to names op t h =
           let v = r.after.after.after in
           let w : IsValue v.from v.from = subst (λ (x : List ℕ). IsValue v.from x) (sym v.spelled.is) v.spelled in
           subst (λ (x : Op). OpText names x t) (sym v.is) (r.after.front, r.after.before, w, rw (r.parts, r.before, r.after.parts, r.after.after.parts, r.after.after.before, ← v.spelled.is) refl)
-      | inr r ↦
-          let v = r.after.after.after in
-          let w : IsValue v.from v.from = subst (λ (x : List ℕ). IsValue v.from x) (sym v.spelled.is) v.spelled in
-          subst (λ (x : Op). OpText names x t) (sym v.is) (r.after.front, r.after.before, w, rw (r.parts, r.before, r.after.parts, r.after.after.parts, r.after.after.before, ← v.spelled.is) refl)
+      | inr l ↦ elim l [
+        | inl r ↦
+            let v = r.after.after.after in
+            let w : IsValue v.from v.from = subst (λ (x : List ℕ). IsValue v.from x) (sym v.spelled.is) v.spelled in
+            subst (λ (x : Op). OpText names x t) (sym v.is) (r.after.front, r.after.before, w, rw (r.parts, r.before, r.after.parts, r.after.after.parts, r.after.after.before, ← v.spelled.is) refl)
+        | inr b ↦ elim b [
+          | inl a ↦ subst (λ (x : Op). OpText names x t) (sym a.after.is) (a.back, a.after.spelled, rw (a.parts, a.before) refl)
+          | inr d ↦ subst (λ (x : Op). OpText names x t) (sym d.after.is) (d.back, d.after.spelled, rw (d.parts, d.before) refl)
+        ]
+      ]
     ]
 
 op_from : (names : List (List ℕ)) (op : Op) (t : List ℕ) → OpText names op t → OpChoice names op t
-op_from names (op.Read rec value) t h = inl (record {
+op_from names (op.Read rec (Some value)) t h = inl (record {
   first = tt;
   front = codes " r ";
   back = h.0 ++ 32 ∷ value;
@@ -94,7 +176,7 @@ op_from names (op.Read rec value) t h = inl (record {
     after = record { first = tt; front = 32 ∷ []; back = value; before = refl; parts = refl; after = record { from = value; spelled = h.2; is = refl } };
   };
 })
-op_from names (op.Write rec value) t h = inr (record {
+op_from names (op.Write rec (Some value)) t h = inr (inl (record {
   first = tt;
   front = codes " w ";
   back = h.0 ++ 32 ∷ value;
@@ -108,19 +190,31 @@ op_from names (op.Write rec value) t h = inr (record {
     parts = refl;
     after = record { first = tt; front = 32 ∷ []; back = value; before = refl; parts = refl; after = record { from = value; spelled = h.2; is = refl } };
   };
-})
+}))
+op_from names (op.Read rec None) t h =
+    inr (inr (inl (record { first = tt; front = codes " a "; back = h.0; before = refl; parts = h.2; after = record { from = rec; spelled = h.1; is = refl } })))
+op_from names (op.Write rec None) t h =
+    inr (inr (inr (record { first = tt; front = codes " d "; back = h.0; before = refl; parts = h.2; after = record { from = rec; spelled = h.1; is = refl } })))
 
 op_exact : (names : List (List ℕ)) → starts_any names [] ≡ true → AllNames names → Exact (OpText names) (op_at names)
-unfolding op_at
-op_exact names some all = exact_as (op_to names) (op_from names) (either_exact (clear_read names) (clear_write names) (read_exact names some all) (write_exact names some all))
+unfolding bare_op_at later_op_at op_at
+op_exact names some all =
+    exact_as (op_to names) (op_from names)
+    (either_exact (clear_read names) (clear_other names) (read_exact names some all)
+    (either_exact (clear_write names) (clear_bare names) (write_exact names some all)
+    (either_exact (clear_absent names) (clear_delete names) (absent_exact names some) (delete_exact names some))))
 
 text_goes : (names : List (List ℕ)) → starts_any names [] ≡ true → AllNames names → GoesOn (has classes.Value) (OpText names)
-text_goes names some all = goes_as (has classes.Value) (op_from names) (either_goes (has classes.Value) (clear_read names) (clear_write names)
-    (op_goes names some all (codes " r ") (λ place value. op.Read place value)) (op_goes names some all (codes " w ") (λ place value. op.Write place value)))
+text_goes names some all = goes_as (has classes.Value) (op_from names) (either_goes (has classes.Value) (clear_read names) (clear_other names)
+    (op_goes names some all (codes " r ") (λ place value. op.Read place (Some value)))
+    (either_goes (has classes.Value) (clear_write names) (clear_bare names) (op_goes names some all (codes " w ") (λ place value. op.Write place (Some value)))
+    (either_goes (has classes.Value) (clear_absent names) (clear_delete names) (bare_goes names all (codes " a ") (λ place. op.Read place None)) (bare_goes names all (codes " d ") (λ place. op.Write place None)))))
 
 no_op : (op : Op) (t : List ℕ) → OpText [] op t → ⊥
-no_op (op.Read rec value) t h = h.1
-no_op (op.Write rec value) t h = h.1
+no_op (op.Read rec (Some value)) t h = h.1
+no_op (op.Write rec (Some value)) t h = h.1
+no_op (op.Read rec None) t h = h.1
+no_op (op.Write rec None) t h = h.1
 
 none_goes : GoesOn (has classes.Value) (OpText [])
 none_goes = λ a a2 text x r before longer. absurd (no_op a text before)
@@ -128,8 +222,10 @@ none_goes = λ a a2 text x r before longer. absurd (no_op a text before)
 -- ---- the operations of a commit line
 
 op_opens_at : (names : List (List ℕ)) (op : Op) (t : List ℕ) → OpText names op t → (r : List ℕ) × (t ≡ (32 ∷ []) ++ r)
-op_opens_at names (op.Read rec value) t h = (codes "r " ++ (h.0 ++ 32 ∷ value), h.3)
-op_opens_at names (op.Write rec value) t h = (codes "w " ++ (h.0 ++ 32 ∷ value), h.3)
+op_opens_at names (op.Read rec (Some value)) t h = (codes "r " ++ (h.0 ++ 32 ∷ value), h.3)
+op_opens_at names (op.Write rec (Some value)) t h = (codes "w " ++ (h.0 ++ 32 ∷ value), h.3)
+op_opens_at names (op.Read rec None) t h = (codes "a " ++ h.0, h.2)
+op_opens_at names (op.Write rec None) t h = (codes "d " ++ h.0, h.2)
 
 op_opens : (names : List (List ℕ)) → Opens (32 ∷ []) (OpText names)
 op_opens names = λ op t h. op_opens_at names op t h
@@ -250,6 +346,7 @@ later_to before e t h =
             txn_is = x.before;
             view_is = v.before;
             ops_are = v.after.spelled;
+            no_tables = refl;
             parts = rw (c.parts, c.before, x.parts, x.after.parts, x.after.before, v.parts) refl;
           })
       | inr c ↦
@@ -257,6 +354,10 @@ later_to before e t h =
           let number : n.front ≡ decimal before.commits = n.before.is ∙ ap decimal (omega (arith, n.before.above, n.before.below)) in
           subst (λ (e : HistoryLine). LineText before e t) (sym n.after.is) (rw (c.parts, c.before, n.parts, number, n.after.spelled) refl)
     ]
+
+-- a commit without tables
+bare_commit : (commit : CommitType) → commit.tables ≡ [] → commit ≡ commit_of commit.txn commit.view commit.ops
+bare_commit commit none = ap (λ tables. record { txn = commit.txn; view = commit.view; ops = commit.ops; tables = tables }) none
 
 later_from : (before : Before) (e : HistoryLine) (t : List ℕ) → LineText before e t → Either StartParts (LaterParts before) e t
 later_from before (Start name value) t h = inl (record {
@@ -299,7 +400,7 @@ later_from before (Commit commit) t h = inr (inl (record {
       back = h.view ++ h.ops;
       before = refl;
       parts = refl;
-      after = record { first = commit.view; front = h.view; back = h.ops; before = h.view_is; parts = refl; after = record { from = commit.ops; spelled = h.ops_are; is = refl } };
+      after = record { first = commit.view; front = h.view; back = h.ops; before = h.view_is; parts = refl; after = record { from = commit.ops; spelled = h.ops_are; is = ap (λ (c : CommitType). Commit c) (bare_commit commit h.no_tables) } };
     };
   };
 }))

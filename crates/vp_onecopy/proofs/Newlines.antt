@@ -1,6 +1,6 @@
 -- Each allowed line has one newline, at its end, so no line begins another.
 use Rattle.std.proofs.Common.{ℕ, ◌^◌, ◌<◌, List, [], ◌∷◌, ◌++◌, refl, sym, subst, arith}
-use Rattle.std.specs.Prelude.{codes}
+use Rattle.std.specs.Prelude.{codes, Some, None}
 use Rattle.std.specs.Fmt.{decimal}
 use Rattle.vp_text.specs.Documents.{HasNoNewline, IsLine}
 use Rattle.vp_text.proofs.Newlines.{both, decimal_clean, key_clean, last_line, line_push}
@@ -13,8 +13,10 @@ use Rattle.vp_onecopy.specs.declared.line.HistoryLine.TheVariants.{Start, Commit
 use Rattle.vp_onecopy.specs.Lines.{AllNames, Before, OpText, OpsText, LineText}
 
 op_clean : (names : List (List ℕ)) → AllNames names → (op : Op) (t : List ℕ) → OpText names op t → HasNoNewline t
-op_clean names all (op.Read rec value) t h = subst HasNoNewline (sym h.3) (both (codes " r ") (h.0 ++ 32 ∷ value) (key_clean (codes " r ") refl) (both h.0 (32 ∷ value) (name_clean h.0 (place_is_name names rec h.0 all h.1)) (λ e. omega arith, value_clean value h.2)))
-op_clean names all (op.Write rec value) t h = subst HasNoNewline (sym h.3) (both (codes " w ") (h.0 ++ 32 ∷ value) (key_clean (codes " w ") refl) (both h.0 (32 ∷ value) (name_clean h.0 (place_is_name names rec h.0 all h.1)) (λ e. omega arith, value_clean value h.2)))
+op_clean names all (op.Read rec None) t h = subst HasNoNewline (sym h.2) (both (codes " a ") h.0 (key_clean (codes " a ") refl) (name_clean h.0 (place_is_name names rec h.0 all h.1)))
+op_clean names all (op.Write rec None) t h = subst HasNoNewline (sym h.2) (both (codes " d ") h.0 (key_clean (codes " d ") refl) (name_clean h.0 (place_is_name names rec h.0 all h.1)))
+op_clean names all (op.Read rec (Some value)) t h = subst HasNoNewline (sym h.3) (both (codes " r ") (h.0 ++ 32 ∷ value) (key_clean (codes " r ") refl) (both h.0 (32 ∷ value) (name_clean h.0 (place_is_name names rec h.0 all h.1)) (λ e. omega arith, value_clean value h.2)))
+op_clean names all (op.Write rec (Some value)) t h = subst HasNoNewline (sym h.3) (both (codes " w ") (h.0 ++ 32 ∷ value) (key_clean (codes " w ") refl) (both h.0 (32 ∷ value) (name_clean h.0 (place_is_name names rec h.0 all h.1)) (λ e. omega arith, value_clean value h.2)))
 
 ops_line : (names : List (List ℕ)) → AllNames names → (ops : List Op) (t : List ℕ) → OpsText names ops t → IsLine t
 ops_line names all [] t h = subst IsLine (sym h) last_line

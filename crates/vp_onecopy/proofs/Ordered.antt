@@ -277,7 +277,7 @@ order_from_sort journal ys sorted stable = order_is journal ys (rises_of ys rise
     rises k d p = sym (less_is (get_or ys (suc k) d) (get_or ys k d)) ∙ ap (λ n. is_lt (key_cmp (key (get_or ys n d)) (key (get_or ys k d)))) (sym (plus_one k)) ∙ sorted k d (omega arith) (omega arith)
 
     at : ViewId → Commit
-    at v = record { txn = record { site = 0; life = 0; seq = 0 }; view = v; ops = [] }
+    at v = record { txn = record { site = 0; life = 0; seq = 0 }; view = v; ops = []; tables = [] }
 
     test_is : (v : ViewId) → ties (λ (x y : Commit). is_lt (key_cmp (key x) (key y))) (at v) ≡ (λ (c : Commit). same_view c.view v)
     test_is v = λ i c. (ap2 c v) i

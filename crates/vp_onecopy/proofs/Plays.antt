@@ -1,14 +1,14 @@
 -- Laws of playing operations one after the other.
-use Rattle.std.proofs.Common.{◌≡◌, ◌<◌, ◌+◌, ℕ, ◌∙◌, ap, sym, false, List, [], ◌∷◌, ◌++◌, length, take, drop, arith, get_or}
-use Rattle.std.specs.Prelude.{⊤, Some, Result, Ok, Err, option_and_then}
+use Rattle.std.proofs.Common.{◌≡◌, ◌<◌, ◌+◌, ℕ, ◌∙◌, ap, sym, subst, refl, true, false, List, [], ◌∷◌, ◌++◌, length, take, drop, arith, get_or}
+use Rattle.std.specs.Prelude.{⊤, Option, Some, None, Result, Ok, Err, option_and_then}
 use Rattle.std.specs.Result.{IsErrAnd}
-use Rattle.std.specs.Str.{bytes_eq}
 use Rattle.std.proofs.lemmas.List.{take-append-drop, drop_more, take_more, length-take-le}
 use Rattle.std.proofs.lemmas.Option.{slice_get-get_or}
 use Rattle.std.proofs.lemmas.Bool.{true≢false}
 use Rattle.std.proofs.lemmas.Slice.Eq.{bytes_eq-Decides}
 use Rattle.vp_model.specs.Types.{Op}
 use Rattle.vp_model.specs.Types.op
+use Rattle.vp_model.specs.Words.{same_content}
 use Rattle.vp_model.specs.OneCopy.{Values, play_one, play}
 use Rattle.vp_model.proofs.PlayedInParts.{play-append}
 use Rattle.vp_onecopy.specs.Playing.{Misreads, Plays, PlaysOne}
@@ -19,14 +19,21 @@ pub err_is : (result : Result ⊤ PlayFault) (fault : PlayFault) → IsErrAnd re
 err_is (Ok x) fault h = absurd h
 err_is (Err e) fault h = ap Err h
 
-pub misread : (m : Values) (operation : Op) (rec : ℕ) (value kept read : List ℕ) → operation ≡ op.Read rec value → rec < length m → kept ≡ get_or m rec kept
-    → bytes_eq value kept ≡ false → read ≡ value → (r : ℕ) × Misreads m operation r kept read
+content_is_self : (a : Option (List ℕ)) → same_content a a ≡ true
+content_is_self None = refl
+content_is_self (Some v) = (bytes_eq-Decides v v).1 refl
+
+content_is_same : (a b : Option (List ℕ)) → a ≡ b → same_content a b ≡ true
+content_is_same a b e = subst (λ (x : Option (List ℕ)). same_content a x ≡ true) e (content_is_self a)
+
+pub misread : (m : Values) (operation : Op) (rec : ℕ) (value kept read : Option (List ℕ)) → operation ≡ op.Read rec value → rec < length m → kept ≡ get_or m rec kept
+    → same_content value kept ≡ false → read ≡ value → (r : ℕ) × Misreads m operation r kept read
 misread m operation rec value kept read o l is differ same = (
   rec,
   record {
     is = o ∙ ap (op.Read rec) (sym same);
     stands = slice_get-get_or m rec kept l ∙ ap Some (sym is);
-    differs = λ e. true≢false (sym ((bytes_eq-Decides value kept).1 (sym same ∙ sym e)) ∙ differ);
+    differs = λ e. true≢false (sym (content_is_same value kept (sym same ∙ sym e)) ∙ differ);
   },
 )
 

@@ -1,6 +1,6 @@
 -- What is printed is the text that was read.
 use Rattle.std.proofs.Common.{◌≡◌, ℕ, true, zero, suc, List, [], ◌∷◌, ◌++◌, length, get_or, refl, sym, ap, ◌∙◌, arith, append_assoc, eqb, ltb}
-use Rattle.std.specs.Prelude.{codes, flat_map, Result, Ok, Err, IfOk}
+use Rattle.std.specs.Prelude.{codes, flat_map, Some, None, Result, Ok, Err, IfOk}
 use Rattle.std.specs.Fmt.{decimal}
 use Rattle.std.proofs.lemmas.List.{length-append, append-nil, nil_from_length}
 use Rattle.std.proofs.lemmas.List.Concat.{flat_map-cons}
@@ -33,8 +33,10 @@ place_is (n ∷ names) zero name h = h
 place_is (n ∷ names) (suc i) name h = place_is names i name h.1
 
 op_is : (names : List (List ℕ)) (operation : Op) (t : List ℕ) → OpText names operation t → t ≡ op_text names operation
-op_is names (op.Read rec value) t h = h.3 ∙ ap (λ (x : List ℕ). codes " r " ++ (x ++ 32 ∷ value)) (place_is names rec h.0 h.1)
-op_is names (op.Write rec value) t h = h.3 ∙ ap (λ (x : List ℕ). codes " w " ++ (x ++ 32 ∷ value)) (place_is names rec h.0 h.1)
+op_is names (op.Read rec None) t h = h.2 ∙ ap (λ (x : List ℕ). codes " a " ++ x) (place_is names rec h.0 h.1)
+op_is names (op.Write rec None) t h = h.2 ∙ ap (λ (x : List ℕ). codes " d " ++ x) (place_is names rec h.0 h.1)
+op_is names (op.Read rec (Some value)) t h = h.3 ∙ ap (λ (x : List ℕ). codes " r " ++ (x ++ 32 ∷ value)) (place_is names rec h.0 h.1)
+op_is names (op.Write rec (Some value)) t h = h.3 ∙ ap (λ (x : List ℕ). codes " w " ++ (x ++ 32 ∷ value)) (place_is names rec h.0 h.1)
 
 ops_are : (names : List (List ℕ)) (ops : List Op) (t : List ℕ) → OpsText names ops t → t ≡ flat_map (op_text names) ops ++ 10 ∷ []
 ops_are names [] t h = h

@@ -1,11 +1,11 @@
 -- Laws of playing transactions one after the other.
-use Rattle.std.proofs.Common.{◌≡◌, ◌<◌, ◌+◌, ◌-◌, ℕ, ◌∙◌, ap, sym, false, List, [], ◌∷◌, ◌++◌, length, take, drop, refl, arith, get_or, subst}
-use Rattle.std.specs.Prelude.{Some, None, Result, Ok, Err, IfOk, option_and_then}
-use Rattle.std.specs.Str.{bytes_eq}
+use Rattle.std.proofs.Common.{◌≡◌, ◌<◌, ◌+◌, ◌-◌, ℕ, ◌∙◌, ap, sym, true, false, List, [], ◌∷◌, ◌++◌, length, take, drop, refl, arith, get_or, subst}
+use Rattle.std.specs.Prelude.{Option, Some, None, Result, Ok, Err, IfOk, option_and_then}
 use Rattle.std.proofs.lemmas.List.{take-append-drop, drop_more, take_more}
-use Rattle.std.proofs.lemmas.Bool.{false_from_ne_true}
+use Rattle.std.proofs.lemmas.Bool.{false≢true, false_from_ne_true}
 use Rattle.std.proofs.lemmas.Slice.Eq.{bytes_eq-Decides}
 use Rattle.vp_model.specs.Types.{TxnId, Op, Commit}
+use Rattle.vp_model.specs.Words.{same_content}
 use Rattle.vp_model.specs.OneCopy.{Values, play_one, play, serial}
 use Rattle.vp_onecopy.specs.Playing.{op_record, Misreads, IsFirstMisread, Plays}
 use Rattle.vp_onecopy.specs.Checking.{IsFirstDifference, Decides, Tells}
@@ -27,17 +27,23 @@ serial_more start list i commit mid after l is so_far one =
 
 -- a list with a read of another value can't be played
 
-fails : (m : Values) (operation : Op) (rec : ℕ) (kept read : List ℕ) → Misreads m operation rec kept read → play_one m operation ≡ None
+content_is : (a b : Option (List ℕ)) → same_content a b ≡ true → a ≡ b
+content_is None None e = refl
+content_is None (Some b) e = absurd (false≢true e)
+content_is (Some a) None e = absurd (false≢true e)
+content_is (Some a) (Some b) e = ap Some ((bytes_eq-Decides a b).0 e)
+
+fails : (m : Values) (operation : Op) (rec : ℕ) (kept read : Option (List ℕ)) → Misreads m operation rec kept read → play_one m operation ≡ None
 fails m operation rec kept read h =
-    let differ : bytes_eq read kept ≡ false = false_from_ne_true (bytes_eq read kept) (λ e. h.differs (sym ((bytes_eq-Decides read kept).0 e))) in
+    let differ : same_content read kept ≡ false = false_from_ne_true (same_content read kept) (λ e. h.differs (sym (content_is read kept e))) in
     rw (h.is, h.stands, differ) refl
 
-play_none : (before : Values) (ops : List Op) (after : Values) (place rec : ℕ) (kept read : List ℕ) → IsFirstMisread before ops after place rec kept read → play before ops ≡ None
+play_none : (before : Values) (ops : List Op) (after : Values) (place rec : ℕ) (kept read : Option (List ℕ)) → IsFirstMisread before ops after place rec kept read → play before ops ≡ None
 play_none before ops after place rec kept read h =
     ap (play before) h.reached.parts ∙ play-append before h.front (h.operation ∷ h.back) ∙ ap (option_and_then (λ n. play n (h.operation ∷ h.back))) h.reached.played
     ∙ ap (option_and_then (λ n. play n h.back)) (fails after h.operation rec kept read h.misread)
 
-first_difference : (start : Values) (list : List Commit) (i : ℕ) (commit : Commit) (mid after : Values) (txn : TxnId) (place rec : ℕ) (kept read : List ℕ) → i < length list → commit ≡ get_or list i commit
+first_difference : (start : Values) (list : List Commit) (i : ℕ) (commit : Commit) (mid after : Values) (txn : TxnId) (place rec : ℕ) (kept read : Option (List ℕ)) → i < length list → commit ≡ get_or list i commit
     → serial start (take i list) ≡ Some mid → commit.txn ≡ txn → IsFirstMisread mid commit.ops after place rec kept read → IsFirstDifference start list txn place rec kept read
 first_difference start list i commit mid after txn place rec kept read l is so_far same h = record {
   front = take i list;
@@ -60,7 +66,7 @@ at_length : (front : List Op) (x : Op) (back : List Op) (d : Op) → get_or (fro
 at_length [] x back d = refl
 at_length (y ∷ front) x back d = at_length front x back d
 
-record_there : (before : Values) (ops : List Op) (after : Values) (place rec : ℕ) (kept read : List ℕ) → IsFirstMisread before ops after place rec kept read
+record_there : (before : Values) (ops : List Op) (after : Values) (place rec : ℕ) (kept read : Option (List ℕ)) → IsFirstMisread before ops after place rec kept read
     → (x : Op) → x ≡ get_or ops (place - 1) x → rec ≡ op_record x
 record_there before ops after place rec kept read h x is =
     let here : place - 1 ≡ length h.front = omega (arith, h.place_is) in

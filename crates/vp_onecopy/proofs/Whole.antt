@@ -1,6 +1,6 @@
 -- The histories that have a text are exactly the whole ones.
 use Rattle.std.proofs.Common.{◌≡◌, ◌≢◌, ℕ, true, false, zero, suc, ◌≤◌, ◌<◌, List, [], ◌∷◌, ◌++◌, length, get_or, refl, sym, ap, subst, ◌∙◌, arith, append_assoc, inl}
-use Rattle.std.specs.Prelude.{codes, Result, Ok, Err, IfOk, All, AllPairs}
+use Rattle.std.specs.Prelude.{codes, Some, None, Result, Ok, Err, IfOk, All, AllPairs}
 use Rattle.std.specs.Fmt.{decimal}
 use Rattle.std.proofs.lemmas.List.{length-append, append-nil, get_or_append_left, get_or_at, get_or_default}
 use Rattle.std.proofs.lemmas.List.Elements.{All-nil, All-cons, All-head, All-tail, All-push}
@@ -21,7 +21,7 @@ use Rattle.vp_onecopy.specs.Playing.{op_record, OpsWithin, CommitsWithin}
 use Rattle.vp_onecopy.specs.Lines.{Before, OpText, OpsText, CommitText, some_names, may_start}
 use Rattle.vp_onecopy.specs.History.{last_from, before, empty, after, Allowed, IsNamed, Onward, IsHistory}
 use Rattle.vp_onecopy.specs.Passing.{history_line, Following, AnsweredAll, IsOnly, IsTaken, IsReadBack}
-use Rattle.vp_onecopy.specs.Whole.{op_value, IsEntry, IsWhole}
+use Rattle.vp_onecopy.specs.Whole.{op_content, IsContent, IsEntry, IsWhole}
 use Rattle.vp_onecopy.proofs.Only.{NoMemory, answered}
 use Rattle.vp_onecopy.proofs.Ordered.{not_itself, chain}
 use Rattle.vp_onecopy.proofs.Places.{place_below}
@@ -87,12 +87,16 @@ after_opening view = grind (arith, nat_tests)
 -- ---- what was read is whole
 
 op_below : (names : List (List ℕ)) (operation : Op) (t : List ℕ) → OpText names operation t → op_record operation < length names
-op_below names (op.Read rec value) t h = place_below names rec h.0 h.1
-op_below names (op.Write rec value) t h = place_below names rec h.0 h.1
+op_below names (op.Read rec (Some value)) t h = place_below names rec h.0 h.1
+op_below names (op.Read rec None) t h = place_below names rec h.0 h.1
+op_below names (op.Write rec (Some value)) t h = place_below names rec h.0 h.1
+op_below names (op.Write rec None) t h = place_below names rec h.0 h.1
 
-op_valued : (names : List (List ℕ)) (operation : Op) (t : List ℕ) → OpText names operation t → IsValue (op_value operation) (op_value operation)
-op_valued names (op.Read rec value) t h = h.2
-op_valued names (op.Write rec value) t h = h.2
+op_valued : (names : List (List ℕ)) (operation : Op) (t : List ℕ) → OpText names operation t → IsContent (op_content operation)
+op_valued names (op.Read rec (Some value)) t h = h.2
+op_valued names (op.Read rec None) t h = tt
+op_valued names (op.Write rec (Some value)) t h = h.2
+op_valued names (op.Write rec None) t h = tt
 
 each_op : (P : Op → Type 0) (names : List (List ℕ)) → ((operation : Op) (t : List ℕ) → OpText names operation t → P operation) → (ops : List Op) (t : List ℕ) → OpsText names ops t → All P ops
 each_op P names f [] t h = All-nil P
@@ -102,7 +106,8 @@ entry_read : (b : Before) (commit : Commit) (t : List ℕ) → CommitText b comm
 entry_read b commit t h = record {
   txn = h.txn_is.allowed;
   view = h.view_is.spelled.allowed;
-  values = each_op (λ operation. IsValue (op_value operation) (op_value operation)) b.names (op_valued b.names) commit.ops h.ops h.ops_are;
+  values = each_op (λ operation. IsContent (op_content operation)) b.names (op_valued b.names) commit.ops h.ops h.ops_are;
+  no_tables = h.no_tables;
 }
 
 said_whole : (es : List HistoryLine) (t : List ℕ) → Lines es t → IsWhole (all_said es)
@@ -200,16 +205,18 @@ some_from : (names : List (List ℕ)) (i : ℕ) → i < length names → some_na
 some_from [] i lt = absurd (omega (arith, lt))
 some_from (name ∷ names) i lt = refl
 
-op_spelled : (names : List (List ℕ)) → AllPairs Apart names → (operation : Op) → op_record operation < length names → IsValue (op_value operation) (op_value operation) → (t : List ℕ) × OpText names operation t
-op_spelled names apart (op.Read rec value) lt good = (codes " r " ++ (get_or names rec [] ++ 32 ∷ value), (get_or names rec [], place_first names rec lt apart, good, refl))
-op_spelled names apart (op.Write rec value) lt good = (codes " w " ++ (get_or names rec [] ++ 32 ∷ value), (get_or names rec [], place_first names rec lt apart, good, refl))
+op_spelled : (names : List (List ℕ)) → AllPairs Apart names → (operation : Op) → op_record operation < length names → IsContent (op_content operation) → (t : List ℕ) × OpText names operation t
+op_spelled names apart (op.Read rec None) lt good = (codes " a " ++ get_or names rec [], (get_or names rec [], place_first names rec lt apart, refl))
+op_spelled names apart (op.Write rec None) lt good = (codes " d " ++ get_or names rec [], (get_or names rec [], place_first names rec lt apart, refl))
+op_spelled names apart (op.Read rec (Some value)) lt good = (codes " r " ++ (get_or names rec [] ++ 32 ∷ value), (get_or names rec [], place_first names rec lt apart, good, refl))
+op_spelled names apart (op.Write rec (Some value)) lt good = (codes " w " ++ (get_or names rec [] ++ 32 ∷ value), (get_or names rec [], place_first names rec lt apart, good, refl))
 
-ops_spelled : (names : List (List ℕ)) → AllPairs Apart names → (ops : List Op) → OpsWithin (length names) ops → All (λ operation. IsValue (op_value operation) (op_value operation)) ops → (t : List ℕ) × OpsText names ops t
+ops_spelled : (names : List (List ℕ)) → AllPairs Apart names → (ops : List Op) → OpsWithin (length names) ops → All (λ operation. IsContent (op_content operation)) ops → (t : List ℕ) × OpsText names ops t
 ops_spelled names apart [] inside valued = (10 ∷ [], refl)
 ops_spelled names apart (operation ∷ ops) inside valued =
     let lt = All-head (λ operation. op_record operation < length names) operation ops inside in
-    let front = op_spelled names apart operation lt (All-head (λ operation. IsValue (op_value operation) (op_value operation)) operation ops valued) in
-    let back = ops_spelled names apart ops (All-tail (λ operation. op_record operation < length names) operation ops inside) (All-tail (λ operation. IsValue (op_value operation) (op_value operation)) operation ops valued) in
+    let front = op_spelled names apart operation lt (All-head (λ operation. IsContent (op_content operation)) operation ops valued) in
+    let back = ops_spelled names apart ops (All-tail (λ operation. op_record operation < length names) operation ops inside) (All-tail (λ operation. IsContent (op_content operation)) operation ops valued) in
     (front.0 ++ back.0, (front.0, back.0, some_from names (op_record operation) lt, front.1, back.1, refl))
 
 commits_added : (names values : List (List ℕ)) (done more : List Commit) → AllPairs Apart names → All IsEntry more → CommitsWithin (length names) more → AllPairs Rises (done ++ more) → Spelled (listed names values done) → Spelled (listed names values (done ++ more))
@@ -227,6 +234,7 @@ commits_added names values done (commit ∷ more) apart entries inside rises s =
       txn_is = record { is = refl; allowed = e.txn };
       view_is = view_from (last_from opening done) commit.view e.view last;
       ops_are = ops.1;
+      no_tables = e.no_tables;
       parts = refl;
     }) tt in
     let rest = commits_added names values (done ++ commit ∷ []) more apart (All-tail IsEntry commit more entries) (All-tail (λ (commit : Commit). OpsWithin (length names) commit.ops) commit more inside) (subst (AllPairs Rises) (sym together) rises) one in

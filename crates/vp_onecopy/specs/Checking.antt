@@ -1,5 +1,5 @@
 -- The result of checking a list of transactions.
-use Rattle.std.specs.Prelude.{◌≡◌, ◌≤◌, ◌-◌, ⊤, ℕ, List, ◌∷◌, ◌++◌, length, slice_index_or, Some, None}
+use Rattle.std.specs.Prelude.{◌≡◌, ◌≤◌, ◌-◌, ⊤, ℕ, List, ◌∷◌, ◌++◌, length, slice_index_or, Option, Some, None}
 use Rattle.vp_model.specs.Types.{TxnId, Op, Commit}
 use Rattle.vp_model.specs.OneCopy.{Values, serial}
 use Rattle.vp_onecopy.specs.Playing.{op_record, IsFirstMisread}
@@ -10,7 +10,7 @@ use Rattle.vp_onecopy.specs.declared.checking.Verdict.TheVariants as verdicts
 
 -- The transactions before this one can be played, and so can its operations before this one, which reads another value than they
 -- leave.
-pub record IsFirstDifference (start : Values) (list : List Commit) (txn : TxnId) (place rec : ℕ) (kept read : List ℕ) : Type 0 where
+pub record IsFirstDifference (start : Values) (list : List Commit) (txn : TxnId) (place rec : ℕ) (kept read : Option (List ℕ)) : Type 0 where
   pub front : List Commit
   pub commit : Commit
   pub back : List Commit

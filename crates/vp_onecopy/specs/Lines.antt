@@ -1,5 +1,5 @@
 -- The lines of a history, each allowed by the lines before it.
-use Rattle.std.specs.Prelude.{◌≡◌, ℕ, List, [], ◌∷◌, ◌++◌, length, Bool, true, false, codes, ◌&&◌, ◌==◌, nat_lt}
+use Rattle.std.specs.Prelude.{◌≡◌, ℕ, List, [], ◌∷◌, ◌++◌, length, Bool, true, false, Some, None, codes, ◌&&◌, ◌==◌, nat_lt}
 use Rattle.std.specs.Fmt.{decimal}
 use Rattle.std.specs.List.{AllByRecursion}
 use Rattle.vp_text.specs.Tokens.{HasItems}
@@ -16,10 +16,12 @@ pub record Before : Type 0 where
   pub last : ViewId
   pub commits : ℕ
 
--- ` r NAME VALUE` or ` w NAME VALUE`, where the name is that of a start line
+-- ` r NAME VALUE`, ` a NAME`, ` w NAME VALUE` or ` d NAME`, where the name is that of a start line
 abbrev pub OpText : List (List ℕ) → Op → List ℕ → Type 0
-OpText names (op.Read rec value) text = (name : List ℕ) × IsPlace names rec name × IsValue value value × (text ≡ codes " r " ++ (name ++ 32 ∷ value))
-OpText names (op.Write rec value) text = (name : List ℕ) × IsPlace names rec name × IsValue value value × (text ≡ codes " w " ++ (name ++ 32 ∷ value))
+OpText names (op.Read rec None) text = (name : List ℕ) × IsPlace names rec name × (text ≡ codes " a " ++ name)
+OpText names (op.Write rec None) text = (name : List ℕ) × IsPlace names rec name × (text ≡ codes " d " ++ name)
+OpText names (op.Read rec (Some value)) text = (name : List ℕ) × IsPlace names rec name × IsValue value value × (text ≡ codes " r " ++ (name ++ 32 ∷ value))
+OpText names (op.Write rec (Some value)) text = (name : List ℕ) × IsPlace names rec name × IsValue value value × (text ≡ codes " w " ++ (name ++ 32 ∷ value))
 
 abbrev pub AllNames : List (List ℕ) → Type 0
 AllNames names = AllByRecursion (λ n. IsName n n) names
@@ -50,6 +52,7 @@ pub record CommitText (before : Before) (commit : Commit) (text : List ℕ) : Ty
   pub txn_is : IsTxnText commit.txn txn
   pub view_is : IsViewFrom before.last commit.view view
   pub ops_are : OpsText before.names commit.ops ops
+  pub no_tables : commit.tables ≡ []
   pub parts : text ≡ codes "commit " ++ (txn ++ 32 ∷ (view ++ ops))
 
 -- The lines before it allow the line, and this is its text.

@@ -1,5 +1,5 @@
 -- What playing operations on the one copy gives.
-use Rattle.std.specs.Prelude.{◌≡◌, ◌≢◌, ℕ, ◌+◌, ◌<◌, ⊤, List, ◌∷◌, ◌++◌, length, slice_get, Some, Result, Ok, Err}
+use Rattle.std.specs.Prelude.{◌≡◌, ◌≢◌, ℕ, ◌+◌, ◌<◌, ⊤, List, ◌∷◌, ◌++◌, length, slice_get, Option, Some, Result, Ok, Err}
 use Rattle.std.specs.List.{All}
 use Rattle.vp_model.specs.Types.{Op, Commit}
 use Rattle.vp_model.specs.Types.op
@@ -19,8 +19,8 @@ OpsWithin count ops = All (λ operation. op_record operation < count) ops
 abbrev pub CommitsWithin : ℕ → List Commit → Type 0
 CommitsWithin count commits = All (λ commit. OpsWithin count commit.ops) commits
 
--- the operation read another value of the record than the copy has
-pub record Misreads (copy : Values) (operation : Op) (rec : ℕ) (kept read : List ℕ) : Type 0 where
+-- the operation read another content of the record than the copy has
+pub record Misreads (copy : Values) (operation : Op) (rec : ℕ) (kept read : Option (List ℕ)) : Type 0 where
   pub is : operation ≡ op.Read rec read
   pub stands : slice_get copy rec ≡ Some kept
   pub differs : kept ≢ read
@@ -30,8 +30,8 @@ pub record PlaysUpTo (before : Values) (ops front back : List Op) (after : Value
   pub parts : ops ≡ front ++ back
   pub played : play before front ≡ Some after
 
--- The operation at the place, counted from 1, read another value than the operations before it leave.
-pub record IsFirstMisread (before : Values) (ops : List Op) (after : Values) (place rec : ℕ) (kept read : List ℕ) : Type 0 where
+-- The operation at the place, counted from 1, read another content than the operations before it leave.
+pub record IsFirstMisread (before : Values) (ops : List Op) (after : Values) (place rec : ℕ) (kept read : Option (List ℕ)) : Type 0 where
   pub front : List Op
   pub operation : Op
   pub back : List Op

@@ -1,5 +1,5 @@
 -- Reading the lines of a history from left to right.
-use Rattle.std.specs.Prelude.{ℕ, suc, List, [], ◌∷◌, length, cond, codes, Result, Ok}
+use Rattle.std.specs.Prelude.{ℕ, suc, List, [], ◌∷◌, length, cond, codes, Some, None, Result, Ok}
 use Rattle.vp_text.specs.Reading.{◌>>=◌, literal_at, number_at, word_at, either, items_at}
 use Rattle.vp_text.specs.Classes.{has, most}
 use Rattle.vp_text.specs.declared.class.Class.TheVariants as classes
@@ -16,7 +16,7 @@ read_at names bytes = do
   rec ← among_at names key.1
   space ← literal_at (32 ∷ []) rec.1
   value ← word_at (has classes.Value) (most classes.Value) space.1
-  Ok (op.Read rec.0 value.0, value.1)
+  Ok (op.Read rec.0 (Some value.0), value.1)
 
 unfoldable pub write_at : List (List ℕ) → List ℕ → Result (Op × List ℕ) ℕ
 write_at names bytes = do
@@ -24,10 +24,28 @@ write_at names bytes = do
   rec ← among_at names key.1
   space ← literal_at (32 ∷ []) rec.1
   value ← word_at (has classes.Value) (most classes.Value) space.1
-  Ok (op.Write rec.0 value.0, value.1)
+  Ok (op.Write rec.0 (Some value.0), value.1)
+
+unfoldable pub absent_at : List (List ℕ) → List ℕ → Result (Op × List ℕ) ℕ
+absent_at names bytes = do
+  key ← literal_at (codes " a ") bytes
+  rec ← among_at names key.1
+  Ok (op.Read rec.0 None, rec.1)
+
+unfoldable pub delete_at : List (List ℕ) → List ℕ → Result (Op × List ℕ) ℕ
+delete_at names bytes = do
+  key ← literal_at (codes " d ") bytes
+  rec ← among_at names key.1
+  Ok (op.Write rec.0 None, rec.1)
+
+unfoldable pub bare_op_at : List (List ℕ) → List ℕ → Result (Op × List ℕ) ℕ
+bare_op_at names bytes = either (absent_at names bytes) (delete_at names bytes)
+
+unfoldable pub later_op_at : List (List ℕ) → List ℕ → Result (Op × List ℕ) ℕ
+later_op_at names bytes = either (write_at names bytes) (bare_op_at names bytes)
 
 unfoldable pub op_at : List (List ℕ) → List ℕ → Result (Op × List ℕ) ℕ
-op_at names bytes = either (read_at names bytes) (write_at names bytes)
+op_at names bytes = either (read_at names bytes) (later_op_at names bytes)
 
 abbrev pub ops_at : List (List ℕ) → ℕ → List ℕ → Result (List Op × List ℕ) ℕ
 ops_at names fuel bytes = items_at (λ (u : Unit {0}). some_names names) (λ u op. u) (λ u. op_at names) (10 ∷ []) fuel tt bytes
@@ -42,7 +60,7 @@ start_at bytes = do
   Ok (kind.Start name.0 value.0, end.1)
 
 abbrev pub commit_of : TxnId → ViewId → List Op → Commit
-commit_of txn view ops = record { txn = txn; view = view; ops = ops }
+commit_of txn view ops = record { txn = txn; view = view; ops = ops; tables = [] }
 
 unfoldable pub commit_at : List (List ℕ) → ViewId → List ℕ → Result (HistoryLine × List ℕ) ℕ
 commit_at names last bytes = do

@@ -15,13 +15,13 @@ pub enum Verdict {
     Serial {
         map: Map,
     },
-    /// It isn't: this operation of the transaction, counted from 1, is the first read of a value that the copy doesn't have.
+    /// It isn't: this operation of the transaction, counted from 1, is the first read of a content that the copy doesn't have.
     Differs {
         txn: TxnId,
         op: usize,
         rec: RecId,
-        kept: Value,
-        read: Value,
+        kept: Option<Value>,
+        read: Option<Value>,
     },
 }
 

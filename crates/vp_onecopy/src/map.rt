@@ -1,61 +1,47 @@
 //! The one copy, and a history.
 
-ghost use Rattle.std.specs.Prelude.{◌≡◌, ◌<◌, ◌++◌, ◌∷◌, [], length, slice_set, OnOk, OnErr};
+ghost use Rattle.std.specs.Prelude.{◌≡◌, ◌<◌, Some, map, length, slice_set, IfOk};
 ghost use Rattle.vp_onecopy.specs.History.{empty};
 
 use std::alloc::Global;
 use std::marker::Model;
-use vp_base::{Commits, CopyOf, Names, NoMemory, RecId, Value};
+use vp_base::{Commits, CopyOf, Names, NoMemory, RecId, Seq, Value};
 
-/// One value for each record, in catalogue order.
+/// One content for each record, in catalogue order: a value, or none.
 #[derive(Drop)]
 pub struct Map {
-    values: Vec<Value>,
+    values: Vec<Option<Value>>,
 }
 
 impl Model for Map {
-    ghost use Rattle.std.specs.Prelude.{List, ℕ};
+    ghost use Rattle.std.specs.Prelude.{List, Option, ℕ};
 
-    ghost Value = { List (List ℕ) };
+    ghost Value = { List (Option (List ℕ)) };
 
     ghost view = { λ m. m.values.items };
 }
 
 impl Map {
-    /// Makes a copy without records. Takes no memory.
-    pub fn new(alloc: Global) -> Map
-        ensures { result ≡ [] }
+    /// Makes a copy on which each record has one of these values, in catalogue order.
+    pub fn starting(alloc: Global, values: &[Value]) -> Result<Map, NoMemory>
+        ensures { IfOk result (λ copy. copy ≡ map Some values.now) }
     {
-        Map {
-            values: Vec::new(alloc),
+        let mut contents = Vec::new(alloc);
+        for value in values {
+            contents.push(Some(value.copy_of()?))?;
         }
+        Ok(Map { values: contents })
     }
 
-    /// Adds the value of the next record. Where memory is lacking, the map stays as it is.
-    pub fn push(&mut self, value: Value) -> Result<(), NoMemory>
-        ensures ok { OnOk result (self.new ≡ self.old ++ value ∷ []) }
-        ensures err { OnErr result (self.new ≡ self.old) }
-    {
-        self.values.push(value)?;
-        Ok(())
-    }
-
-    /// Makes a copy of these values, in catalogue order.
-    pub fn from_vec(values: Vec<Value>) -> Map
-        ensures { result ≡ values.items }
-    {
-        Map { values }
-    }
-
-    /// The values, in catalogue order.
-    pub fn as_slice(&self) -> &[Value]
+    /// The contents, in catalogue order.
+    pub fn as_slice(&self) -> &[Option<Value>]
         ensures { result.now ≡ self.now }
     {
         &self.values
     }
 
-    /// Replaces the value of a record.
-    pub fn set(&mut self, rec: RecId, value: Value)
+    /// Replaces the content of a record.
+    pub fn set(&mut self, rec: RecId, value: Option<Value>)
         requires { rec < length self.old }
         ensures { self.new ≡ slice_set self.old rec value }
     {
@@ -77,7 +63,7 @@ impl CopyOf for Map {
 #[derive(Drop)]
 pub struct History {
     pub names: Names,
-    pub start: Map,
+    pub start: Seq<Value>,
     pub commits: Commits,
 }
 
@@ -88,7 +74,7 @@ impl History {
     {
         History {
             names: Names::new(alloc),
-            start: Map::new(alloc),
+            start: Seq::new(alloc),
             commits: Commits::new(alloc),
         }
     }

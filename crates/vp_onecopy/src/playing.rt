@@ -1,6 +1,7 @@
 //! Playing operations on the one copy.
 
 ghost use Rattle.std.specs.Prelude.{◌≡◌, ◌<◌, length, OnErr};
+ghost use Rattle.vp_model.specs.Words.{same_content};
 ghost use Rattle.vp_onecopy.specs.Playing.{op_record, OpsWithin, PlaysOne, Plays};
 
 use crate::map::Map;
@@ -9,8 +10,12 @@ use vp_base::{CopyOf, NoMemory, Op, Ops, Value};
 /// Why the operations couldn't all be played.
 #[derive(Drop)]
 pub enum PlayFault {
-    /// The operation at the place `op`, counted from 1, read the value `read`, but the copy has `kept`.
-    Differs { op: usize, kept: Value, read: Value },
+    /// The operation at the place `op`, counted from 1, read the content `read`, but the copy has `kept`.
+    Differs {
+        op: usize,
+        kept: Option<Value>,
+        read: Option<Value>,
+    },
     /// Memory is lacking.
     NoMemory,
 }
@@ -37,6 +42,17 @@ pub fn play(map: &mut Map, ops: &Ops) -> Result<(), PlayFault>
     Ok(())
 }
 
+/// Whether both contents are the same value, or none.
+fn is_same_content(a: &Option<Value>, b: &Option<Value>) -> bool
+    ensures { result ≡ same_content a.now b.now }
+{
+    match (a, b) {
+        (None, None) => true,
+        (Some(a), Some(b)) => a.is(b.as_bytes()),
+        _ => false,
+    }
+}
+
 /// Plays one operation, which is at this place.
 fn play_one(map: &mut Map, place: usize, operation: &Op) -> Result<(), PlayFault>
     requires { op_record operation.now < length map.old }
@@ -47,7 +63,7 @@ fn play_one(map: &mut Map, place: usize, operation: &Op) -> Result<(), PlayFault
     match operation {
         Op::Read { rec, value } => {
             let kept = &map.as_slice()[usize::from(rec.get())];
-            if value.is(kept.as_bytes()) {
+            if is_same_content(value, kept) {
                 return Ok(());
             }
             Err(PlayFault::Differs {

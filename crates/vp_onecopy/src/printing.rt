@@ -63,12 +63,28 @@ fn print_access(
 }
 
 #[tactic(auto, using(vp_text::proofs::Printing::printing))]
+fn print_absent(key: &[u8], names: &[Name], rec: RecId, out: &mut Vec<u8>) -> Result<(), NoMemory>
+    ensures { Appends result out.old.items (key.now ++ slice_index_or names.now rec []) out.new.items }
+{
+    out.extend_from_slice(key)?;
+    print_name(names, rec, out)
+}
+
+#[tactic(auto, using(vp_text::proofs::Printing::printing))]
 fn print_op(names: &[Name], op: &Op, out: &mut Vec<u8>) -> Result<(), NoMemory>
     ensures { Appends result out.old.items (op_text names.now op.now) out.new.items }
 {
     match op {
-        Op::Read { rec, value } => print_access(b" r ", names, *rec, value, out),
-        Op::Write { rec, value } => print_access(b" w ", names, *rec, value, out),
+        Op::Read { rec, value: None } => print_absent(b" a ", names, *rec, out),
+        Op::Read {
+            rec,
+            value: Some(value),
+        } => print_access(b" r ", names, *rec, value, out),
+        Op::Write { rec, value: None } => print_absent(b" d ", names, *rec, out),
+        Op::Write {
+            rec,
+            value: Some(value),
+        } => print_access(b" w ", names, *rec, value, out),
     }
 }
 

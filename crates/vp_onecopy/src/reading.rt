@@ -5,13 +5,14 @@ ghost use Rattle.vp_text.specs.Reading.{Tries, Reads, next_at};
 ghost use Rattle.vp_base.specs.Faults.{line_left};
 ghost use Rattle.vp_base.specs.Reading.{among_at};
 ghost use Rattle.vp_onecopy.specs.Lines.{AllNames, some_names, Before};
-ghost use Rattle.vp_onecopy.specs.Reading.{read_at, write_at, op_at, ops_at, start_at, commit_at, ending_at, later_at, line_at};
+ghost use Rattle.vp_onecopy.specs.Reading.{read_at, write_at, absent_at, delete_at, bare_op_at, later_op_at, op_at, ops_at, start_at, commit_at, ending_at, later_at, line_at};
 ghost use Rattle.vp_onecopy.specs.declared.line.HistoryLine.TheVariants as kind;
 
 use crate::line::HistoryLine;
 use std::alloc::Global;
 use vp_base::{
-    Commit, LineFault, MOST_RECORDS, Name, Op, Ops, RecId, TxnId, Value, ViewId, parse_place,
+    Commit, LineFault, MOST_RECORDS, Name, Op, Ops, RecId, Tables, TxnId, Value, ViewId,
+    parse_place,
 };
 use vp_text::{Cursor, Unexpected};
 
@@ -33,7 +34,10 @@ fn parse_read(alloc: Global, cursor: &mut Cursor, names: &[Name]) -> Result<Op, 
     let rec = parse_record(cursor, names)?;
     cursor.literal(b" ")?;
     let value = Value::parse(alloc, cursor)?;
-    Ok(Op::Read { rec, value })
+    Ok(Op::Read {
+        rec,
+        value: Some(value),
+    })
 }
 
 #[tactic(auto, unfolding(crate::specs::Reading::write_at))]
@@ -45,7 +49,71 @@ fn parse_write(alloc: Global, cursor: &mut Cursor, names: &[Name]) -> Result<Op,
     let rec = parse_record(cursor, names)?;
     cursor.literal(b" ")?;
     let value = Value::parse(alloc, cursor)?;
-    Ok(Op::Write { rec, value })
+    Ok(Op::Write {
+        rec,
+        value: Some(value),
+    })
+}
+
+/// Reads a read of a record that has no value.
+#[tactic(auto, unfolding(crate::specs::Reading::absent_at))]
+fn parse_absent(cursor: &mut Cursor, names: &[Name]) -> Result<Op, Unexpected>
+    requires { length names.now ≤ 256 }
+    ensures { Reads (λ op. op) (λ e. e.left) result cursor.new (absent_at names.now cursor.old) }
+{
+    cursor.literal(b" a ")?;
+    let rec = parse_record(cursor, names)?;
+    Ok(Op::Read { rec, value: None })
+}
+
+/// Reads a delete.
+#[tactic(auto, unfolding(crate::specs::Reading::delete_at))]
+fn parse_delete(cursor: &mut Cursor, names: &[Name]) -> Result<Op, Unexpected>
+    requires { length names.now ≤ 256 }
+    ensures { Reads (λ op. op) (λ e. e.left) result cursor.new (delete_at names.now cursor.old) }
+{
+    cursor.literal(b" d ")?;
+    let rec = parse_record(cursor, names)?;
+    Ok(Op::Write { rec, value: None })
+}
+
+/// Reads an operation without a value.
+#[tactic(auto, unfolding(crate::specs::Reading::bare_op_at))]
+fn parse_bare_op(cursor: &mut Cursor, names: &[Name]) -> Result<Op, Unexpected>
+    requires { length names.now ≤ 256 }
+    ensures { Reads (λ op. op) (λ e. e.left) result cursor.new (bare_op_at names.now cursor.old) }
+{
+    let mut other = cursor.fork();
+    match parse_absent(cursor, names) {
+        Ok(op) => Ok(op),
+        Err(first) => match parse_delete(&mut other, names) {
+            Ok(op) => {
+                *cursor = other;
+                Ok(op)
+            }
+            Err(second) => Err(first.farther(second)),
+        },
+    }
+}
+
+/// Reads a write, or an operation without a value.
+#[tactic(auto, unfolding(crate::specs::Reading::later_op_at))]
+fn parse_later_op(alloc: Global, cursor: &mut Cursor, names: &[Name]) -> Result<Op, LineFault>
+    requires { length names.now ≤ 256 }
+    ensures { Tries (λ op. op) line_left result cursor.new (later_op_at names.now cursor.old) }
+{
+    let mut other = cursor.fork();
+    match parse_write(alloc, cursor, names) {
+        Ok(op) => Ok(op),
+        Err(LineFault::NoMemory) => Err(LineFault::NoMemory),
+        Err(LineFault::Unexpected(first)) => match parse_bare_op(&mut other, names) {
+            Ok(op) => {
+                *cursor = other;
+                Ok(op)
+            }
+            Err(second) => Err(LineFault::Unexpected(first.farther(second))),
+        },
+    }
 }
 
 #[tactic(auto, unfolding(crate::specs::Reading::op_at))]
@@ -57,7 +125,7 @@ fn parse_op(alloc: Global, cursor: &mut Cursor, names: &[Name]) -> Result<Op, Li
     match parse_read(alloc, cursor, names) {
         Ok(op) => Ok(op),
         Err(LineFault::NoMemory) => Err(LineFault::NoMemory),
-        Err(LineFault::Unexpected(first)) => match parse_write(alloc, &mut other, names) {
+        Err(LineFault::Unexpected(first)) => match parse_later_op(alloc, &mut other, names) {
             Ok(op) => {
                 *cursor = other;
                 Ok(op)
@@ -132,7 +200,12 @@ fn parse_commit(
     cursor.literal(b" ")?;
     let view = ViewId::parse_from(cursor, last)?;
     let ops = parse_ops(alloc, cursor, names)?;
-    Ok(HistoryLine::Commit(Commit { txn, view, ops }))
+    Ok(HistoryLine::Commit(Commit {
+        txn,
+        view,
+        ops,
+        tables: Tables::new(alloc),
+    }))
 }
 
 #[tactic(auto, unfolding(crate::specs::Reading::ending_at))]

@@ -8,7 +8,7 @@ ghost use Rattle.vp_model.specs.Views.{has_doubt};
 ghost use Rattle.vp_model.specs.Step.{locks_in_doubt};
 ghost use Rattle.vp_participant.specs.Doubts.{is_written};
 
-use vp_base::{CopyOf, Doubt, NoMemory, Owner, Part, RecId, TxnId, Value, Writes};
+use vp_base::{Change, CopyOf, Doubt, NoMemory, Owner, Part, RecId, TxnId, Writes};
 use vp_lists::{is_same_txn, put, take_txn};
 use vp_locks::Locks;
 
@@ -19,7 +19,7 @@ pub fn is_in_doubt(doubts: &[Doubt], txn: &TxnId) -> bool
     doubts.iter().any(|doubt| is_same_txn(&doubt.txn, txn))
 }
 
-fn has_write(writes: &[(RecId, Value)], rec: RecId) -> bool
+fn has_write(writes: &[(RecId, Change)], rec: RecId) -> bool
     ensures { result ≡ has (keys writes.now) rec }
 {
     writes.iter().map(|write| write.0).any(|other| other == rec)

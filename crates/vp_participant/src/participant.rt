@@ -21,7 +21,7 @@ use crate::requests::{Prepare, Request};
 use std::alloc::Global;
 use std::marker::Model;
 use vp_base::{
-    CopyOf, Doubt, InDoubt, Lock, LogRecord, NoMemory, Owner, Part, RecId, TxnId, Txns, Value,
+    Change, CopyOf, Doubt, InDoubt, Lock, LogRecord, NoMemory, Owner, Part, RecId, TxnId, Txns,
     View, ViewId, Writes,
 };
 use vp_lists::copy_all;
@@ -321,7 +321,7 @@ impl Keeps for Participant {
     }
 }
 
-fn has_writes(locks: &Locks, txn: &TxnId, writes: &[(RecId, Value)]) -> bool
+fn has_writes(locks: &Locks, txn: &TxnId, writes: &[(RecId, Change)]) -> bool
     ensures { result ≡ list_all (λ rec. holds rec true (owner.Txn txn.now) locks.now) (keys writes.now) }
 {
     writes
@@ -337,7 +337,7 @@ fn has_reads(locks: &Locks, txn: &TxnId, reads: &[RecId]) -> bool
 }
 
 /// Whether the transaction has exclusive locks on all writes, and any locks on all reads.
-fn has_all_locks(locks: &Locks, txn: &TxnId, reads: &[RecId], writes: &[(RecId, Value)]) -> bool
+fn has_all_locks(locks: &Locks, txn: &TxnId, reads: &[RecId], writes: &[(RecId, Change)]) -> bool
     ensures { result ≡ has_all_locks locks.now txn.now reads.now writes.now }
 {
     has_writes(locks, txn, writes) && has_reads(locks, txn, reads)

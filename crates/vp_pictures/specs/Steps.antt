@@ -83,6 +83,9 @@ abbrev pub refuses : Answer → Bool
 refuses (answer.Begun txn view) = false
 refuses (answer.Value txn number value) = false
 refuses (answer.Written txn number) = false
+refuses (answer.Absent txn number) = false
+refuses (answer.Deleted txn number) = false
+refuses (answer.Weighed txn number) = false
 refuses (answer.Committed txn number) = false
 refuses (answer.Aborted txn number) = false
 refuses (answer.Inviting view) = false

@@ -1,25 +1,29 @@
--- What was asked of other sites, in every world: a request for a lock to write is of a record that the transaction has written or is
--- writing, each prepare has the writes of all that was asked, and what is asked for a transaction names one view.
+-- What was asked of other sites, in every world: a request for a lock to write is of a record that the transaction has changed or is
+-- changing, each prepare has the changes of all that was asked, and what is asked for a transaction names one view.
 use Rattle.std.proofs.Common.{◌≡◌, ◌≢◌, ◌⊎◌, ◌∙◌, ap, sym, subst, ℕ, true, List, [], ◌∷◌, ◌++◌, refl, arith, ⊎_elim, inl, inr}
-use Rattle.std.specs.Prelude.{Option, Some, None, fold}
-use Rattle.vp_model.specs.Types.{Change, ViewId, TxnId, Sent, Message, Op, Answer, Input, Pending, Live}
+use Rattle.std.specs.Prelude.{Option, Some, None}
+use Rattle.vp_model.specs.Types.{Change, ViewId, TxnId, Sent, Message, Input, Pending, Live}
 use Rattle.vp_model.specs.Types.message
 use Rattle.vp_model.specs.Types.op
-use Rattle.vp_model.specs.Words.{has, keys, put_at}
+use Rattle.vp_model.specs.Words.{has, keys, value_at}
 use Rattle.vp_model.specs.Catalogue.{Catalogue, holders}
 use Rattle.vp_model.specs.Site.{SiteState, Lent, Stepped}
-use Rattle.vp_model.specs.Transactions.{last_changes, entry_of, writes_held, with_op}
+use Rattle.vp_model.specs.Transactions.{Deed, last_changes, entry_of, writes_held}
 use Rattle.vp_model.specs.Refresh.{other_holders}
 use Rattle.vp_model.specs.Calls.{prepare_for}
 use Rattle.vp_model.specs.Durable.{DurableState}
 use Rattle.vp_model.specs.Step.{mark, step, start}
 use Rattle.vp_laws.specs.Votes.{is_commit}
-use Rattle.vp_laws.proofs.Lists.Members.{Has, has_none, has_cons, has_left, has_right, has_one, filter_has, filter_keeps, map_has, has_test}
+use Rattle.vp_laws.proofs.Lists.Members.{Has, has_none, has_left, has_right, has_one, filter_has, filter_keeps, map_has, has_test}
 use Rattle.vp_laws.proofs.Lists.Changes.{mapped_has}
 use Rattle.vp_laws.proofs.Lists.Names.{apart_unique}
 use Rattle.vp_laws.proofs.Moves.LocalViews.{letter}
-use Rattle.vp_laws.proofs.Moves.Table.{Writes, IsNext, remaining, Completes}
-use Rattle.vp_laws.proofs.Moves.Calls.{waiting, done, writing, read_not_write, writes_same}
+use Rattle.vp_laws.proofs.Lists.Numbers.{eq_self}
+use Rattle.vp_laws.proofs.Journal.Play.{value_put}
+use Rattle.vp_laws.proofs.Journal.LastChanges.{unchanged_ungiven}
+use Rattle.vp_laws.proofs.Journal.Changed.{HasChanged, changed_on, change_there, operation_changed}
+use Rattle.vp_laws.proofs.Moves.Table.{Changes, IsNext, remaining, Completes}
+use Rattle.vp_laws.proofs.Moves.Calls.{waiting, done, writing, read_not_write, read_not_write_asked, writes_same, same_writes, no_commit_writes}
 use Rattle.vp_laws.proofs.Moves.OnlyCoordinator.{is_aside}
 use Rattle.vp_laws.proofs.Invariant.Shares.{OneView, Says}
 use Rattle.vp_laws.proofs.Table.Steps.{LiveNow, SentFor, AskingWrite, AskingVotes}
@@ -27,16 +31,14 @@ use Rattle.vp_laws.proofs.Table.Votes.{some_not}
 use Rattle.vp_laws.proofs.Worlds.Scenes.{Scene, plain_at, kept_at, acted}
 use Rattle.vp_laws.proofs.Worlds.Sites.{NowIs, now_is, Quiet, QuietIs, quiet_is, start_sent, With, with_last}
 use Rattle.vp_laws.proofs.Worlds.Events.{Arrives, Lasts}
-use Rattle.vp_laws.proofs.Invariant.Ops.{HasWritten}
 use Rattle.vp_laws.proofs.Invariant.Known.{Known}
 use Rattle.vp_laws.proofs.Keeping.Endings.{fresh}
 use Rattle.vp_laws.proofs.Keeping.Known.{known_last}
 use Rattle.vp_laws.proofs.Keeping.Does.{Does, does}
-use Rattle.vp_progress.proofs.Refreshed.{put_key, put_own_key}
 
--- its pending call writes the record
-abbrev pub IsWriting : Catalogue → Live → ℕ → Type 0
-IsWriting catalogue t rec = (p : Pending) × (value : List ℕ) × (t.pending ≡ Some p) × Writes catalogue p rec value
+-- its pending call changes the record
+abbrev pub IsChanging : Catalogue → Live → ℕ → Type 0
+IsChanging catalogue t rec = (p : Pending) × (deed : Deed) × (t.pending ≡ Some p) × Changes catalogue p rec deed
 
 abbrev pub AsksWrite : Scene → ℕ → TxnId → ℕ → Type 0
 AsksWrite w to txn rec = (from : ℕ) × (view : ViewId) × (number : ℕ) × Has w.sent (letter from to (message.WriteRequest txn view number rec))
@@ -57,29 +59,35 @@ naming txn view = Some (txn, view)
 pub record InvAsked (catalogue : Catalogue) (w : Scene) : Type 0 where
   -- it goes to a holder
   pub holder : (to rec : ℕ) (txn : TxnId) → AsksWrite w to txn rec → Has (holders catalogue rec) to
-  -- of a live transaction it is of what that has written or is writing
-  pub live : (s : ℕ) (x : SiteState) (t : Live) (to rec : ℕ) → plain_at w s ≡ Some x → Has x.live t → AsksWrite w to t.txn rec → HasWritten t rec ⊎ IsWriting catalogue t rec
-  -- each prepare to the same site writes it
+  -- of a live transaction it is of what that has changed or is changing
+  pub live : (s : ℕ) (x : SiteState) (t : Live) (to rec : ℕ) → plain_at w s ≡ Some x → Has x.live t → AsksWrite w to t.txn rec → HasChanged t rec ⊎ IsChanging catalogue t rec
+  -- each prepare to the same site changes it
   pub prepared : (to rec from : ℕ) (txn : TxnId) (view : ViewId) (number : ℕ) (reads : List ℕ) (writes : List (ℕ × Change)) → AsksWrite w to txn rec → Has w.sent (letter from to (message.Prepare txn view number reads writes)) → Has (keys writes) rec
   -- a transaction has one view
   pub view : (m n : Sent) (txn : TxnId) (u v : ViewId) → Has w.sent m → Has w.sent n → names_view m.message ≡ naming txn u → names_view n.message ≡ naming txn v → u ≡ v
 
--- ---- what was written is among the last values
+-- ---- what was changed is among the last changes
 
-written_from : (ops : List Op) (writes : List (ℕ × Change)) (rec : ℕ) → Has (keys writes) rec ⊎ ((value : List ℕ) × Has ops (op.Write rec value)) → Has (keys (fold with_op writes ops)) rec
-written_from [] writes rec h = ⊎_elim (λ old. old) (λ (new : (value : List ℕ) × Has [] (op.Write rec value)). absurd (has_none _ new.1)) h
-written_from (op.Read other value ∷ ops) writes rec h = written_from ops writes rec
-    (⊎_elim (λ old. inl old) (λ (new : (v : List ℕ) × Has (op.Read other value ∷ ops) (op.Write rec v)). ⊎_elim (λ (one : op.Read other value ≡ op.Write rec new.0). absurd (let z = one in cc)) (λ more. inr (new.0, more)) (has_cons (op.Read other value) ops (op.Write rec new.0) new.1)) h)
-written_from (op.Write other value ∷ ops) writes rec h = written_from ops (put_at other value writes) rec
-    (⊎_elim (λ old. inl (put_key other rec value writes old))
-    (λ (new : (v : List ℕ) × Has (op.Write other value ∷ ops) (op.Write rec v)). ⊎_elim (λ (one : op.Write other value ≡ op.Write rec new.0). inl (let same : other ≡ rec = cc in rw (← same) (put_own_key other value writes))) (λ more. inr (new.0, more)) (has_cons (op.Write other value) ops (op.Write rec new.0) new.1)) h)
+-- a change that is done has changed its record
+change_done : (catalogue : Catalogue) (t : Live) (p : Pending) (rec : ℕ) (deed : Deed) → Changes catalogue p rec deed → HasChanged (done t p deed) rec
+change_done catalogue t p rec (Deed.operates (op.Read r value)) c = absurd (read_not_write_asked catalogue p (Deed.operates (op.Read r value)) r value refl c)
+change_done catalogue t p rec (Deed.operates (op.Write r value)) c = operation_changed (done t p (Deed.operates (op.Write r value))) rec value
+    (has_right t.ops (op.Write r value ∷ []) (op.Write rec value) (subst (λ (n : ℕ). Has (op.Write r value ∷ []) (op.Write n value)) c.on (has_one (op.Write r value))))
+change_done catalogue t p rec (Deed.weighs r table) c = go (value_at rec (last_changes (entry_of now))) refl
+  where
+    now : Live
+    now = done t p (Deed.weighs r table)
 
-written_key : (t : Live) (rec : ℕ) → HasWritten t rec → Has (keys (last_changes (entry_of t))) rec
-written_key t rec h = written_from t.ops [] rec (inr h)
+    given : value_at rec now.tables ≡ Some table
+    given = value_put rec r table t.tables ∙ (let self = eq_self rec in let on : r ≡ rec = c.on in rw (on, self) refl)
 
-held_key : (catalogue : Catalogue) (t : Live) (to rec : ℕ) → HasWritten t rec → Has (holders catalogue rec) to → Has (keys (writes_held catalogue to (last_changes (entry_of t)))) rec
+    go : (o : Option Change) → value_at rec (last_changes (entry_of now)) ≡ o → HasChanged now rec
+    go None f = absurd (let z = sym given ∙ unchanged_ungiven (entry_of now) rec f in cc)
+    go (Some change) f = change_there (last_changes (entry_of now)) rec change f
+
+held_key : (catalogue : Catalogue) (t : Live) (to rec : ℕ) → HasChanged t rec → Has (holders catalogue rec) to → Has (keys (writes_held catalogue to (last_changes (entry_of t)))) rec
 held_key catalogue t to rec h holder =
-    let m = map_has (λ (w : ℕ × Change). w.0) (last_changes (entry_of t)) rec (written_key t rec h) in
+    let m = map_has (λ (w : ℕ × Change). w.0) (last_changes (entry_of t)) rec h in
     subst (Has (keys (writes_held catalogue to (last_changes (entry_of t))))) m.2
     (mapped_has (λ (w : ℕ × Change). w.0) (writes_held catalogue to (last_changes (entry_of t))) m.0 (filter_keeps (λ (w : ℕ × Change). has (holders catalogue w.0) to) (last_changes (entry_of t)) m.0 m.1 (has_test (holders catalogue m.0.0) to (subst (λ (r : ℕ). Has (holders catalogue r) to) (sym m.2) holder))))
 
@@ -95,8 +103,8 @@ module _ (catalogue : Catalogue) (w : Scene) (s : ℕ) (x : SiteState) (given : 
     was : Live
     live : Has x.live was
     pending : Pending
-    value : List ℕ
-    asking : AskingWrite catalogue x given was pending rec value
+    deed : Deed
+    asking : AskingWrite catalogue x given was pending rec deed
     holder : Has (other_holders catalogue x rec) to
     only : (t : Live) → Has o.site.live t → t.txn ≡ txn → t ≡ writing was pending (other_holders catalogue x rec)
     named : was.txn ≡ txn
@@ -109,7 +117,7 @@ module _ (catalogue : Catalogue) (w : Scene) (s : ℕ) (x : SiteState) (given : 
       go (SentFor.outcome t commit f e) = cc
       go (SentFor.reads u p r q h b only e) = let z = ap (λ (m : Sent). m.message) e in cc
       go (SentFor.prepares u p q h b part only e) = let z = ap (λ (m : Sent). m.message) e in cc
-      go (SentFor.writes u p r value q h b other only e) =
+      go (SentFor.writes u p r deed q h b other only e) =
           let to_is : q ≡ to = ap (λ (m : Sent). m.to) e in
           let words : message.WriteRequest u.txn u.view p.number r ≡ message.WriteRequest txn a.1 a.2 rec = ap (λ (m : Sent). m.message) e in
           let rec_is : r ≡ rec = cc in
@@ -118,79 +126,76 @@ module _ (catalogue : Catalogue) (w : Scene) (s : ℕ) (x : SiteState) (given : 
             was = u;
             live = h;
             pending = p;
-            value = value;
-            asking = subst (λ (r : ℕ). AskingWrite catalogue x given u p r value) rec_is b;
+            deed = deed;
+            asking = subst (λ (r : ℕ). AskingWrite catalogue x given u p r deed) rec_is b;
             holder = subst (λ (r : ℕ). Has (other_holders catalogue x r) to) rec_is (subst (Has (other_holders catalogue x r)) to_is other);
             only = λ t there same. subst (λ (r : ℕ). t ≡ writing u p (other_holders catalogue x r)) rec_is (only t there (same ∙ sym name));
             named = name;
           }
 
-  -- what it asked before is of what it has written, or is writing
-  was_asked : (u : Live) → Has x.live u → (to rec : ℕ) → AsksWrite w to u.txn rec → HasWritten u rec ⊎ IsWriting catalogue u rec
+  -- what it asked before is of what it has changed, or is changing
+  was_asked : (u : Live) → Has x.live u → (to rec : ℕ) → AsksWrite w to u.txn rec → HasChanged u rec ⊎ IsChanging catalogue u rec
   was_asked u h to rec a = inv.live s x u to rec d.up h a
 
-  written_idle : (u : Live) (p : Pending) → Has x.live u → IsNext given u p → (to rec : ℕ) → AsksWrite w to u.txn rec → HasWritten u rec
-  written_idle u p h next to rec a = ⊎_elim (λ written. written) (λ (pending : IsWriting catalogue u rec). idle_not u p pending.0 next pending.2) (was_asked u h to rec a)
+  changed_idle : (u : Live) (p : Pending) → Has x.live u → IsNext given u p → (to rec : ℕ) → AsksWrite w to u.txn rec → HasChanged u rec
+  changed_idle u p h next to rec a = ⊎_elim (λ changed. changed) (λ (pending : IsChanging catalogue u rec). idle_not u p pending.0 next pending.2) (was_asked u h to rec a)
 
-  other_call : (u : Live) (rec : ℕ) (now : Live) (a q : Pending) → IsWriting catalogue u rec → u.pending ≡ Some a → now.pending ≡ Some q → q.call ≡ a.call → IsWriting catalogue now rec
+  other_call : (u : Live) (rec : ℕ) (now : Live) (a q : Pending) → IsChanging catalogue u rec → u.pending ≡ Some a → now.pending ≡ Some q → q.call ≡ a.call → IsChanging catalogue now rec
   other_call u rec now a q h is then same =
       let one : h.0 ≡ a = (let z = sym h.2 ∙ is in grind (arith, z)) in
-      (q, h.1, then, record { txn = h.3.txn; number = h.3.number; name = h.3.name; words = same ∙ ap (λ (p : Pending). p.call) (sym one) ∙ h.3.words; found = h.3.found })
+      (q, h.1, then, same_writes catalogue q h.0 rec h.1 (same ∙ ap (λ (p : Pending). p.call) (sym one)) h.3)
 
-  done_more : (u : Live) (operation : Op) (words : Answer) (rec : ℕ) → HasWritten u rec → HasWritten (done u operation words) rec
-  done_more u operation words rec h = (h.0, has_left u.ops (operation ∷ []) (op.Write rec h.0) h.1)
-
-  -- the write that was pending is done
-  completed_writes : (u : Live) (p : Pending) (operation : Op) (words : Answer) (l : Lent) (rec : ℕ) → Completes catalogue x given u p operation words l → IsWriting catalogue u rec → HasWritten (done u operation words) rec
-  completed_writes u p operation words l rec (Completes.own_write r value next reads a v o w e) h = idle_not u p h.0 next h.2
-  completed_writes u p operation words l rec (Completes.own_copy r stored next reads a v c f o w e) h = idle_not u p h.0 next h.2
-  completed_writes u p operation words l rec (Completes.write_again r before value next reads a v o w e) h = idle_not u p h.0 next h.2
-  completed_writes u p operation words l rec (Completes.write_alone r value next reads a v n o w e) h = idle_not u p h.0 next h.2
-  completed_writes u p operation words l rec (Completes.read_answered from r value c last reads o w e) h =
+  -- the change that was pending is done
+  completed_changes : (u : Live) (p : Pending) (deed : Deed) (l : Lent) (rec : ℕ) → Completes catalogue x given u p deed l → IsChanging catalogue u rec → HasChanged (done u p deed) rec
+  completed_changes u p deed l rec (Completes.own_write r value next reads a v o e) h = idle_not u p h.0 next h.2
+  completed_changes u p deed l rec (Completes.own_copy r stored next reads a v c f o e) h = idle_not u p h.0 next h.2
+  completed_changes u p deed l rec (Completes.change_again r before next changes may v e) h = idle_not u p h.0 next h.2
+  completed_changes u p deed l rec (Completes.change_alone r next changes may v n e) h = idle_not u p h.0 next h.2
+  completed_changes u p deed l rec (Completes.read_answered from r value c last reads o e) h =
       let one : h.0 ≡ p = (let z = sym h.2 ∙ last.pending in grind (arith, z)) in
-      read_not_write catalogue p r rec h.1 reads (subst (λ (p : Pending). Writes catalogue p rec h.1) one h.3)
-  completed_writes u p operation words l rec (Completes.write_answered from r value c last writes o w e) h =
+      read_not_write catalogue p r rec h.1 reads (subst (λ (p : Pending). Changes catalogue p rec h.1) one h.3)
+  completed_changes u p deed l rec (Completes.change_answered from r c last changes e) h =
       let one : h.0 ≡ p = (let z = sym h.2 ∙ last.pending in grind (arith, z)) in
-      let same : r ≡ rec = writes_same catalogue p r rec value h.1 writes (subst (λ (p : Pending). Writes catalogue p rec h.1) one h.3) in
-      (value, has_right u.ops (operation ∷ []) (op.Write rec value) (subst (λ (a : Op). Has (a ∷ []) (op.Write rec value)) (ap (λ (r : ℕ). op.Write r value) (sym same) ∙ sym o) (has_one (op.Write rec value))))
+      let same : r ≡ rec = writes_same catalogue p r rec deed h.1 changes (subst (λ (p : Pending). Changes catalogue p rec h.1) one h.3) in
+      subst (HasChanged (done u p deed)) same (change_done catalogue u p r deed changes)
 
-  marked_call_of : (u : Live) (rec : ℕ) → IsWriting catalogue u rec → IsWriting catalogue (mark u) rec
-  marked_call_of u rec p = (record p.0 { marked = true }, p.1, rw p.2 refl, record { txn = p.3.txn; number = p.3.number; name = p.3.name; words = p.3.words; found = p.3.found })
+  marked_call_of : (u : Live) (rec : ℕ) → IsChanging catalogue u rec → IsChanging catalogue (mark u) rec
+  marked_call_of u rec p = (record p.0 { marked = true }, p.1, rw p.2 refl, same_writes catalogue (record p.0 { marked = true }) p.0 rec p.1 refl p.3)
 
   -- of a transaction that is live here now
-  live_here : (t : Live) → Has o.site.live t → (to rec : ℕ) → AsksWrite w to t.txn rec → HasWritten t rec ⊎ IsWriting catalogue t rec
+  live_here : (t : Live) → Has o.site.live t → (to rec : ℕ) → AsksWrite w to t.txn rec → HasChanged t rec ⊎ IsChanging catalogue t rec
   live_here t h to rec a = go (d.steps.live t h)
     where
       as_was : (u : Live) → t.txn ≡ u.txn → AsksWrite w to u.txn rec
       as_was u e = (a.0, a.1, a.2, subst (λ (n : TxnId). Has w.sent (letter a.0 to (message.WriteRequest n a.1 a.2 rec))) e a.3)
 
-      go : LiveNow catalogue x given t → HasWritten t rec ⊎ IsWriting catalogue t rec
+      go : LiveNow catalogue x given t → HasChanged t rec ⊎ IsChanging catalogue t rec
       go (LiveNow.still q) = was_asked t q to rec a
-      go (LiveNow.marked u q tick e) = subst (λ (t : Live). HasWritten t rec ⊎ IsWriting catalogue t rec) e
-          (⊎_elim (λ written. inl written) (λ (p : IsWriting catalogue u rec). inr (marked_call_of u rec p)) (was_asked u q to rec (as_was u (ap (λ (t : Live). t.txn) (sym e)))))
-      go (LiveNow.waits u p from q f m l c e) = subst (λ (t : Live). HasWritten t rec ⊎ IsWriting catalogue t rec) e
-          (⊎_elim (λ written. inl written) (λ (b : IsWriting catalogue u rec). inr (other_call u rec (waiting u p (remaining from p)) p (record p { missing = remaining from p }) b f refl refl)) (was_asked u q to rec (as_was u (ap (λ (t : Live). t.txn) (sym e)))))
-      go (LiveNow.completed u p operation words l q c e) = inl (subst (λ (t : Live). HasWritten t rec) e
-          (⊎_elim (λ written. done_more u operation words rec written) (λ (b : IsWriting catalogue u rec). completed_writes u p operation words l rec c b) (was_asked u q to rec (as_was u (ap (λ (t : Live). t.txn) (sym e))))))
-      go (LiveNow.reads u p r j q asking e) = inl (subst (λ (t : Live). HasWritten t rec) e (written_idle u p q asking.next to rec (as_was u (ap (λ (t : Live). t.txn) (sym e)))))
-      go (LiveNow.writes u p r value q asking e) = inl (subst (λ (t : Live). HasWritten t rec) e (written_idle u p q asking.next to rec (as_was u (ap (λ (t : Live). t.txn) (sym e)))))
-      go (LiveNow.prepares u p q asking e) = inl (subst (λ (t : Live). HasWritten t rec) e (written_idle u p q asking.next to rec (as_was u (ap (λ (t : Live). t.txn) (sym e)))))
+      go (LiveNow.marked u q tick e) = subst (λ (t : Live). HasChanged t rec ⊎ IsChanging catalogue t rec) e
+          (⊎_elim (λ changed. inl changed) (λ (p : IsChanging catalogue u rec). inr (marked_call_of u rec p)) (was_asked u q to rec (as_was u (ap (λ (t : Live). t.txn) (sym e)))))
+      go (LiveNow.waits u p from q f m l c e) = subst (λ (t : Live). HasChanged t rec ⊎ IsChanging catalogue t rec) e
+          (⊎_elim (λ changed. inl changed) (λ (b : IsChanging catalogue u rec). inr (other_call u rec (waiting u p (remaining from p)) p (record p { missing = remaining from p }) b f refl refl)) (was_asked u q to rec (as_was u (ap (λ (t : Live). t.txn) (sym e)))))
+      go (LiveNow.completed u p deed l q c e) = inl (subst (λ (t : Live). HasChanged t rec) e
+          (⊎_elim (λ changed. changed_on u p deed rec changed) (λ (b : IsChanging catalogue u rec). completed_changes u p deed l rec c b) (was_asked u q to rec (as_was u (ap (λ (t : Live). t.txn) (sym e))))))
+      go (LiveNow.reads u p r j q asking e) = inl (subst (λ (t : Live). HasChanged t rec) e (changed_idle u p q asking.next to rec (as_was u (ap (λ (t : Live). t.txn) (sym e)))))
+      go (LiveNow.writes u p r deed q asking e) = inl (subst (λ (t : Live). HasChanged t rec) e (changed_idle u p q asking.next to rec (as_was u (ap (λ (t : Live). t.txn) (sym e)))))
+      go (LiveNow.prepares u p q asking e) = inl (subst (λ (t : Live). HasChanged t rec) e (changed_idle u p q asking.next to rec (as_was u (ap (λ (t : Live). t.txn) (sym e)))))
       go (LiveNow.begins view held e) = absurd (fresh w s x d.up d.here.id t.txn (k.names.sent _ a.3).0.0 (ap (λ (t : Live). t.txn) (sym e)))
 
-  asked_live : (j : ℕ) (y : SiteState) (t : Live) (to rec : ℕ) → NowIs w s o.site j y → Has y.live t → t.txn.site ≡ j → AsksWrite new to t.txn rec → HasWritten t rec ⊎ IsWriting catalogue t rec
+  asked_live : (j : ℕ) (y : SiteState) (t : Live) (to rec : ℕ) → NowIs w s o.site j y → Has y.live t → t.txn.site ≡ j → AsksWrite new to t.txn rec → HasChanged t rec ⊎ IsChanging catalogue t rec
   asked_live j y t to rec now h own a = ⊎_elim
       (λ old. before now h old)
       (λ (more : AskedNow to rec t.txn). goes_out now h more)
       (asked to rec t.txn a)
     where
-      before : NowIs w s o.site j y → Has y.live t → AsksWrite w to t.txn rec → HasWritten t rec ⊎ IsWriting catalogue t rec
+      before : NowIs w s o.site j y → Has y.live t → AsksWrite w to t.txn rec → HasChanged t rec ⊎ IsChanging catalogue t rec
       before (NowIs.here e same) h a = live_here t (subst (λ (y : SiteState). Has y.live t) (sym same) h) to rec a
       before (NowIs.other n up) h a = inv.live j y t to rec up h a
 
-      goes_out : NowIs w s o.site j y → Has y.live t → AskedNow to rec t.txn → HasWritten t rec ⊎ IsWriting catalogue t rec
+      goes_out : NowIs w s o.site j y → Has y.live t → AskedNow to rec t.txn → HasChanged t rec ⊎ IsChanging catalogue t rec
       goes_out (NowIs.here e same) h b =
           let is = b.only t (subst (λ (y : SiteState). Has y.live t) (sym same) h) refl in
-          inr (subst (λ (t : Live). IsWriting catalogue t rec) (sym is) (record b.pending { missing = other_holders catalogue x rec }, b.value, refl, record { txn = b.asking.writes.txn; number = b.asking.writes.number; name = b.asking.writes.name; words = b.asking.writes.words; found = b.asking.writes.found }))
+          inr (subst (λ (t : Live). IsChanging catalogue t rec) (sym is) (record b.pending { missing = other_holders catalogue x rec }, b.deed, refl, same_writes catalogue (record b.pending { missing = other_holders catalogue x rec }) b.pending rec b.deed refl b.asking.writes))
       goes_out (NowIs.other n up) h b = absurd (n (sym own ∙ ap (λ (n : TxnId). n.site) (sym b.named) ∙ (d.led.names b.was b.live).0 ∙ d.here.id))
 
   -- a prepare that goes out now
@@ -220,17 +225,16 @@ module _ (catalogue : Catalogue) (w : Scene) (s : ℕ) (x : SiteState) (given : 
   holder_now : (to rec : ℕ) (txn : TxnId) → AsksWrite new to txn rec → Has (holders catalogue rec) to
   holder_now to rec txn a = ⊎_elim (λ old. inv.holder to rec txn old) (λ (b : AskedNow to rec txn). (filter_has _ (holders catalogue rec) to b.holder).0) (asked to rec txn a)
 
-  -- one call is no write and a commit
-  two_calls : {C : Type 0} (u v : Live) (p q : Pending) (rec : ℕ) (value : List ℕ) → IsNext given u p → Writes catalogue p rec value → IsNext given v q → is_commit q.call ≡ true → C
-  two_calls u v p q rec value a w b commit =
+  -- one call is no change and a commit
+  two_calls : {C : Type 0} (u v : Live) (p q : Pending) (rec : ℕ) (deed : Deed) → IsNext given u p → Changes catalogue p rec deed → IsNext given v q → is_commit q.call ≡ true → C
+  two_calls u v p q rec deed a changes b commit =
       let same : p.call ≡ q.call = (let z = sym a.comes ∙ b.comes in cc) in
-      let other = ap is_commit (sym same ∙ w.words) in
-      let z = sym commit ∙ other in cc
+      no_commit_writes catalogue p rec deed (ap is_commit same ∙ commit) changes
 
   prepared_with : (to rec from : ℕ) (txn : TxnId) (view : ViewId) (number : ℕ) (reads : List ℕ) (writes : List (ℕ × Change)) → AsksWrite new to txn rec → Has new.sent (letter from to (message.Prepare txn view number reads writes)) → Has (keys writes) rec
   prepared_with to rec from txn view number reads writes a h = ⊎_elim
       (λ old_prepare. ⊎_elim (λ old. inv.prepared to rec from txn view number reads writes old old_prepare) (λ (b : AskedNow to rec txn). asks_after b old_prepare) (asked to rec txn a))
-      (λ now. ⊎_elim (λ old. votes_after old (prepared_now from to number txn view reads writes now)) (λ (b : AskedNow to rec txn). (let c = prepared_now from to number txn view reads writes now in two_calls b.was c.was b.pending c.pending rec b.value b.asking.next b.asking.writes c.asking.next c.asking.commit)) (asked to rec txn a))
+      (λ now. ⊎_elim (λ old. votes_after old (prepared_now from to number txn view reads writes now)) (λ (b : AskedNow to rec txn). (let c = prepared_now from to number txn view reads writes now in two_calls b.was c.was b.pending c.pending rec b.deed b.asking.next b.asking.writes c.asking.next c.asking.commit)) (asked to rec txn a))
       (d.st.sent _ h)
     where
       -- nothing more is asked for a transaction whose votes are asked for
@@ -243,8 +247,8 @@ module _ (catalogue : Catalogue) (w : Scene) (s : ℕ) (x : SiteState) (given : 
       votes_after : AsksWrite w to txn rec → PreparedNow to txn writes → Has (keys writes) rec
       votes_after old c =
           let mine : AsksWrite w to c.was.txn rec = subst (λ (n : TxnId). AsksWrite w to n rec) (sym c.named) old in
-          let written = written_idle c.was c.pending c.live c.asking.next to rec mine in
-          subst (λ (ws : List (ℕ × Change)). Has (keys ws) rec) c.all (held_key catalogue c.was to rec written (inv.holder to rec txn old))
+          let changed = changed_idle c.was c.pending c.live c.asking.next to rec mine in
+          subst (λ (ws : List (ℕ × Change)). Has (keys ws) rec) c.all (held_key catalogue c.was to rec changed (inv.holder to rec txn old))
 
   -- what names a view now is of a live transaction, in its view
   record NamesNow (txn : TxnId) (u : ViewId) : Type 0 where
@@ -336,7 +340,7 @@ asked_quiet catalogue w new s q inv = record {
     was : (to : ℕ) (txn : TxnId) (rec : ℕ) → AsksWrite new to txn rec → AsksWrite w to txn rec
     was to txn rec a = (a.0, a.1, a.2, subst (λ (ms : List Sent). Has ms (letter a.0 to (message.WriteRequest txn a.1 a.2 rec))) q.sent a.3)
 
-    at_site : (j : ℕ) (y : SiteState) (t : Live) (to rec : ℕ) → QuietIs catalogue w s j y → Has y.live t → AsksWrite w to t.txn rec → HasWritten t rec ⊎ IsWriting catalogue t rec
+    at_site : (j : ℕ) (y : SiteState) (t : Live) (to rec : ℕ) → QuietIs catalogue w s j y → Has y.live t → AsksWrite w to t.txn rec → HasChanged t rec ⊎ IsChanging catalogue t rec
     at_site j y t to rec (QuietIs.here e same) h a = absurd (has_none t (subst (λ (ts : List Live). Has ts t) (ap (λ (y : SiteState). y.live) (sym same) ∙ start_live catalogue s (kept_at w s)) h))
     at_site j y t to rec (QuietIs.other e up) h a = inv.live j y t to rec up h a
 

@@ -48,9 +48,9 @@ module _ (catalogue : Catalogue) (x : SiteState) (given : Input) (n : ℕ) (seen
     begin = λ port view h c s. same;
     answers = λ words port r s. same;
     take_lock = λ t rec exclusive stored h i a v c. same;
-    complete = λ t p operation words l h c n e q. q;
+    complete = λ t p deed l h c n e q. q;
     read_at = λ t p rec q h n r a w c o y. same;
-    write_at = λ t p rec value l h n w a e o d y v q. q;
+    write_at = λ t p rec deed l h n w a v o y f e q. q;
     prepare_parts = λ t p h n c e. same;
     still_waits = λ t p from h e m f c. same;
     decide = λ t h d. same;

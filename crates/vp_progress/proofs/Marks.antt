@@ -189,9 +189,9 @@ module _ (catalogue : Catalogue) (x : SiteState) (given : Input) (tidy : Tidy x)
     begin = λ port view h c s. first;
     answers = λ words port r s. first;
     take_lock = λ t rec exclusive stored h i a v c. takes t rec exclusive (put_back (begin_step x) (take_lock t.txn rec exclusive (lent_at x))) h refl refl refl;
-    complete = λ t p operation words l h c n e q. q;
+    complete = λ t p deed l h c n e q. q;
     read_at = λ t p rec q h n r a w c o y. first;
-    write_at = λ t p rec value l h n w a e o d y v q. q;
+    write_at = λ t p rec deed l h n w a v o y f e q. q;
     prepare_parts = λ t p h n c e. first;
     still_waits = λ t p from h e m f c. first;
     decide = λ t h d. decide-cases K catalogue x.id t (lent_at x) (λ e. ends_one t Committed true (lent_at x) _ (decided-ends x.id t (lent_at x)) first) (λ e. ends_one t Committed true (keep_writes catalogue x.id t (lent_at x)) _ (decided-ends x.id t _) (keeps t));

@@ -26,9 +26,9 @@ module _ (catalogue : Catalogue) (x : SiteState) (given : Input) (most : ℕ) (l
     begin = λ port view h c s. begins port c;
     answers = λ words port r s. low;
     take_lock = λ t rec exclusive stored h i a v c. low;
-    complete = λ t p operation words l h c n e q. q;
+    complete = λ t p deed l h c n e q. q;
     read_at = λ t p rec q h n r a w c o y. low;
-    write_at = λ t p rec value l h n w a e o d y v q. q;
+    write_at = λ t p rec deed l h n w a v o y f e q. q;
     prepare_parts = λ t p h n c e. low;
     still_waits = λ t p from h e m f c. low;
     decide = λ t h d. decide-cases L catalogue x.id t (lent_at x) (λ e. low) (λ e. low);

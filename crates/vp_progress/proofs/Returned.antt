@@ -23,7 +23,7 @@ use Rattle.vp_laws.proofs.Keeping.Known.{known_last}
 use Rattle.vp_progress.specs.Going.{goes_on, world_after, EachPasses, is_regroup, mends}
 use Rattle.vp_progress.specs.Whole.{AreUnspent, HasNameLeft}
 use Rattle.vp_progress.specs.Progress.{world_of}
-use Rattle.vp_progress.specs.Clients.{Wish, name_in}
+use Rattle.vp_progress.specs.Clients.{Wish, name_in, FitATransaction}
 use Rattle.vp_progress.specs.NeverStuck.{CanBeServed}
 use Rattle.vp_progress.proofs.Going.{world_goes_on, passing_flows_not}
 use Rattle.vp_progress.proofs.Acts.{stays_known}
@@ -81,8 +81,8 @@ module _ (catalogue : Catalogue) (ns : List ℕ) (q : ℕ) where
 
 -- ---- from every schedule
 
-pub can_be_served : (s : Schedule) (q : ℕ) (wishes : List Wish) → IsCatalogue s.catalogue → AreUnspent (sites_of s.catalogue) (world_of s) → has (sites_of s.catalogue) q ≡ true → HasNameLeft q (world_of s) → length wishes ≤ 64 → AllByRecursion (λ wish. is_some (find_record s.catalogue (name_in wish)) ≡ true) wishes → CanBeServed s q wishes
-can_be_served s q wishes catalogue room here left few named =
+pub can_be_served : (s : Schedule) (q : ℕ) (wishes : List Wish) → IsCatalogue s.catalogue → AreUnspent (sites_of s.catalogue) (world_of s) → has (sites_of s.catalogue) q ≡ true → HasNameLeft q (world_of s) → FitATransaction wishes → AllByRecursion (λ wish. is_some (find_record s.catalogue (name_in wish)) ≡ true) wishes → CanBeServed s q wishes
+can_be_served s q wishes catalogue room here left fits named =
     let c = can_be_whole s room in
     let ns = sites_of s.catalogue in
     let is = world_goes_on s c.more (passing_flows_not s.catalogue (mends ns) (λ w count. refl) c.more (world_of s) c.mending) in
@@ -93,8 +93,8 @@ can_be_served s q wishes catalogue room here left few named =
       more = c.more;
       mending = c.mending;
       journal = c.journal;
-      served = served (goes_on s c.more) q catalogue c.whole here x.0 wishes x.1 (after x.0 x.1) few named;
+      served = served (goes_on s c.more) q catalogue c.whole here x.0 wishes x.1 (after x.0 x.1) fits named;
     }
 
-pub short_served : (s : Schedule) (q : ℕ) (wishes : List Wish) → IsCatalogue s.catalogue → length (moments_of s) < 2 ^ 32 - 2 → has (sites_of s.catalogue) q ≡ true → length wishes ≤ 64 → AllByRecursion (λ wish. is_some (find_record s.catalogue (name_in wish)) ≡ true) wishes → CanBeServed s q wishes
-short_served s q wishes catalogue short here few named = can_be_served s q wishes catalogue (unspent s (sites_of s.catalogue) short) here (names_left s q short) few named
+pub short_served : (s : Schedule) (q : ℕ) (wishes : List Wish) → IsCatalogue s.catalogue → length (moments_of s) < 2 ^ 32 - 2 → has (sites_of s.catalogue) q ≡ true → FitATransaction wishes → AllByRecursion (λ wish. is_some (find_record s.catalogue (name_in wish)) ≡ true) wishes → CanBeServed s q wishes
+short_served s q wishes catalogue short here fits named = can_be_served s q wishes catalogue (unspent s (sites_of s.catalogue) short) here (names_left s q short) fits named

@@ -9,7 +9,7 @@ use Rattle.vp_model.specs.World.{Schedule, moments_of, journal_of}
 use Rattle.vp_progress.specs.Going.{goes_on, EachPasses, mends}
 use Rattle.vp_progress.specs.Whole.{AreUnspent, HasNameLeft, IsWhole}
 use Rattle.vp_progress.specs.Progress.{world_of}
-use Rattle.vp_progress.specs.Clients.{Wish, name_in, IsServed}
+use Rattle.vp_progress.specs.Clients.{Wish, name_in, FitATransaction, IsServed}
 
 -- Events that mend all sites commit nothing; those that then serve the client put one entry more into the journal, with just what
 -- it asked for, and leave a whole world.
@@ -19,8 +19,8 @@ pub record CanBeServed (s : Schedule) (q : ℕ) (wishes : List Wish) : Type 0 wh
   pub journal : journal_of (goes_on s more) ≡ journal_of s
   pub served : IsServed (goes_on s more) (sites_of s.catalogue) q wishes (IsWhole s.catalogue)
 
--- After every schedule that spends no number, a client at any site that has a name left can get any list of at most 64 reads and writes
--- of records of the catalogue committed.
+-- After every schedule that spends no number, a client at any site that has a name left can get any reads, writes and deletes of records of
+-- the catalogue committed for which one transaction has room.
 abbrev pub ClientsCanBeServed : Type 0
 ClientsCanBeServed =
     (s : Schedule) (q : ℕ) (wishes : List Wish)
@@ -28,7 +28,7 @@ ClientsCanBeServed =
     → AreUnspent (sites_of s.catalogue) (world_of s)
     → has (sites_of s.catalogue) q ≡ true
     → HasNameLeft q (world_of s)
-    → length wishes ≤ 64
+    → FitATransaction wishes
     → AllByRecursion (λ wish. is_some (find_record s.catalogue (name_in wish)) ≡ true) wishes
     → CanBeServed s q wishes
 
@@ -39,6 +39,6 @@ ShortSchedulesServe =
     → IsCatalogue s.catalogue
     → length (moments_of s) < 2 ^ 32 - 2
     → has (sites_of s.catalogue) q ≡ true
-    → length wishes ≤ 64
+    → FitATransaction wishes
     → AllByRecursion (λ wish. is_some (find_record s.catalogue (name_in wish)) ≡ true) wishes
     → CanBeServed s q wishes

@@ -8,7 +8,7 @@ use Rattle.vp_model.specs.Site.{SiteState}
 use Rattle.vp_model.specs.Refresh.{is_doubtful, refreshing_of}
 use Rattle.vp_model.specs.World.{WorldState, Schedule, site_of, is_cut}
 use Rattle.vp_progress.specs.Progress.{world_of}
-use Rattle.vp_progress.specs.Clients.{Wish, name_in, IsServed}
+use Rattle.vp_progress.specs.Clients.{Wish, name_in, FitATransaction, IsServed}
 
 -- It holds the view, and has nothing of its own or of others that goes on; its doubts are of coordinators elsewhere.
 pub record IsIdle (sites : List ℕ) (v : View) (x : SiteState) : Type 0 where
@@ -44,8 +44,8 @@ pub record StayTogether (catalogue : Catalogue) (sites : List ℕ) (w new : Worl
 abbrev pub IsGrantable : Catalogue → List ℕ → WorldState → Wish → Type 0
 IsGrantable catalogue sites w wish = (rec : ℕ) × (find_record catalogue (name_in wish) ≡ Some rec) × IsFree catalogue sites w rec
 
--- Where some sites are together, whatever the others do, a client at any of them, with a name left for a transaction, gets any list of at
--- most 64 reads and writes of free records committed.
+-- Where some sites are together, whatever the others do, a client at any of them, with a name left for a transaction, gets any reads, writes
+-- and deletes of free records committed for which one transaction has room.
 abbrev pub SitesServe : Type 0
 SitesServe =
     (s : Schedule) (sites : List ℕ) (q : ℕ) (x : SiteState) (wishes : List Wish)
@@ -53,6 +53,6 @@ SitesServe =
     → has sites q ≡ true
     → site_of (world_of s) q ≡ Some x
     → x.seq < 2 ^ 32 - 1
-    → length wishes ≤ 64
+    → FitATransaction wishes
     → AllByRecursion (IsGrantable s.catalogue sites (world_of s)) wishes
     → IsServed s sites q wishes (StayTogether s.catalogue sites (world_of s))

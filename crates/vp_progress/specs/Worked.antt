@@ -78,9 +78,9 @@ three_recovered = recovery_of three_in_doubt.catalogue (world_of three_in_doubt)
 abbrev pub all_three : View
 all_three = record { id = view 1 1; members = 1 ∷ 2 ∷ 3 ∷ [] }
 
--- the values of a site's copies
-abbrev pub values_at : Place → List (List ℕ)
-values_at place = map (λ (c : ℕ × Stored). c.1.value) place.durable.copies
+-- the contents of a site's copies
+abbrev pub contents_at : Place → List (Option (List ℕ))
+contents_at place = map (λ (c : ℕ × Stored). c.1.value) place.durable.copies
 
 abbrev pub AreInDoubt : Type 0
 AreInDoubt = map doubted_txns (world_of three_in_doubt).places ≡ [] ∷ (txn 1 1 1 ∷ []) ∷ (txn 1 1 1 ∷ []) ∷ []
@@ -96,4 +96,4 @@ AreMended = map going_on three_recovered.world.places ≡ Some (Some all_three, 
 
 -- the write that had committed is at each of them
 abbrev pub HaveValue : Type 0
-HaveValue = map values_at three_recovered.world.places ≡ (codes "11" ∷ []) ∷ (codes "11" ∷ []) ∷ (codes "11" ∷ []) ∷ []
+HaveValue = map contents_at three_recovered.world.places ≡ (Some (codes "11") ∷ []) ∷ (Some (codes "11") ∷ []) ∷ (Some (codes "11") ∷ []) ∷ []

@@ -16,17 +16,16 @@ pub fn schedules_can_mend()
     ensures short { ShortSchedulesCanMend }
 {}
 
-/// In a whole world a client at any site gets any list of at most 64 reads and writes committed: by its own calls and messages alone its
-/// transaction enters the journal, with just what was asked, and the world is whole again. So does a client of any sites that are together,
-/// for the records that are free there, whatever other sites do.
+/// In a whole world a client at any site gets any reads, writes and deletes committed for which one transaction has room: at most 64, and at
+/// most 15,360 bytes of values. By its own calls and messages alone its transaction enters the journal, with just what was asked, and the
+/// world is whole again. So does a client of any sites that are together, for the records that are free there, whatever other sites do.
 pub fn clients_are_served()
     ensures whole { WholeWorldsServe }
     ensures together { SitesServe }
 {}
 
-/// Whatever has happened, a client at any site that has a name left for a transaction gets any list of at most 64 reads and writes committed:
-/// by events that mend all sites and commit nothing, and then by its own calls and messages alone. A run of fewer than 2^32 - 2 steps leaves each
-/// site a name.
+/// Whatever has happened, a client at any site that has a name left for a transaction gets any of these committed: by events that mend all
+/// sites and commit nothing, and then by its own calls and messages alone. A run of fewer than 2^32 - 2 steps leaves each site a name.
 pub fn clients_can_be_served()
     ensures unspent { ClientsCanBeServed }
     ensures short { ShortSchedulesServe }

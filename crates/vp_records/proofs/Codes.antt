@@ -8,14 +8,18 @@ use Rattle.vp_records.specs.declared.kind.RecordKind.TheVariants as kinds
 abbrev pub kind_code : RecordKind → ℕ
 kind_code kinds.Start = 1
 kind_code kinds.Promise = 2
-kind_code kinds.Yes = 3
+kind_code kinds.Yes = 9
 kind_code kinds.Outcome = 4
-kind_code kinds.Commit = 5
-kind_code kinds.Copy = 6
+kind_code kinds.Commit = 10
+kind_code kinds.Copy = 11
 kind_code kinds.Acked = 7
-kind_code kinds.Checkpoint = 8
+kind_code kinds.Checkpoint = 12
+kind_code kinds.YesOfValues = 3
+kind_code kinds.CommitOfValues = 5
+kind_code kinds.CopyOfValue = 6
+kind_code kinds.CheckpointOfValues = 8
 
-kind_found : (kind : RecordKind) → record_kind (kind_code kind) ≡ Some kind
+pub kind_found : (kind : RecordKind) → record_kind (kind_code kind) ≡ Some kind
 kind_found kinds.Start = refl
 kind_found kinds.Promise = refl
 kind_found kinds.Yes = refl
@@ -24,6 +28,10 @@ kind_found kinds.Commit = refl
 kind_found kinds.Copy = refl
 kind_found kinds.Acked = refl
 kind_found kinds.Checkpoint = refl
+kind_found kinds.YesOfValues = refl
+kind_found kinds.CommitOfValues = refl
+kind_found kinds.CopyOfValue = refl
+kind_found kinds.CheckpointOfValues = refl
 
 pub kind_codes : Codes kind_code record_kind
-kind_codes = record { found = kind_found; only = found_only kind_code record_kinds (refl, (refl, (refl, (refl, (refl, (refl, (refl, (refl, tt)))))))); some = kinds.Start }
+kind_codes = record { only = found_only kind_code record_kinds (refl, (refl, (refl, (refl, (refl, (refl, (refl, (refl, (refl, (refl, (refl, (refl, tt)))))))))))); some = kinds.Start; there = refl }

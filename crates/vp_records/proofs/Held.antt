@@ -3,23 +3,26 @@ use Rattle.std.proofs.Common.{◌≡◌, ◌∙◌, ap, sym, ℕ, Bool, true, fa
 use Rattle.std.specs.Prelude.{◌==◌, option_copied, Result, Ok, Err, OnOk, OnErr}
 use Rattle.std.proofs.lemmas.Bool.{eqb-true}
 use Rattle.std.proofs.lemmas.Bool.Decides.{nat_tests}
-use Rattle.vp_model.specs.Types.{ViewId, Stored, LogRecord, Doubt}
+use Rattle.vp_model.specs.Types.{ViewId, Stored, Change, LogRecord, Doubt}
 use Rattle.vp_model.specs.Types.log_record
-use Rattle.vp_model.specs.Words.{has, keys, value_at, replace_at, for_each}
-use Rattle.vp_model.specs.Durable.{DurableState, doubt_of, with_writes, with_outcome, apply}
+use Rattle.vp_model.specs.Words.{has, keys, value_at, change_at, replace_at, for_each}
+use Rattle.vp_model.specs.Durable.{DurableState, changed, doubt_of, with_writes, with_outcome, apply}
 
--- a pair that is replaced keeps its number
-pub replaced_keys : {V : Type 0} (n : ℕ) (v : V) (pairs : List (ℕ × V)) → keys (replace_at n v pairs) ≡ keys pairs
-replaced_keys {V} n v [] = refl
-replaced_keys {V} n v (p ∷ pairs) = ap (λ (k : ℕ). k ∷ keys (replace_at n v pairs)) (go (p.0 == n) refl) ∙ ap (λ (ks : List ℕ). p.0 ∷ ks) (replaced_keys n v pairs)
+-- a pair that is changed keeps its number
+pub changed_keys : {V : Type 0} (n : ℕ) (f : V → V) (pairs : List (ℕ × V)) → keys (change_at n f pairs) ≡ keys pairs
+changed_keys {V} n f [] = refl
+changed_keys {V} n f (p ∷ pairs) = ap (λ (k : ℕ). k ∷ keys (change_at n f pairs)) (go (p.0 == n) refl) ∙ ap (λ (ks : List ℕ). p.0 ∷ ks) (changed_keys n f pairs)
   where
-    go : (b : Bool) → (p.0 == n) ≡ b → (cond b (n, v) p).0 ≡ p.0
+    go : (b : Bool) → (p.0 == n) ≡ b → (cond b (n, f p.1) p).0 ≡ p.0
     go true e = sym (eqb-true p.0 n e)
     go false e = refl
 
-pub written_keys : (date : ViewId) (writes : List (ℕ × List ℕ)) (copies : List (ℕ × Stored)) → keys (with_writes date writes copies) ≡ keys copies
+pub replaced_keys : {V : Type 0} (n : ℕ) (v : V) (pairs : List (ℕ × V)) → keys (replace_at n v pairs) ≡ keys pairs
+replaced_keys {V} n v pairs = changed_keys n (λ old. v) pairs
+
+pub written_keys : (date : ViewId) (writes : List (ℕ × Change)) (copies : List (ℕ × Stored)) → keys (with_writes date writes copies) ≡ keys copies
 written_keys date [] copies = refl
-written_keys date (w ∷ writes) copies = written_keys date writes (replace_at w.0 (record { value = w.1; date = date }) copies) ∙ replaced_keys w.0 (record { value = w.1; date = date }) copies
+written_keys date (w ∷ writes) copies = written_keys date writes (change_at w.0 (changed date w.1) copies) ∙ changed_keys w.0 (changed date w.1) copies
 
 pub outcome_keys : (doubt : Option Doubt) (commit : Bool) (copies : List (ℕ × Stored)) → keys (with_outcome doubt commit copies) ≡ keys copies
 outcome_keys (Some d) true copies = written_keys d.view d.writes copies
@@ -40,6 +43,10 @@ applied_keys (log_record.Commit txn view writes waiting) d = written_keys view w
 applied_keys (log_record.Copy rec stored) d = replaced_keys rec stored d.copies
 applied_keys (log_record.Acked txn site) d = refl
 applied_keys (log_record.Checkpoint generation life promise copies doubts decisions) d = restored_keys copies d.copies
+applied_keys (log_record.YesOfValues txn view writes) d = refl
+applied_keys (log_record.CommitOfValues txn view writes waiting) d = written_keys view writes d.copies
+applied_keys (log_record.CopyOfValue rec stored) d = replaced_keys rec stored d.copies
+applied_keys (log_record.CheckpointOfValues generation life promise copies doubts decisions) d = restored_keys copies d.copies
 
 -- a call changes nothing, or leaves the same records with copies
 pub held_by : {T E : Type 0} (x d n : DurableState) (result : Result T E) → keys x.copies ≡ keys d.copies → OnOk result (n ≡ x) → OnErr result (n ≡ d) → keys n.copies ≡ keys d.copies

@@ -5,7 +5,7 @@ use Rattle.vp_records.specs.declared.kind.RecordKind.{RecordKind}
 use Rattle.vp_records.specs.declared.kind.RecordKind.TheVariants as kinds
 
 abbrev pub record_kinds : List (ℕ × RecordKind)
-record_kinds = (1, kinds.Start) ∷ (2, kinds.Promise) ∷ (3, kinds.Yes) ∷ (4, kinds.Outcome) ∷ (5, kinds.Commit) ∷ (6, kinds.Copy) ∷ (7, kinds.Acked) ∷ (8, kinds.Checkpoint) ∷ []
+record_kinds = (1, kinds.Start) ∷ (2, kinds.Promise) ∷ (3, kinds.YesOfValues) ∷ (4, kinds.Outcome) ∷ (5, kinds.CommitOfValues) ∷ (6, kinds.CopyOfValue) ∷ (7, kinds.Acked) ∷ (8, kinds.CheckpointOfValues) ∷ (9, kinds.Yes) ∷ (10, kinds.Commit) ∷ (11, kinds.Copy) ∷ (12, kinds.Checkpoint) ∷ []
 
 abbrev pub record_kind : ℕ → Option RecordKind
 record_kind c = find_code record_kinds c

@@ -343,6 +343,22 @@ impl Durable {
                 doubts,
                 decisions,
             } => self.restore(*life, promise, copies, doubts, decisions),
+            LogRecord::YesOfValues { txn, view, writes } => self.vote(txn, view, writes),
+            LogRecord::CommitOfValues {
+                txn,
+                view,
+                writes,
+                waiting,
+            } => self.commit(txn, view, writes, waiting),
+            LogRecord::CopyOfValue { rec, stored } => self.set_copy(*rec, stored),
+            LogRecord::CheckpointOfValues {
+                generation: _,
+                life,
+                promise,
+                copies,
+                doubts,
+                decisions,
+            } => self.restore(*life, promise, copies, doubts, decisions),
         }
     }
 

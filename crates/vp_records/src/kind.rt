@@ -15,6 +15,10 @@ pub enum RecordKind {
     Copy,
     Acked,
     Checkpoint,
+    YesOfValues,
+    CommitOfValues,
+    CopyOfValue,
+    CheckpointOfValues,
 }
 
 impl HasCode for RecordKind {
@@ -24,12 +28,16 @@ impl HasCode for RecordKind {
         match code {
             1 => Some(RecordKind::Start),
             2 => Some(RecordKind::Promise),
-            3 => Some(RecordKind::Yes),
+            3 => Some(RecordKind::YesOfValues),
             4 => Some(RecordKind::Outcome),
-            5 => Some(RecordKind::Commit),
-            6 => Some(RecordKind::Copy),
+            5 => Some(RecordKind::CommitOfValues),
+            6 => Some(RecordKind::CopyOfValue),
             7 => Some(RecordKind::Acked),
-            8 => Some(RecordKind::Checkpoint),
+            8 => Some(RecordKind::CheckpointOfValues),
+            9 => Some(RecordKind::Yes),
+            10 => Some(RecordKind::Commit),
+            11 => Some(RecordKind::Copy),
+            12 => Some(RecordKind::Checkpoint),
             _ => None,
         }
     }

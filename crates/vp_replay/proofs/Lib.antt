@@ -1,4 +1,5 @@
 pub mod Values
+pub mod Contents
 pub mod Replays
 pub mod GeneratedCatalogue
 pub mod Making

@@ -2,7 +2,7 @@
 use Rattle.std.proofs.Common.{◌≡◌, ◌∙◌, ap, ℕ, List, [], ◌++◌, map}
 use Rattle.std.specs.Prelude.{Ok}
 use Rattle.vp_model.specs.Types.{Commit}
-use Rattle.vp_model.specs.Catalogue.{Catalogue, start_values}
+use Rattle.vp_model.specs.Catalogue.{Catalogue}
 use Rattle.vp_model.specs.OneCopy.{order}
 use Rattle.vp_model.specs.World.{Schedule}
 use Rattle.vp_model.specs.Texts.Trace.{trace_text}
@@ -18,7 +18,7 @@ use Rattle.vp_replay.specs.Replayed.{IsDone}
 
 -- the history of a journal
 abbrev pub ended : Catalogue → List Commit → List ℕ
-ended catalogue journal = history_lines (map (λ entry. entry.name) catalogue.records) (start_values catalogue) (order journal)
+ended catalogue journal = history_lines (map (λ entry. entry.name) catalogue.records) (map (λ entry. entry.start) catalogue.records) (order journal)
 
 pub replay_is_done : (s : Schedule) (ran : Ran) (mid text : List ℕ) → IsSchedule s → Runs s (Ok ran) [] mid → text ≡ mid ++ ended s.catalogue ran.commits → IsDone s text
 replay_is_done s ran mid text schedule runs e = record {

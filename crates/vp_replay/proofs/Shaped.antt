@@ -38,20 +38,20 @@ pub record IsNext (t : Newest) : Type 0 where
   pub some : 1 ≤ t.next
   pub few : t.next ≤ 65
 
-live_next : (x : Live) → IsLive x → IsNext (newest_of x)
-live_next x h = let few = h.few in let less = h.answers_few in record { txn_is = h.txn_is; some = omega arith; few = omega (arith, few, less) }
+live_next : (catalogue : Catalogue) (x : Live) → IsLive catalogue x → IsNext (newest_of x)
+live_next catalogue x h = let few = h.few in record { txn_is = h.txn_is; some = omega arith; few = omega (arith, few) }
 
-newest_next : (live : List Live) (t : Newest) → AllByRecursion IsLive live → newest live ≡ Some t → IsNext t
-newest_next [] t h e = cc
-newest_next (x ∷ []) t h e = let same : newest_of x ≡ t = cc in subst IsNext same (live_next x h.0)
-newest_next (x ∷ y ∷ live) t h e = newest_next (y ∷ live) t h.1 e
+newest_next : (catalogue : Catalogue) (live : List Live) (t : Newest) → AllByRecursion (IsLive catalogue) live → newest live ≡ Some t → IsNext t
+newest_next catalogue [] t h e = cc
+newest_next catalogue (x ∷ []) t h e = let same : newest_of x ≡ t = cc in subst IsNext same (live_next catalogue x h.0)
+newest_next catalogue (x ∷ y ∷ live) t h e = newest_next catalogue (y ∷ live) t h.1 e
 
 site_next : (catalogue : Catalogue) (w : WorldState) (id : ℕ) (t : Newest) → IsWorld catalogue w → option_and_then (λ (site : SiteState). newest site.live) (site_of w id) ≡ Some t → IsNext t
 site_next catalogue w id t h e = go (site_of w id) refl e
   where
     go : (o : Option SiteState) → site_of w id ≡ o → option_and_then (λ (site : SiteState). newest site.live) o ≡ Some t → IsNext t
     go None is q = cc
-    go (Some x) is q = newest_next x.live t (site_shaped catalogue w id x h is).coordinator_is.live_are q
+    go (Some x) is q = newest_next catalogue x.live t (site_shaped catalogue w id x h is).coordinator_is.live_are q
 
 -- ---- the events have their form
 
@@ -180,4 +180,4 @@ commits_within s k d lt j o within =
     let view = used.0 in
     let usable = used.4 operation (j, within, get_or_default e.ops j operation o within) in
     let placed = accessible_is s.catalogue (record_in operation) view.members usable in
-    rw (same_place operation, length-map s.catalogue.records (λ (entry : RecordEntry). entry.start)) placed
+    rw (same_place operation, length-map s.catalogue.records (λ (entry : RecordEntry). Some entry.start)) placed

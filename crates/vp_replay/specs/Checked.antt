@@ -1,5 +1,5 @@
 -- What the check of a history prints.
-use Rattle.std.specs.Prelude.{◌≡◌, ℕ, List, [], ◌∷◌, ◌++◌, length, slice_index_or, codes, Some, Ok, Err}
+use Rattle.std.specs.Prelude.{◌≡◌, ℕ, List, [], ◌∷◌, ◌++◌, length, map, slice_index_or, codes, Option, Some, None, Ok, Err}
 use Rattle.std.specs.Fmt.{decimal}
 use Rattle.vp_base.specs.Identifiers.{txn_text}
 use Rattle.vp_model.specs.Types.{TxnId}
@@ -13,10 +13,15 @@ use Rattle.vp_status.specs.Refused.{bad_line_text, twice_text}
 use Rattle.vp_status.specs.declared.status.Status.{Status}
 use Rattle.vp_status.specs.declared.status.Status.TheVariants as status
 
-abbrev pub value_text : List ℕ → List ℕ → List ℕ
-value_text name value = name ++ 32 ∷ (value ++ 10 ∷ [])
+-- the word and the value, or the text for none
+abbrev pub content_text : List ℕ → List ℕ → Option (List ℕ) → List ℕ
+content_text word absent None = absent
+content_text word absent (Some value) = word ++ value
 
--- each record with its value
+abbrev pub value_text : List ℕ → Option (List ℕ) → List ℕ
+value_text name value = name ++ (content_text (32 ∷ []) [] value ++ 10 ∷ [])
+
+-- each record with its value; a record without one alone
 abbrev pub values_text : List (List ℕ) → Values → List ℕ
 values_text [] values = []
 values_text (name ∷ names) [] = []
@@ -26,21 +31,22 @@ values_text (name ∷ names) (value ∷ values) = value_text name value ++ value
 abbrev pub serial_text : ℕ → List (List ℕ) → Values → List ℕ
 serial_text count names values = codes "serial " ++ (decimal count ++ 10 ∷ values_text names values)
 
--- the transaction, the index of its operation, the record, and both values
-abbrev pub difference_text : TxnId → ℕ → List ℕ → List ℕ → List ℕ → List ℕ
+-- the transaction, the index of its operation, the record, and both contents
+abbrev pub difference_text : TxnId → ℕ → List ℕ → Option (List ℕ) → Option (List ℕ) → List ℕ
 difference_text txn place name kept read =
     codes "differs "
-    ++ (txn_text txn ++ 32 ∷ (decimal place ++ 32 ∷ (name ++ (codes " kept " ++ (kept ++ (codes " read " ++ (read ++ 10 ∷ [])))))))
+    ++ (txn_text txn ++ 32 ∷ (decimal place ++ 32 ∷ (name
+    ++ (content_text (codes " kept ") (codes " absent") kept ++ (content_text (codes " read ") (codes " absent") read ++ 10 ∷ [])))))
 
 -- the history is a serial run on one copy, or has a first read of another value
 abbrev pub IsVerdict : History → Status → List ℕ → Type 0
 IsVerdict h status.Done text =
-    (values : Values) × (serial h.start h.commits ≡ Some values) × (text ≡ serial_text (length h.commits) h.names values)
+    (values : Values) × (serial (map Some h.start) h.commits ≡ Some values) × (text ≡ serial_text (length h.commits) h.names values)
 IsVerdict h status.Differs text =
     (txn : TxnId)
     × (place rec : ℕ)
-    × (kept read : List ℕ)
-    × IsFirstDifference h.start h.commits txn place rec kept read
+    × (kept read : Option (List ℕ))
+    × IsFirstDifference (map Some h.start) h.commits txn place rec kept read
     × (text ≡ difference_text txn place (slice_index_or h.names rec []) kept read)
 IsVerdict h _ text = ⊥
 

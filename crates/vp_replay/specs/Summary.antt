@@ -25,6 +25,9 @@ abbrev pub grants : Answer → Bool
 grants (answer.Begun txn view) = true
 grants (answer.Value txn number value) = true
 grants (answer.Written txn number) = true
+grants (answer.Absent txn number) = true
+grants (answer.Deleted txn number) = true
+grants (answer.Weighed txn number) = true
 grants (answer.Committed txn number) = true
 grants (answer.Aborted txn number) = true
 grants (answer.Inviting view) = true

@@ -4,11 +4,11 @@ ghost use Rattle.std.specs.Prelude.{◌≡◌, ◌++◌, ◌∷◌, [], IfOk, On
 ghost use Rattle.std.specs.Fmt.{decimal};
 ghost use Rattle.vp_base.specs.Identifiers.{txn_text};
 ghost use Rattle.vp_onecopy.specs.Passing.{IsWhole};
-ghost use Rattle.vp_replay.specs.Checked.{IsCheckAnswer, value_text, values_text, serial_text, difference_text, IsVerdict, Finds};
+ghost use Rattle.vp_replay.specs.Checked.{IsCheckAnswer, content_text, value_text, values_text, serial_text, difference_text, IsVerdict, Finds};
 
 use std::alloc::Global;
 use vp_base::{Name, NoMemory, RecId, TxnId, Value};
-use vp_onecopy::{History, HistoryFault, Verdict, check, print_name, read_history};
+use vp_onecopy::{History, HistoryFault, Map, Verdict, check, print_name, read_history};
 use vp_status::{RunOutput, Status, print_bad_line, print_twice};
 use vp_text::print_number;
 
@@ -55,7 +55,8 @@ fn judge(alloc: Global, history: &History) -> Result<RunOutput, NoMemory>
     let names = history.names.as_slice();
     let commits = history.commits.as_slice();
     let mut text = Vec::new(alloc);
-    match check(&history.start, commits)? {
+    let start = Map::starting(alloc, history.start.as_slice())?;
+    match check(&start, commits)? {
         Verdict::Serial { map } => {
             print_serial(commits.len(), names, map.as_slice(), &mut text)?;
             Ok(RunOutput {
@@ -82,7 +83,7 @@ fn judge(alloc: Global, history: &History) -> Result<RunOutput, NoMemory>
 fn print_serial(
     count: usize,
     names: &[Name],
-    values: &[Value],
+    values: &[Option<Value>],
     out: &mut Vec<u8>,
 ) -> Result<(), NoMemory>
     ensures { OnOk result (out.new.items ≡ out.old.items ++ serial_text count names.now values.now) }
@@ -93,7 +94,7 @@ fn print_serial(
     print_values(names, values, out)
 }
 
-fn print_values(names: &[Name], values: &[Value], out: &mut Vec<u8>) -> Result<(), NoMemory>
+fn print_values(names: &[Name], values: &[Option<Value>], out: &mut Vec<u8>) -> Result<(), NoMemory>
     ensures { OnOk result (out.new.items ≡ out.old.items ++ values_text names.now values.now) }
 {
     for (name, value) in names.iter().zip(values.iter()) {
@@ -102,14 +103,34 @@ fn print_values(names: &[Name], values: &[Value], out: &mut Vec<u8>) -> Result<(
     Ok(())
 }
 
-fn print_value(name: &Name, value: &Value, out: &mut Vec<u8>) -> Result<(), NoMemory>
+fn print_value(name: &Name, value: &Option<Value>, out: &mut Vec<u8>) -> Result<(), NoMemory>
     ensures { OnOk result (out.new.items ≡ out.old.items ++ value_text name.now value.now) }
 {
     name.print(out)?;
-    out.push(b' ')?;
-    value.print(out)?;
+    print_content(b" ", b"", value, out)?;
     out.push(b'\n')?;
     Ok(())
+}
+
+/// Appends `word` and the value, or `absent` where there is none.
+fn print_content(
+    word: &[u8],
+    absent: &[u8],
+    content: &Option<Value>,
+    out: &mut Vec<u8>,
+) -> Result<(), NoMemory>
+    ensures { OnOk result (out.new.items ≡ out.old.items ++ content_text word.now absent.now content.now) }
+{
+    match content {
+        None => {
+            out.extend_from_slice(absent)?;
+            Ok(())
+        }
+        Some(value) => {
+            out.extend_from_slice(word)?;
+            value.print(out)
+        }
+    }
 }
 
 fn print_difference(
@@ -117,8 +138,8 @@ fn print_difference(
     place: usize,
     names: &[Name],
     rec: RecId,
-    kept: &Value,
-    read: &Value,
+    kept: &Option<Value>,
+    read: &Option<Value>,
     out: &mut Vec<u8>,
 ) -> Result<(), NoMemory>
     ensures { OnOk result (out.new.items ≡ out.old.items
@@ -142,15 +163,14 @@ fn print_place(txn: &TxnId, place: usize, out: &mut Vec<u8>) -> Result<(), NoMem
     Ok(())
 }
 
-fn print_kept(kept: &Value, read: &Value, out: &mut Vec<u8>) -> Result<(), NoMemory>
+fn print_kept(kept: &Option<Value>, read: &Option<Value>, out: &mut Vec<u8>) -> Result<(), NoMemory>
     ensures { OnOk result
         (out.new.items ≡ out.old.items ++
-        (codes " kept " ++ (kept.now ++ (codes " read " ++ (read.now ++ 10 ∷ []))))) }
+        (content_text (codes " kept ") (codes " absent") kept.now ++
+        (content_text (codes " read ") (codes " absent") read.now ++ 10 ∷ []))) }
 {
-    out.extend_from_slice(b" kept ")?;
-    kept.print(out)?;
-    out.extend_from_slice(b" read ")?;
-    read.print(out)?;
+    print_content(b" kept ", b" absent", kept, out)?;
+    print_content(b" read ", b" absent", read, out)?;
     out.push(b'\n')?;
     Ok(())
 }

@@ -1,17 +1,16 @@
 //! Replaying a schedule: its trace and its journal.
 
 ghost use Rattle.std.specs.Prelude.{◌≡◌, ◌++◌, IfOk, OnOk, map};
-ghost use Rattle.vp_model.specs.Catalogue.{start_values};
 ghost use Rattle.vp_model.specs.OneCopy.{order};
 ghost use Rattle.vp_model.specs.Texts.History.{history_lines};
 ghost use Rattle.vp_schedule.specs.Document.{IsSchedule};
 ghost use Rattle.vp_replay.specs.Replayed.{IsReplayAnswer, Gives, StopsAt};
 
 use std::alloc::Global;
-use vp_base::{Commits, NoMemory};
+use vp_base::{Commits, NoMemory, Seq};
 use vp_catalog::Catalog;
 use vp_cluster::run;
-use vp_onecopy::{History, Map, order, print_history};
+use vp_onecopy::{History, order, print_history};
 use vp_refusals::refuse;
 use vp_schedule::{Schedule, read};
 use vp_status::{RunOutput, Status, print_limit};
@@ -69,11 +68,11 @@ fn print_end(
     out: &mut Vec<u8>,
 ) -> Result<(), NoMemory>
     ensures { OnOk result (out.new.items ≡ out.old.items
-        ++ history_lines (map (λ entry. entry.name) catalog.now.records) (start_values catalog.now) (order journal.now)) }
+        ++ history_lines (map (λ entry. entry.name) catalog.now.records) (map (λ entry. entry.start) catalog.now.records) (order journal.now)) }
 {
     let history = History {
         names: catalog.names()?,
-        start: Map::from_vec(catalog.start_values()?),
+        start: Seq::from_vec(catalog.starts()?),
         commits: order(alloc, journal.as_slice())?,
     };
     print_history(&history, out)

@@ -44,13 +44,14 @@ pub fn soaked(alloc: Global, seed: u32, count: u32) -> Result<RunOutput, NoMemor
 }
 
 /// Counts the transactions that the run committed, which the check finds serial.
+#[tactic(auto, using(crate::proofs::Contents::contents_start))]
 fn serial_commits(alloc: Global, world: &World) -> Result<usize, NoMemory>
     requires within { CommitsWithin (length (start_values world.now.catalogue))
         (order world.now.world.journal) }
     requires serial { IsSome (serial (start_values world.now.catalogue) (order world.now.world.journal)) }
     ensures { IfOk result (λ count. count ≡ length (order world.now.world.journal)) }
 {
-    let start = Map::from_vec(world.catalog().start_values()?);
+    let start = Map::starting(alloc, &world.catalog().starts()?)?;
     let commits = order(alloc, world.journal().as_slice())?;
     match check(&start, commits.as_slice())? {
         Verdict::Serial { .. } => Ok(commits.as_slice().len()),
@@ -74,6 +75,9 @@ fn is_refusal(answer: &Answer) -> bool
         Answer::Begun { .. }
         | Answer::Value { .. }
         | Answer::Written { .. }
+        | Answer::Absent { .. }
+        | Answer::Deleted { .. }
+        | Answer::Weighed { .. }
         | Answer::Committed { .. }
         | Answer::Aborted { .. }
         | Answer::Inviting { .. } => false,
@@ -82,6 +86,7 @@ fn is_refusal(answer: &Answer) -> bool
         | Answer::Skipped { .. }
         | Answer::Busy { .. }
         | Answer::NoRecord { .. }
+        | Answer::BadTable { .. }
         | Answer::TooManyOps { .. }
         | Answer::Inaccessible { .. }
         | Answer::LockHeld { .. }

@@ -1,9 +1,9 @@
 //! Worked schedules, and the texts of what stopped runs become.
 
 use std::alloc::Global;
-use vp_base::{Commits, NoMemory};
+use vp_base::{Commits, NoMemory, Seq};
 use vp_catalog::Catalog;
-use vp_onecopy::{History, Map, order, print_history};
+use vp_onecopy::{History, order, print_history};
 use vp_schedule::{Schedule, print};
 
 /// A lock that is held is named.
@@ -100,7 +100,7 @@ pub fn history_text(
 ) -> Result<Vec<u8>, NoMemory> {
     let history = History {
         names: catalog.names()?,
-        start: Map::from_vec(catalog.start_values()?),
+        start: Seq::from_vec(catalog.starts()?),
         commits: order(alloc, commits.as_slice())?,
     };
     let mut text = Vec::new(alloc);

@@ -12,6 +12,7 @@ use Rattle.vp_wire.specs.Decoded.{read_frame}
 use Rattle.vp_wire.specs.Grammar.{IsFrame, IsSpelling, frame_bytes}
 use Rattle.vp_wire.proofs.Decoded.{bytes_are_read}
 use Rattle.vp_wire.proofs.Told.{one_frame}
+use Rattle.vp_wire.proofs.CallForms.{call_in}
 use Rattle.vp_runs.specs.Arrivals.{arrival}
 use Rattle.vp_runs.specs.Asking.{answer_of, call_frame}
 use Rattle.vp_runs.specs.Laws.{MessagesArrive, CallsArrive, RepliesArrive}
@@ -62,8 +63,8 @@ messages_arrive catalogue sent port k h e =
 
 pub calls_arrive : CallsArrive
 unfolding arrival
-calls_arrive catalogue site own words s h e = rw (reads_again (call_frame site words) (refl, s, h), eq_self site, e) refl
+calls_arrive catalogue site own words s h e = rw (reads_again (call_frame site words) (omega arith, omega arith, (refl, s, call_in words h)), eq_self site, e) refl
 
 pub replies_arrive : RepliesArrive
 unfolding answer_of
-replies_arrive port site words reply s h e = rw (eq_self port, reads_again (reply_frame site reply) (s, refl, h), eq_self site, e) refl
+replies_arrive port site words reply s h e = rw (eq_self port, reads_again (reply_frame site reply) (omega arith, omega arith, (s, refl, h)), eq_self site, e) refl

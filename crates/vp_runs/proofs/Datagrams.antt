@@ -63,11 +63,11 @@ module _ (catalogue : Catalogue) (k : IsCatalogue catalogue) (id : ℕ) (listed 
 
   pub tick_comes : arrival catalogue id (datagram_to 0 (frame_of 0 id body.Tick)) ≡ arrives.Gives input.Tick
   unfolding arrival
-  tick_comes = rw (reads_again (frame_of 0 id body.Tick) (refl, own), eq_self id, no_port) refl
+  tick_comes = rw (reads_again (frame_of 0 id body.Tick) (omega arith, omega arith, (refl, own)), eq_self id, no_port) refl
 
   pub probe_comes : arrival catalogue id (datagram_to 0 (frame_of 0 id body.ProbeNow)) ≡ arrives.Gives input.Probe
   unfolding arrival
-  probe_comes = rw (reads_again (frame_of 0 id body.ProbeNow) (refl, own), eq_self id, no_port) refl
+  probe_comes = rw (reads_again (frame_of 0 id body.ProbeNow) (omega arith, omega arith, (refl, own)), eq_self id, no_port) refl
 
   pub comes : (e : Event) (w : WorldState) (given : Input) → IsEvent e → ((m : Sent) → Has w.sent m → IsFrame (message_frame m) × Has (sites_of catalogue) m.from) → Gives e w id given
       → (d : Datagram) × (arrival catalogue id d ≡ arrives.Gives given)

@@ -25,6 +25,10 @@ use Rattle.vp_wire.specs.declared.frame.Body.TheVariants as body
 use Rattle.vp_wire.specs.Decoded.{read_frame}
 use Rattle.vp_wire.specs.Grammar.{IsBody, IsFrame, IsSpelling}
 use Rattle.vp_wire.proofs.Decoded.{bytes_are_read}
+use Rattle.vp_wire.proofs.Later.{body_later}
+use Rattle.vp_wire.proofs.CallForms.{call_of}
+use Rattle.vp_contents.specs.Versions.{version_of}
+use Rattle.vp_contents.specs.declared.version.Version.TheVariants as versions
 use Rattle.vp_stable.specs.Halves.{apply_batches}
 use Rattle.vp_runs.specs.declared.arrival.Arrival.{Arrival}
 use Rattle.vp_runs.specs.declared.arrival.Arrival.TheVariants.{Bad, Stray, Stops, Gives}
@@ -36,9 +40,9 @@ use Rattle.vp_runs.specs.Laws.{IsFramed, IsTurn, TurnsAreShaped, RunsAreShaped}
 
 -- ---- what comes
 
-body_arrives : (port from to : ℕ) (b : Body) → port < 2 ^ 16 → IsBody from to b → IsArrival (arrival_in port from b)
+body_arrives : (port from to : ℕ) (b : Body) → port < 2 ^ 16 → IsBody versions.Second from to b → IsArrival (arrival_in port from b)
 body_arrives port from to (body.Message message) p h = (h.0, h.2)
-body_arrives port from to (body.Call call) p h = (p, h.2)
+body_arrives port from to (body.Call call) p h = (p, call_of call h.2)
 body_arrives port from to (body.Reply answer) p h = tt
 body_arrives port from to body.Tick p h = tt
 body_arrives port from to body.ProbeNow p h = tt
@@ -49,7 +53,7 @@ read_arrives catalogue id port bytes (Err at) p h = tt
 read_arrives catalogue id port bytes (Ok frame) p h = go (is_for catalogue id port frame) refl
   where
     go : (for_it : Bool) → is_for catalogue id port frame ≡ for_it → IsArrival (arrival_of catalogue id port (Ok frame))
-    go true e = rw e (body_arrives port frame.from frame.to frame.body p h.allowed)
+    go true e = rw e (body_arrives port frame.from frame.to frame.body p (body_later (version_of frame.version) frame.from frame.to frame.body h.allowed.2))
     go false e = rw e tt
 
 pub arrives : (catalogue : Catalogue) (id : ℕ) (d : Datagram) → d.port < 2 ^ 16 → IsArrival (arrival catalogue id d)

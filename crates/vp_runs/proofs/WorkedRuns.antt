@@ -2,7 +2,10 @@
 use Rattle.std.specs.Fmt.{digits}
 use Rattle.hex.specs.Hex.{encode_with}
 use Rattle.vp_bytes.specs.Fields.{number_bytes, view_bytes, txn_bytes}
-use Rattle.vp_bytes.specs.Reading.{some_u32_at, txn_at, numbered_at, counted_at, run_at, name_at, value_at}
+use Rattle.vp_bytes.specs.Reading.{some_u32_at, txn_at, numbered_at, counted_at, run_at, name_at}
+use Rattle.vp_bytes.specs.Ranges.{number_within_at}
+use Rattle.vp_contents.specs.Values.{length_at, value_at}
+use Rattle.vp_contents.specs.Contents.{content_at}
 use Rattle.vp_stable.specs.Log.{sized_batch}
 use Rattle.vp_wire.specs.Messages.{message_at}
 use Rattle.vp_wire.specs.Calls.{call_at}
@@ -15,7 +18,7 @@ use Rattle.vp_runs.specs.Runs.{one_turn, node_run}
 use Rattle.vp_runs.specs.Asking.{answer_of}
 
 unfoldable pub spells : Unit {0}
-unfolding digits number_bytes view_bytes txn_bytes some_u32_at txn_at numbered_at counted_at run_at name_at value_at sized_batch message_at call_at answer_at coded_call_at coded_answer_at body_at frame_at read_frame encode_with
+unfolding digits number_bytes view_bytes txn_bytes some_u32_at txn_at numbered_at counted_at run_at name_at number_within_at length_at value_at content_at sized_batch message_at call_at answer_at coded_call_at coded_answer_at body_at frame_at read_frame encode_with
 spells = tt
 
 unfoldable pub turns : Unit {0}

@@ -12,11 +12,11 @@ use Rattle.vp_model.specs.Site.{SiteState}
 use Rattle.vp_model.specs.Step.{durable_of}
 use Rattle.vp_catalog.specs.Document.{IsCatalogue}
 use Rattle.vp_records.specs.Batches.{IsBatch}
-use Rattle.vp_laws.specs.Shapes.{IsShaped}
+use Rattle.vp_laws.specs.Shapes.{IsShaped, IsAnswer}
 use Rattle.vp_laws.specs.ShapeLaws.{message_frame, reply_frame}
 use Rattle.vp_outside.specs.declared.datagram.Datagram.{Datagram}
 use Rattle.vp_wire.specs.declared.frame.Frame.{Frame}
-use Rattle.vp_wire.specs.Grammar.{IsFrame, IsSpelling, IsAnswer}
+use Rattle.vp_wire.specs.Grammar.{IsFrame, IsSpelling}
 use Rattle.vp_stable.specs.Halves.{save_batches}
 use Rattle.vp_runs.specs.declared.arrival.Arrival.TheVariants.{Gives}
 use Rattle.vp_runs.specs.Arrivals.{arrival, site_at}

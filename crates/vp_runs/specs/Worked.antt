@@ -7,6 +7,7 @@ use Rattle.vp_model.specs.Types.log_record
 use Rattle.vp_model.specs.Types.message
 use Rattle.vp_model.specs.Catalogue.{Catalogue, RecordEntry}
 use Rattle.vp_model.specs.Words.{opening}
+use Rattle.vp_model.specs.Worked.{value}
 use Rattle.vp_outside.specs.declared.datagram.Datagram.{Datagram}
 use Rattle.vp_wire.specs.declared.frame.Body.TheVariants as body
 use Rattle.vp_wire.specs.Grammar.{frame_of}
@@ -33,9 +34,10 @@ datagram_of_call words = datagram_to 7100 (call_frame 1 words)
 
 -- a client begins a transaction
 abbrev pub begin : Datagram
-begin = record { port = 7100; bytes = 86 ∷ 1 ∷ 32 ∷ 0 ∷ 1 ∷ 1 ∷ [] }
+begin = record { port = 7100; bytes = 86 ∷ 2 ∷ 32 ∷ 0 ∷ 1 ∷ 1 ∷ [] }
 
--- A call of another site, a vote that isn't from its sender's port, and bytes that are no frame; then the end, and what comes too late.
+-- A call of another site, a vote that isn't from its sender's port, and bytes that are no frame, of the first version all; then the end,
+-- and what comes too late.
 abbrev pub passed_over : List Datagram
 passed_over =
     record { port = 7100; bytes = 86 ∷ 1 ∷ 32 ∷ 0 ∷ 2 ∷ 1 ∷ [] }
@@ -59,7 +61,7 @@ commit =
 
 -- the decision waits for the other site
 abbrev pub committed_log : List (List LogRecord)
-committed_log = (log_record.Start 1 ∷ []) ∷ (log_record.Commit (txn 1) opening ((0, codes "11") ∷ []) (2 ∷ []) ∷ []) ∷ []
+committed_log = (log_record.Start 1 ∷ []) ∷ (log_record.Commit (txn 1) opening ((0, value (codes "11")) ∷ []) (2 ∷ []) ∷ []) ∷ []
 
 -- ---- an answer
 

@@ -1,6 +1,6 @@
 -- Worked schedules: what they leave in the logs.
-use Rattle.std.specs.List.{range_with_len}
-use Rattle.std.specs.Prelude.{◌+◌, ◌==◌, if◌then◌else◌, map, replicate, ℕ, List, [], ◌∷◌, ◌++◌, codes, true}
+use Rattle.std.specs.List.{range_with_len, flat_map}
+use Rattle.std.specs.Prelude.{◌+◌, ◌==◌, if◌then◌else◌, map, replicate, ℕ, List, [], ◌∷◌, ◌++◌, codes, Some, None, true}
 use Rattle.hex.specs.Hex.{encode_lower}
 use Rattle.vp_model.specs.Types.{Event, LogRecord, Stored}
 use Rattle.vp_model.specs.Types.call
@@ -8,6 +8,7 @@ use Rattle.vp_model.specs.Types.event
 use Rattle.vp_model.specs.Types.log_record
 use Rattle.vp_model.specs.Catalogue.{Catalogue}
 use Rattle.vp_model.specs.Words.{opening}
+use Rattle.vp_model.specs.Worked.{value}
 use Rattle.vp_model.specs.World.{Schedule}
 use Rattle.vp_stable.specs.Log.{open_batches}
 use Rattle.vp_runs.specs.Worked.{alone, both, txn}
@@ -51,16 +52,16 @@ decision =
     ∷ [])
 
 abbrev pub left_at_one : List (List LogRecord)
-left_at_one = start_batch 1 ∷ (log_record.Commit (txn 1) opening ((0, codes "11") ∷ []) (2 ∷ []) ∷ []) ∷ (log_record.Acked (txn 1) 2 ∷ []) ∷ []
+left_at_one = start_batch 1 ∷ (log_record.Commit (txn 1) opening ((0, value (codes "11")) ∷ []) (2 ∷ []) ∷ []) ∷ (log_record.Acked (txn 1) 2 ∷ []) ∷ []
 
 abbrev pub left_at_two : List (List LogRecord)
-left_at_two = start_batch 1 ∷ (log_record.Yes (txn 1) opening ((0, codes "11") ∷ []) ∷ []) ∷ (log_record.Outcome (txn 1) true ∷ []) ∷ []
+left_at_two = start_batch 1 ∷ (log_record.Yes (txn 1) opening ((0, value (codes "11")) ∷ []) ∷ []) ∷ (log_record.Outcome (txn 1) true ∷ []) ∷ []
 
 -- ---- a checkpoint
 
--- 64 records at one site, each named by one byte
+-- 4 records at one site, each named by one byte
 abbrev pub numbers : List ℕ
-numbers = range_with_len 0 64
+numbers = range_with_len 0 4
 
 abbrev pub many : Catalogue
 many = record { sites = (1, 7001) ∷ []; records = map (λ n. record { name = (n + 48) ∷ []; start = codes "0"; weights = (1, 1) ∷ [] }) numbers }
@@ -69,23 +70,22 @@ abbrev pub long : ℕ → List ℕ
 long n = replicate n 97
 
 -- a transaction that writes a value of this length to each record
-abbrev pub filling : ℕ → (ℕ → ℕ) → List Event
-filling seq lengths =
+abbrev pub filling : (ℕ → ℕ) → ℕ → List Event
+filling lengths seq =
     event.Call 1 call.Begin
     ∷ (map (λ n. event.Call 1 (call.Write (txn seq) (n + 1) ((n + 48) ∷ []) (long (lengths n)))) numbers
-    ++ event.Call 1 (call.Commit (txn seq) 65) ∷ [])
+    ++ event.Call 1 (call.Commit (txn seq) 5) ∷ [])
 
 abbrev pub last_lengths : ℕ → ℕ
-last_lengths n = if n == 0 then 235 else 249
+last_lengths n = if n == 0 then 820 else 818
 
 -- The log is 65,529 bytes long, and 65,543 with the start of the next life: a checkpoint is due then, and made by the next step.
 abbrev pub filling_events : List Event
 filling_events =
-    filling 1 (λ n. 255)
-    ++ (filling 2 (λ n. 255) ++ (filling 3 (λ n. 255) ++ (filling 4 last_lengths ++ event.Crash 1 ∷ event.Restart 1 ∷ [])))
+    flat_map (filling (λ n. 1024)) (range_with_len 1 15) ++ (filling last_lengths 16 ++ event.Crash 1 ∷ event.Restart 1 ∷ [])
 
 abbrev pub saved_copies : List (ℕ × Stored)
-saved_copies = map (λ n. (n, record { value = long (last_lengths n); date = opening })) numbers
+saved_copies = map (λ n. (n, record { value = Some (long (last_lengths n)); table = None; date = opening })) numbers
 
 abbrev pub saved_log : List (List LogRecord)
 saved_log = (log_record.Checkpoint 1 2 (record { number = 1; site = 1 }) saved_copies [] [] ∷ []) ∷ []

@@ -1,5 +1,5 @@
 -- Worked schedules, and what they become where a site stops within a step.
-use Rattle.std.specs.Prelude.{List, [], ◌∷◌, codes}
+use Rattle.std.specs.Prelude.{List, [], ◌∷◌, Some, codes}
 use Rattle.vp_model.specs.Types.{Event, Commit}
 use Rattle.vp_model.specs.Types.call
 use Rattle.vp_model.specs.Types.event
@@ -61,7 +61,7 @@ with_decision =
     ∷ []
 
 abbrev pub one_commit : List Commit
-one_commit = record { txn = txn 1; view = opening; ops = op.Write 0 (codes "11") ∷ [] } ∷ []
+one_commit = record { txn = txn 1; view = opening; ops = op.Write 0 (Some (codes "11")) ∷ []; tables = [] } ∷ []
 
 abbrev pub restart_schedule : Schedule
 restart_schedule = record { catalogue = both; events = event.Crash 1 ∷ event.Restart 1 ∷ [] }

@@ -12,7 +12,7 @@ ghost use Rattle.vp_runs.specs.Worked as worked;
 /// The recording of a begin at a site that is alone, with the bytes of its reply.
 pub fn a_begin()
     ensures { recorded_bytes (node_run worked.alone 1 [] (worked.begin ∷ [])) ++ end_line
-        ≡ codes "start 1\nin 560120000101\nout 560121010001010000000100000001000000000000000000\nend\n" }
+        ≡ codes "start 1\nin 560220000101\nout 560221010001010000000100000001000000000000000000\nend\n" }
 {}
 
 /// Frames for another site or from a wrong port are stray, other bytes bad; after a stop nothing is done.

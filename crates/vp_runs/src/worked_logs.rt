@@ -27,7 +27,7 @@ pub fn a_decision_of_two_sites()
 
 /// A restart makes no checkpoint, though one is due then; the next step that forces a record makes it.
 pub fn a_checkpoint_after_a_restart()
-    ensures none { length (kept (worked.over worked.many worked.filling_events) 1) ≡ 6 }
+    ensures none { length (kept (worked.over worked.many worked.filling_events) 1) ≡ 18 }
     ensures one { kept (worked.over worked.many (worked.filling_events ++ event.Call 1 call.Regroup ∷ [])) 1 ≡
         worked.saved_log }
 {}

@@ -22,7 +22,7 @@ use Rattle.vp_model.specs.Types.{TxnId, Call}
 use Rattle.vp_model.specs.Types.call
 use Rattle.vp_base.specs.Calls.{IsNumbered}
 use Rattle.vp_schedule.specs.Grammar.{IsCallText}
-use Rattle.vp_schedule.specs.Reading.{begin_at, regroup_at, bare_at, read_at, write_at, commit_at, abort_at, ending_at, change_at, deed_at, numbered_at, call_at}
+use Rattle.vp_schedule.specs.Reading.{begin_at, regroup_at, bare_at, read_at, write_at, delete_at, commit_at, abort_at, ending_at, removal_at, change_at, deed_at, numbered_at, call_at}
 
 -- ---- the parts of each call
 
@@ -41,6 +41,9 @@ ReadParts txn number = Then (IsLiteral (codes " read ")) (λ _. Made IsName (λ 
 abbrev WriteParts : TxnId → ℕ → Call → List ℕ → Type 0
 WriteParts txn number = Then (IsLiteral (codes " write ")) (λ _. Then IsName (λ name. Then (IsLiteral (32 ∷ [])) (λ _. Made IsValue (λ value. call.Write txn number name value))))
 
+abbrev DeleteParts : TxnId → ℕ → Call → List ℕ → Type 0
+DeleteParts txn number = Then (IsLiteral (codes " delete ")) (λ _. Made IsName (λ name. call.Delete txn number name))
+
 abbrev CommitParts : TxnId → ℕ → Call → List ℕ → Type 0
 CommitParts txn number = Made (IsLiteral (codes " commit")) (λ (u : Unit {0}). call.Commit txn number)
 
@@ -50,8 +53,11 @@ AbortParts txn number = Made (IsLiteral (codes " abort")) (λ (u : Unit {0}). ca
 abbrev EndingParts : TxnId → ℕ → Call → List ℕ → Type 0
 EndingParts txn number = Either (CommitParts txn number) (AbortParts txn number)
 
+abbrev RemovalParts : TxnId → ℕ → Call → List ℕ → Type 0
+RemovalParts txn number = Either (DeleteParts txn number) (EndingParts txn number)
+
 abbrev ChangeParts : TxnId → ℕ → Call → List ℕ → Type 0
-ChangeParts txn number = Either (WriteParts txn number) (EndingParts txn number)
+ChangeParts txn number = Either (WriteParts txn number) (RemovalParts txn number)
 
 abbrev DeedParts : TxnId → ℕ → Call → List ℕ → Type 0
 DeedParts txn number = Either (ReadParts txn number) (ChangeParts txn number)
@@ -76,6 +82,9 @@ opens_read txn number = literal_opens (codes " read ")
 opens_write : (txn : TxnId) (number : ℕ) → Opens (codes " write ") (WriteParts txn number)
 opens_write txn number = literal_opens (codes " write ")
 
+opens_delete : (txn : TxnId) (number : ℕ) → Opens (codes " delete ") (DeleteParts txn number)
+opens_delete txn number = literal_opens (codes " delete ")
+
 opens_commit : (txn : TxnId) (number : ℕ) → Opens (codes " commit") (CommitParts txn number)
 opens_commit txn number = made_opens (codes " commit")
 
@@ -94,29 +103,47 @@ clear_commit txn number = clear_keys (codes " commit") (codes " abort") refl (op
 clear_abort : (txn : TxnId) (number : ℕ) → IsClear (AbortParts txn number) (CommitParts txn number)
 clear_abort txn number = clear_keys (codes " abort") (codes " commit") refl (opens_abort txn number) (opens_commit txn number)
 
-clear_write : (txn : TxnId) (number : ℕ) → IsClear (WriteParts txn number) (EndingParts txn number)
-clear_write txn number = clear_or (WriteParts txn number) (CommitParts txn number) (AbortParts txn number)
-    (clear_keys (codes " write ") (codes " commit") refl (opens_write txn number) (opens_commit txn number))
-    (clear_keys (codes " write ") (codes " abort") refl (opens_write txn number) (opens_abort txn number))
+clear_delete : (txn : TxnId) (number : ℕ) → IsClear (DeleteParts txn number) (EndingParts txn number)
+clear_delete txn number = clear_or (DeleteParts txn number) (CommitParts txn number) (AbortParts txn number)
+    (clear_keys (codes " delete ") (codes " commit") refl (opens_delete txn number) (opens_commit txn number))
+    (clear_keys (codes " delete ") (codes " abort") refl (opens_delete txn number) (opens_abort txn number))
 
-clear_ending : (txn : TxnId) (number : ℕ) → IsClear (EndingParts txn number) (WriteParts txn number)
-clear_ending txn number = or_clear (WriteParts txn number) (CommitParts txn number) (AbortParts txn number)
+clear_ending : (txn : TxnId) (number : ℕ) → IsClear (EndingParts txn number) (DeleteParts txn number)
+clear_ending txn number = or_clear (DeleteParts txn number) (CommitParts txn number) (AbortParts txn number)
+    (clear_keys (codes " commit") (codes " delete ") refl (opens_commit txn number) (opens_delete txn number))
+    (clear_keys (codes " abort") (codes " delete ") refl (opens_abort txn number) (opens_delete txn number))
+
+clear_write : (txn : TxnId) (number : ℕ) → IsClear (WriteParts txn number) (RemovalParts txn number)
+clear_write txn number = clear_or (WriteParts txn number) (DeleteParts txn number) (EndingParts txn number)
+    (clear_keys (codes " write ") (codes " delete ") refl (opens_write txn number) (opens_delete txn number))
+    (clear_or (WriteParts txn number) (CommitParts txn number) (AbortParts txn number)
+    (clear_keys (codes " write ") (codes " commit") refl (opens_write txn number) (opens_commit txn number))
+    (clear_keys (codes " write ") (codes " abort") refl (opens_write txn number) (opens_abort txn number)))
+
+clear_removal : (txn : TxnId) (number : ℕ) → IsClear (RemovalParts txn number) (WriteParts txn number)
+clear_removal txn number = or_clear (WriteParts txn number) (DeleteParts txn number) (EndingParts txn number)
+    (clear_keys (codes " delete ") (codes " write ") refl (opens_delete txn number) (opens_write txn number))
+    (or_clear (WriteParts txn number) (CommitParts txn number) (AbortParts txn number)
     (clear_keys (codes " commit") (codes " write ") refl (opens_commit txn number) (opens_write txn number))
-    (clear_keys (codes " abort") (codes " write ") refl (opens_abort txn number) (opens_write txn number))
+    (clear_keys (codes " abort") (codes " write ") refl (opens_abort txn number) (opens_write txn number)))
 
 clear_read : (txn : TxnId) (number : ℕ) → IsClear (ReadParts txn number) (ChangeParts txn number)
-clear_read txn number = clear_or (ReadParts txn number) (WriteParts txn number) (EndingParts txn number)
+clear_read txn number = clear_or (ReadParts txn number) (WriteParts txn number) (RemovalParts txn number)
     (clear_keys (codes " read ") (codes " write ") refl (opens_read txn number) (opens_write txn number))
+    (clear_or (ReadParts txn number) (DeleteParts txn number) (EndingParts txn number)
+    (clear_keys (codes " read ") (codes " delete ") refl (opens_read txn number) (opens_delete txn number))
     (clear_or (ReadParts txn number) (CommitParts txn number) (AbortParts txn number)
     (clear_keys (codes " read ") (codes " commit") refl (opens_read txn number) (opens_commit txn number))
-    (clear_keys (codes " read ") (codes " abort") refl (opens_read txn number) (opens_abort txn number)))
+    (clear_keys (codes " read ") (codes " abort") refl (opens_read txn number) (opens_abort txn number))))
 
 clear_change : (txn : TxnId) (number : ℕ) → IsClear (ChangeParts txn number) (ReadParts txn number)
-clear_change txn number = or_clear (ReadParts txn number) (WriteParts txn number) (EndingParts txn number)
+clear_change txn number = or_clear (ReadParts txn number) (WriteParts txn number) (RemovalParts txn number)
     (clear_keys (codes " write ") (codes " read ") refl (opens_write txn number) (opens_read txn number))
+    (or_clear (ReadParts txn number) (DeleteParts txn number) (EndingParts txn number)
+    (clear_keys (codes " delete ") (codes " read ") refl (opens_delete txn number) (opens_read txn number))
     (or_clear (ReadParts txn number) (CommitParts txn number) (AbortParts txn number)
     (clear_keys (codes " commit") (codes " read ") refl (opens_commit txn number) (opens_read txn number))
-    (clear_keys (codes " abort") (codes " read ") refl (opens_abort txn number) (opens_read txn number)))
+    (clear_keys (codes " abort") (codes " read ") refl (opens_abort txn number) (opens_read txn number))))
 
 -- ---- a call on a transaction begins with a digit, and the others don't
 
@@ -166,9 +193,12 @@ deed_outside txn number = λ words t h. elim h [
   | inl r ↦ literal_outside is_digit (codes " read ") refl words t r
   | inr c ↦ elim c [
     | inl w ↦ literal_outside is_digit (codes " write ") refl words t w
-    | inr e ↦ elim e [
-      | inl m ↦ made_outside is_digit (codes " commit") refl words t m
-      | inr a ↦ made_outside is_digit (codes " abort") refl words t a
+    | inr v ↦ elim v [
+      | inl d ↦ literal_outside is_digit (codes " delete ") refl words t d
+      | inr e ↦ elim e [
+        | inl m ↦ made_outside is_digit (codes " commit") refl words t m
+        | inr a ↦ made_outside is_digit (codes " abort") refl words t a
+      ]
     ]
   ]
 ]
@@ -197,6 +227,10 @@ write_exact txn number =
     literal_then (codes " write ") (word_then (has classes.Name) (most classes.Name) 97 refl (omega arith) (λ name. literal_outside (has classes.Name) (32 ∷ []) refl)
     (λ name. literal_then (32 ∷ []) (made_exact (λ value. call.Write txn number name value) (class_exact classes.Value))))
 
+delete_exact : (txn : TxnId) (number : ℕ) → Exact (DeleteParts txn number) (delete_at txn number)
+unfolding delete_at
+delete_exact txn number = literal_then (codes " delete ") (made_exact (λ name. call.Delete txn number name) (class_exact classes.Name))
+
 commit_exact : (txn : TxnId) (number : ℕ) → Exact (CommitParts txn number) (commit_at txn number)
 unfolding commit_at
 commit_exact txn number = made_exact (λ (u : Unit {0}). call.Commit txn number) (literal_exact (codes " commit"))
@@ -209,9 +243,13 @@ ending_exact : (txn : TxnId) (number : ℕ) → Exact (EndingParts txn number) (
 unfolding ending_at
 ending_exact txn number = either_exact (clear_commit txn number) (clear_abort txn number) (commit_exact txn number) (abort_exact txn number)
 
+removal_exact : (txn : TxnId) (number : ℕ) → Exact (RemovalParts txn number) (removal_at txn number)
+unfolding removal_at
+removal_exact txn number = either_exact (clear_delete txn number) (clear_ending txn number) (delete_exact txn number) (ending_exact txn number)
+
 change_exact : (txn : TxnId) (number : ℕ) → Exact (ChangeParts txn number) (change_at txn number)
 unfolding change_at
-change_exact txn number = either_exact (clear_write txn number) (clear_ending txn number) (write_exact txn number) (ending_exact txn number)
+change_exact txn number = either_exact (clear_write txn number) (clear_removal txn number) (write_exact txn number) (removal_exact txn number)
 
 deed_exact : (txn : TxnId) (number : ℕ) → Exact (DeedParts txn number) (deed_at txn number)
 unfolding deed_at
@@ -241,15 +279,15 @@ word_self {has = has} {most = most} word t h = subst (λ (x : List ℕ). IsWord 
 
 bare_to : (words : Call) (t : List ℕ) → BareParts words t → IsCallText words t
 bare_to words t h = elim h [
-  | inl b ↦ subst (λ (w : Call). IsCallText w t) (sym b.is) (record { is = b.spelled; allowed = tt })
-  | inr r ↦ subst (λ (w : Call). IsCallText w t) (sym r.is) (record { is = r.spelled; allowed = tt })
+  | inl b ↦ subst (λ (w : Call). IsCallText w t) (sym b.is) (record { is = b.spelled; allowed = tt; readable = tt })
+  | inr r ↦ subst (λ (w : Call). IsCallText w t) (sym r.is) (record { is = r.spelled; allowed = tt; readable = tt })
 ]
 
 deed_to : (txn : TxnId) (number : ℕ) (words : Call) (deed t : List ℕ) → Named txn number deed t → DeedParts txn number words deed → IsCallText words t
 deed_to txn number words deed t n h = elim h [
   | inl r ↦
       let v = r.after in
-      subst (λ (w : Call). IsCallText w t) (sym v.is) (record { is = n.1 ∙ rw (r.parts, r.before, ← v.spelled.is) refl; allowed = (n.0, word_self v.from r.back v.spelled) })
+      subst (λ (w : Call). IsCallText w t) (sym v.is) (record { is = n.1 ∙ rw (r.parts, r.before, ← v.spelled.is) refl; allowed = (n.0, word_self v.from r.back v.spelled); readable = tt })
   | inr c ↦ elim c [
     | inl w ↦
         let name = w.after in
@@ -257,10 +295,16 @@ deed_to txn number words deed t n h = elim h [
         subst (λ (w : Call). IsCallText w t) (sym v.is) (record {
           is = n.1 ∙ rw (w.parts, w.before, name.parts, ← name.before.is, name.after.parts, name.after.before, ← v.spelled.is) refl;
           allowed = (n.0, word_self name.first name.front name.before, word_self v.from name.after.back v.spelled);
+          readable = tt;
         })
-    | inr e ↦ elim e [
-      | inl m ↦ subst (λ (w : Call). IsCallText w t) (sym m.is) (record { is = n.1 ∙ rw m.spelled refl; allowed = n.0 })
-      | inr a ↦ subst (λ (w : Call). IsCallText w t) (sym a.is) (record { is = n.1 ∙ rw a.spelled refl; allowed = n.0 })
+    | inr v ↦ elim v [
+      | inl d ↦
+          let v = d.after in
+          subst (λ (w : Call). IsCallText w t) (sym v.is) (record { is = n.1 ∙ rw (d.parts, d.before, ← v.spelled.is) refl; allowed = (n.0, word_self v.from d.back v.spelled); readable = tt })
+      | inr e ↦ elim e [
+        | inl m ↦ subst (λ (w : Call). IsCallText w t) (sym m.is) (record { is = n.1 ∙ rw m.spelled refl; allowed = n.0; readable = tt })
+        | inr a ↦ subst (λ (w : Call). IsCallText w t) (sym a.is) (record { is = n.1 ∙ rw a.spelled refl; allowed = n.0; readable = tt })
+      ]
     ]
   ]
 ]
@@ -318,10 +362,14 @@ call_from (call.Write txn number name value) t h =
         after = record { first = tt; front = 32 ∷ []; back = value; before = refl; parts = refl; after = record { from = value; spelled = h.allowed.2; is = refl } };
       };
     }))))
+call_from (call.Delete txn number name) t h =
+    inr (numbered_from txn number (call.Delete txn number name) (codes " delete " ++ name) t (h.allowed.0, h.is)
+    (inr (inr (inl (record { first = tt; front = codes " delete "; back = name; before = refl; parts = refl; after = record { from = name; spelled = h.allowed.1; is = refl } })))))
+call_from (call.Weigh txn number name table) t h = absurd h.readable
 call_from (call.Commit txn number) t h =
-    inr (numbered_from txn number (call.Commit txn number) (codes " commit") t (h.allowed, h.is) (inr (inr (inl (record { from = tt; spelled = refl; is = refl })))))
+    inr (numbered_from txn number (call.Commit txn number) (codes " commit") t (h.allowed, h.is) (inr (inr (inr (inl (record { from = tt; spelled = refl; is = refl }))))))
 call_from (call.Abort txn number) t h =
-    inr (numbered_from txn number (call.Abort txn number) (codes " abort") t (h.allowed, h.is) (inr (inr (inr (record { from = tt; spelled = refl; is = refl })))))
+    inr (numbered_from txn number (call.Abort txn number) (codes " abort") t (h.allowed, h.is) (inr (inr (inr (inr (record { from = tt; spelled = refl; is = refl }))))))
 
 pub call_exact : Exact IsCallText call_at
 unfolding call_at

@@ -17,6 +17,7 @@ use Rattle.vp_model.specs.Texts.Fields.{call_name_text}
 use Rattle.vp_catalog.specs.Sites.{AllSites}
 use Rattle.vp_catalog.proofs.Sites.{site_range}
 use Rattle.vp_base.specs.Calls.{IsNumbered, IsCall}
+use Rattle.vp_schedule.specs.Grammar.{IsReadable}
 use Rattle.vp_schedule.specs.Events.{IsListed, IsEvent, IsEventText}
 use Rattle.vp_schedule.proofs.Exact.{in_line}
 
@@ -26,14 +27,16 @@ numbered_clean : (txn : TxnId) (number : ℕ) → IsNumbered txn number → (dee
 numbered_clean txn number h deed d =
     both (call_name_text txn number) deed (both (txn_text txn) (32 ∷ decimal number) (txn_clean txn (txn_text txn) (record { is = refl; allowed = h.txn_is })) (λ e. omega arith, decimal_clean number (omega (arith, h.fits)))) d
 
-call_clean : (words : Call) → IsCall words → HasNoNewline (call_text words)
-call_clean call.Begin h = key_clean (codes "begin") refl
-call_clean call.Regroup h = key_clean (codes "regroup") refl
-call_clean (call.Read txn number name) h = numbered_clean txn number h.0 (codes " read " ++ name) (both (codes " read ") name (key_clean (codes " read ") refl) (name_clean name h.1))
-call_clean (call.Write txn number name value) h =
+call_clean : (words : Call) → IsCall words → IsReadable words → HasNoNewline (call_text words)
+call_clean call.Begin h r = key_clean (codes "begin") refl
+call_clean call.Regroup h r = key_clean (codes "regroup") refl
+call_clean (call.Read txn number name) h r = numbered_clean txn number h.0 (codes " read " ++ name) (both (codes " read ") name (key_clean (codes " read ") refl) (name_clean name h.1))
+call_clean (call.Write txn number name value) h r =
     numbered_clean txn number h.0 (codes " write " ++ (name ++ 32 ∷ value)) (both (codes " write ") (name ++ 32 ∷ value) (key_clean (codes " write ") refl) (both name (32 ∷ value) (name_clean name h.1) (λ e. omega arith, value_clean value h.2)))
-call_clean (call.Commit txn number) h = numbered_clean txn number h (codes " commit") (key_clean (codes " commit") refl)
-call_clean (call.Abort txn number) h = numbered_clean txn number h (codes " abort") (key_clean (codes " abort") refl)
+call_clean (call.Delete txn number name) h r = numbered_clean txn number h.0 (codes " delete " ++ name) (both (codes " delete ") name (key_clean (codes " delete ") refl) (name_clean name h.1))
+call_clean (call.Weigh txn number name table) h r = absurd r
+call_clean (call.Commit txn number) h r = numbered_clean txn number h (codes " commit") (key_clean (codes " commit") refl)
+call_clean (call.Abort txn number) h r = numbered_clean txn number h (codes " abort") (key_clean (codes " abort") refl)
 
 -- ---- events
 
@@ -48,7 +51,7 @@ pair_clean sites all word e a b h k = both word (decimal a ++ 32 ∷ decimal b) 
 
 event_clean : (sites : List ℕ) → AllSites sites → (e : Event) → IsEvent sites e → HasNoNewline (event_text e)
 event_clean sites all (event.Call site words) h =
-    both (codes "call ") (decimal site ++ 32 ∷ call_text words) (key_clean (codes "call ") refl) (both (decimal site) (32 ∷ call_text words) (site_clean sites all site h.0) (λ same. omega arith, call_clean words h.1))
+    both (codes "call ") (decimal site ++ 32 ∷ call_text words) (key_clean (codes "call ") refl) (both (decimal site) (32 ∷ call_text words) (site_clean sites all site h.0) (λ same. omega arith, call_clean words h.1 h.2))
 event_clean sites all (event.Deliver k) h = both (codes "deliver ") (decimal k) (key_clean (codes "deliver ") refl) (decimal_clean k (omega (arith, h.1)))
 event_clean sites all (event.Flow count) h = both (codes "flow ") (decimal count) (key_clean (codes "flow ") refl) (decimal_clean count (omega (arith, h.1)))
 event_clean sites all (event.Tick site) h = word_site_clean sites all (codes "tick ") refl site h

@@ -38,6 +38,12 @@ write_at txn number bytes = do
   value ← word_at (has classes.Value) (most classes.Value) space.1
   Ok (call.Write txn number name.0 value.0, value.1)
 
+unfoldable pub delete_at : TxnId → ℕ → List ℕ → Result (Call × List ℕ) ℕ
+delete_at txn number bytes = do
+  key ← literal_at (codes " delete ") bytes
+  name ← word_at (has classes.Name) (most classes.Name) key.1
+  Ok (call.Delete txn number name.0, name.1)
+
 unfoldable pub commit_at : TxnId → ℕ → List ℕ → Result (Call × List ℕ) ℕ
 commit_at txn number bytes = do
   key ← literal_at (codes " commit") bytes
@@ -51,8 +57,11 @@ abort_at txn number bytes = do
 unfoldable pub ending_at : TxnId → ℕ → List ℕ → Result (Call × List ℕ) ℕ
 ending_at txn number bytes = either (commit_at txn number bytes) (abort_at txn number bytes)
 
+unfoldable pub removal_at : TxnId → ℕ → List ℕ → Result (Call × List ℕ) ℕ
+removal_at txn number bytes = either (delete_at txn number bytes) (ending_at txn number bytes)
+
 unfoldable pub change_at : TxnId → ℕ → List ℕ → Result (Call × List ℕ) ℕ
-change_at txn number bytes = either (write_at txn number bytes) (ending_at txn number bytes)
+change_at txn number bytes = either (write_at txn number bytes) (removal_at txn number bytes)
 
 unfoldable pub deed_at : TxnId → ℕ → List ℕ → Result (Call × List ℕ) ℕ
 deed_at txn number bytes = either (read_at txn number bytes) (change_at txn number bytes)

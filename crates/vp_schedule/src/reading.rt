@@ -5,7 +5,7 @@ ghost use Rattle.vp_text.specs.Meaning.{Answers};
 ghost use Rattle.vp_text.specs.Reading.{Reads, Tries, whole, number_at};
 ghost use Rattle.vp_base.specs.Faults.{name_place, line_left};
 ghost use Rattle.vp_schedule.specs.Grammar.{IsCallText};
-ghost use Rattle.vp_schedule.specs.Reading.{begin_at, regroup_at, bare_at, read_at, write_at, commit_at, abort_at, ending_at, change_at, deed_at, numbered_at, call_at};
+ghost use Rattle.vp_schedule.specs.Reading.{begin_at, regroup_at, bare_at, read_at, write_at, delete_at, removal_at, commit_at, abort_at, ending_at, change_at, deed_at, numbered_at, call_at};
 
 use std::alloc::Global;
 use vp_base::{Call, CallNo, LineFault, Name, NameFault, TxnId, Value};
@@ -150,7 +150,49 @@ fn parse_read(
     })
 }
 
-/// Reads a write, or the end of a transaction.
+#[tactic(auto, unfolding(crate::specs::Reading::delete_at))]
+fn parse_delete(
+    alloc: Global,
+    cursor: &mut Cursor,
+    txn: &TxnId,
+    number: CallNo,
+) -> Result<Call, LineFault>
+    ensures { Tries (λ c. c) line_left result cursor.new (delete_at txn.now number cursor.old) }
+{
+    cursor.literal(b" delete ")?;
+    let name = Name::parse(alloc, cursor)?;
+    Ok(Call::Delete {
+        txn: *txn,
+        number,
+        name,
+    })
+}
+
+/// Reads a delete, or the end of a transaction.
+#[tactic(auto, unfolding(crate::specs::Reading::removal_at))]
+fn parse_removal(
+    alloc: Global,
+    cursor: &mut Cursor,
+    txn: &TxnId,
+    number: CallNo,
+) -> Result<Call, LineFault>
+    ensures { Tries (λ c. c) line_left result cursor.new (removal_at txn.now number cursor.old) }
+{
+    let mut other = cursor.fork();
+    match parse_delete(alloc, cursor, txn, number) {
+        Ok(call) => Ok(call),
+        Err(LineFault::NoMemory) => Err(LineFault::NoMemory),
+        Err(LineFault::Unexpected(first)) => match parse_ending(&mut other, txn, number) {
+            Ok(call) => {
+                *cursor = other;
+                Ok(call)
+            }
+            Err(second) => Err(LineFault::Unexpected(first.farther(second))),
+        },
+    }
+}
+
+/// Reads a write, a delete, or the end of a transaction.
 #[tactic(auto, unfolding(crate::specs::Reading::change_at))]
 fn parse_change(
     alloc: Global,
@@ -164,12 +206,13 @@ fn parse_change(
     match parse_write(alloc, cursor, txn, number) {
         Ok(call) => Ok(call),
         Err(LineFault::NoMemory) => Err(LineFault::NoMemory),
-        Err(LineFault::Unexpected(first)) => match parse_ending(&mut other, txn, number) {
+        Err(LineFault::Unexpected(first)) => match parse_removal(alloc, &mut other, txn, number) {
             Ok(call) => {
                 *cursor = other;
                 Ok(call)
             }
-            Err(second) => Err(LineFault::Unexpected(first.farther(second))),
+            Err(LineFault::NoMemory) => Err(LineFault::NoMemory),
+            Err(LineFault::Unexpected(second)) => Err(LineFault::Unexpected(first.farther(second))),
         },
     }
 }

@@ -80,7 +80,7 @@ pub fn on_message(
         Message::ReadAnswer { txn, number, value } => {
             stepped
                 .coordinator
-                .on_read_answer(&came, txn, *number, value.as_ref())
+                .on_read_answer(&came, txn, *number, value)
         }
         Message::WriteAnswer { txn, number } => stepped
             .coordinator

@@ -15,8 +15,9 @@ ghost use Rattle.vp_site.specs.Requests.{answer_request};
 ghost use Rattle.vp_site.specs.Ballots.{with_ballot};
 
 use crate::stepped::Stepped;
+use std::alloc::Global;
 use vp_base::{
-    Boxed, CallNo, LogRecord, Message, NoMemory, Obstacle, SiteId, TxnId, ViewId, Writes,
+    Boxed, CallNo, LogRecord, Message, NoMemory, Obstacle, SiteId, TxnId, Value, ViewId, Writes,
 };
 use vp_catalog::Catalog;
 use vp_participant::{PartFault, Prepare, PrepareFault, Request, Settled, Voted};
@@ -89,7 +90,7 @@ impl Stepped {
         )
     }
 
-    /// Takes a shared lock on the copy of the record here, and answers with its value.
+    /// Takes a shared lock on the copy of the record here, and answers with its content.
     #[tactic(auto, unfolding(vp_model::specs::Messages::on_read_request, vp_model::specs::Messages::on_request, vp_model::specs::Messages::lock_copy))]
     pub fn on_read_request(&mut self, from: SiteId, request: &Request) -> Result<(), NoMemory>
         ensures { OnOk result (self.new ≡
@@ -99,7 +100,7 @@ impl Stepped {
         match self.copy_here(request.rec)? {
             None => self.pass_over(request, from),
             Some(stored) => {
-                let value = Boxed::new(self.allocator(), stored.into_value())?;
+                let value = in_box(self.allocator(), stored.into_value())?;
                 self.grant(
                     request,
                     false,
@@ -110,7 +111,7 @@ impl Stepped {
         }
     }
 
-    /// Takes an exclusive lock on the copy of the record here. The value comes later, with the transaction's prepare message.
+    /// Takes an exclusive lock on the copy of the record here. What it becomes comes later, with the transaction's prepare message.
     #[tactic(auto, unfolding(vp_model::specs::Messages::on_write_request, vp_model::specs::Messages::on_request, vp_model::specs::Messages::lock_copy))]
     pub fn on_write_request(&mut self, from: SiteId, request: &Request) -> Result<(), NoMemory>
         ensures { OnOk result (self.new ≡
@@ -220,5 +221,15 @@ impl Stepped {
                 self.settle_written(catalog, doubt.1.as_slice())
             }
         }
+    }
+}
+
+/// Puts the value of a content in a box.
+fn in_box(alloc: Global, content: Option<Value>) -> Result<Option<Boxed<Value>>, NoMemory>
+    ensures { IfOk result (λ boxed. boxed ≡ content) }
+{
+    match content {
+        None => Ok(None),
+        Some(value) => Ok(Some(Boxed::new(alloc, value)?)),
     }
 }

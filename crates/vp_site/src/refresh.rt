@@ -9,7 +9,7 @@ ghost use Rattle.vp_model.specs.Messages.{on_refresh_request, on_refresh_answer}
 
 use crate::stepped::Stepped;
 use vp_base::{
-    Boxed, CopyOf, LogRecord, Message, NoMemory, RecId, SiteId, Sites, Stored, Value, View, ViewId,
+    Boxed, Change, CopyOf, LogRecord, Message, NoMemory, RecId, SiteId, Sites, Stored, View, ViewId,
 };
 use vp_catalog::{Catalog, has_site, members_of};
 use vp_lists::view_comes_before;
@@ -126,7 +126,7 @@ impl Stepped {
     pub(crate) fn settle_written(
         &mut self,
         catalog: &Catalog,
-        writes: &[(RecId, Value)],
+        writes: &[(RecId, Change)],
     ) -> Result<(), NoMemory>
         ensures { OnOk result (self.new ≡ settle_all catalog.now (keys writes.now) self.old) }
     {

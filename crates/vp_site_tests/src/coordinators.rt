@@ -51,8 +51,7 @@ impl Bench {
         };
         let done = match &message {
             Message::ReadAnswer { txn, number, value } => {
-                self.coordinator
-                    .on_read_answer(&came, txn, *number, value.as_ref())
+                self.coordinator.on_read_answer(&came, txn, *number, value)
             }
             Message::WriteAnswer { txn, number } => self
                 .coordinator
@@ -123,7 +122,7 @@ fn read_answer(rt: &impl Abort, alloc: Global) -> Message {
     Message::ReadAnswer {
         txn: txn(),
         number: number(rt, 1),
-        value: Boxed::new(alloc, value(rt, alloc, b"5")).expect(rt, "memory"),
+        value: Some(Boxed::new(alloc, value(rt, alloc, b"5")).expect(rt, "memory")),
     }
 }
 

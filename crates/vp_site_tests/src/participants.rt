@@ -2,7 +2,9 @@
 
 use std::alloc::Global;
 use std::process::Abort;
-use vp_base::{CallNo, Copies, RecId, Recs, SiteId, Sites, TxnId, Value, View, ViewId, Writes};
+use vp_base::{
+    CallNo, Change, Copies, Put, RecId, Recs, SiteId, Sites, TxnId, Value, View, ViewId, Writes,
+};
 use vp_locks::Locks;
 use vp_participant::{Participant, Prepare, Request, Voted};
 use vp_records::Durable;
@@ -20,8 +22,12 @@ fn txn() -> TxnId {
 /// A write of record 1.
 fn write(rt: &impl Abort, alloc: Global) -> Writes {
     let value = Value::read(alloc, b"5").expect(rt, "a value");
+    let change = Change {
+        put: Put::Value { value },
+        table: None,
+    };
     let mut writes = Writes::new(alloc);
-    writes.push((RecId::new(1), value)).expect(rt, "memory");
+    writes.push((RecId::new(1), change)).expect(rt, "memory");
     writes
 }
 

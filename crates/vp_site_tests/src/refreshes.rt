@@ -26,7 +26,8 @@ fn view(rt: &impl Abort, alloc: Global) -> View {
 
 fn stored(rt: &impl Abort, alloc: Global, text: &[u8], number: u64) -> Stored {
     Stored {
-        value: Value::read(alloc, text).expect(rt, "a value"),
+        value: Some(Value::read(alloc, text).expect(rt, "a value")),
+        table: None,
         date: ViewId { number, site: 1 },
     }
 }
@@ -76,7 +77,7 @@ fn is_taken(rt: &impl Abort, alloc: Global, own: u64, three: u64, two: u64, want
     keep_answer(rt, &mut refresh, SiteId::of(2), copy);
     let own = stored(rt, alloc, b"own", own);
     let newest = refresh.newest(RecId::new(X), &own).expect(rt, "memory");
-    newest.expect(rt, "a copy").value.is(wanted)
+    matches!(newest.expect(rt, "a copy").into_value(), Some(value) if value.is(wanted))
 }
 
 #[test]

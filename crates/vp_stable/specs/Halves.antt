@@ -12,9 +12,10 @@ use Rattle.vp_stable.specs.declared.fault.LogFault.TheVariants as faults
 
 -- ---- generations
 
--- the generation of the checkpoint with which a batch begins; 0 where it begins with none
+-- the generation of the checkpoint, of either version, with which a batch begins; 0 where it begins with none
 abbrev pub generation_in : List LogRecord → ℕ
 generation_in (log_record.Checkpoint generation life promise copies doubts decisions ∷ records) = generation
+generation_in (log_record.CheckpointOfValues generation life promise copies doubts decisions ∷ records) = generation
 generation_in _ = 0
 
 abbrev pub generation_of : List (List LogRecord) → ℕ

@@ -82,12 +82,13 @@ pub fn checkpoint_batch(
     Ok(batch)
 }
 
-/// The generation of the checkpoint with which the batch begins; 0 where it begins with none.
+/// The generation of the checkpoint, of either version, with which the batch begins; 0 where it begins with none.
 pub fn generation_in(batch: &Batch) -> u64
     ensures { result ≡ halves.generation_in batch.now }
 {
     match batch.as_slice() {
         [LogRecord::Checkpoint { generation, .. }, ..] => *generation,
+        [LogRecord::CheckpointOfValues { generation, .. }, ..] => *generation,
         _ => 0,
     }
 }

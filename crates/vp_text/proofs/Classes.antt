@@ -10,7 +10,7 @@ use Rattle.vp_text.proofs.Words.{word_exact}
 
 pub class_exact : (class : Class) → Exact (IsWord (has class) (most class)) (word_at (has class) (most class))
 class_exact classes.Name = word_exact (has classes.Name) 16 97 refl (omega arith)
-class_exact classes.Value = word_exact (has classes.Value) 64 97 refl (omega arith)
+class_exact classes.Value = word_exact (has classes.Value) 1024 97 refl (omega arith)
 
 pub read_word : (class : Class) (bytes w rest : List ℕ) → word_at (has class) (most class) bytes ≡ Ok (w, rest) → IsWord (has class) (most class) w w
 read_word class bytes w rest h =

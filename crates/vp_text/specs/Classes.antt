@@ -10,4 +10,4 @@ has Value c = nat_le 33 c && nat_le c 126
 
 abbrev pub most : Class → ℕ
 most Name = 16
-most Value = 64
+most Value = 1024

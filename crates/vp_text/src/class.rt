@@ -8,7 +8,7 @@ ghost use Rattle.vp_text.specs.Classes.{has, most};
 pub enum Class {
     /// 1 to 16 bytes, each a lower-case letter of ASCII, a digit or an underscore.
     Name,
-    /// 1 to 64 bytes, each printable ASCII and not a space.
+    /// 1 to 1,024 bytes, each printable ASCII and not a space.
     Value,
 }
 
@@ -23,13 +23,13 @@ impl Class {
         }
     }
 
-    /// The length in bytes of the longest words of this kind: 16 for names, 64 for values.
+    /// The length in bytes of the longest words of this kind: 16 for names, 1,024 for values.
     pub fn most(self) -> usize
         ensures { result ≡ most self }
     {
         match self {
             Class::Name => 16,
-            Class::Value => 64,
+            Class::Value => 1024,
         }
     }
 }

@@ -207,7 +207,7 @@ fn copies_start_in_the_opening_view(rt: HostRuntime) {
 fn each_record_has_a_name_and_a_value(rt: HostRuntime) {
     let catalog = three_records(rt.alloc()).expect(&rt, "memory");
     assert_eq!(rt; catalog.names().expect(&rt, "memory").as_slice().len(), 3);
-    assert_eq!(rt; catalog.start_values().expect(&rt, "memory").len(), 3);
+    assert_eq!(rt; catalog.starts().expect(&rt, "memory").len(), 3);
 }
 
 #[test]

@@ -2,7 +2,9 @@
 
 use std::alloc::Global;
 use std::process::Abort;
-use vp_base::{Commit, CopyOf, Name, Names, Op, Ops, RecId, Seq, SiteId, TxnId, Value, ViewId};
+use vp_base::{
+    Commit, CopyOf, Name, Names, Op, Ops, RecId, Seq, SiteId, Tables, TxnId, Value, ViewId,
+};
 use vp_onecopy::{
     History, HistoryFault, Map, PlayFault, Verdict, check, order, play, print_history, read_history,
 };
@@ -14,18 +16,18 @@ fn value(rt: &impl Abort, alloc: Global, text: &[u8]) -> Value {
 fn read(rt: &impl Abort, alloc: Global, rec: u8, text: &[u8]) -> Op {
     Op::Read {
         rec: RecId::new(rec),
-        value: value(rt, alloc, text),
+        value: Some(value(rt, alloc, text)),
     }
 }
 
 fn write(rt: &impl Abort, alloc: Global, rec: u8, text: &[u8]) -> Op {
     Op::Write {
         rec: RecId::new(rec),
-        value: value(rt, alloc, text),
+        value: Some(value(rt, alloc, text)),
     }
 }
 
-fn commit(seq: u32, view: ViewId, ops: Vec<Op>) -> Commit {
+fn commit(alloc: Global, seq: u32, view: ViewId, ops: Vec<Op>) -> Commit {
     Commit {
         txn: TxnId {
             site: SiteId::of(1),
@@ -34,21 +36,32 @@ fn commit(seq: u32, view: ViewId, ops: Vec<Op>) -> Commit {
         },
         view,
         ops: Ops::from_vec(ops),
+        tables: Tables::new(alloc),
     }
 }
 
 /// The values 10 and 20.
-fn two_values(rt: &impl Abort, alloc: Global) -> Map {
+fn two_values(rt: &impl Abort, alloc: Global) -> Seq<Value> {
     let values = vec![in alloc; value(rt, alloc, b"10"), value(rt, alloc, b"20")].expect(
         rt, "memory",
     );
-    Map::from_vec(values)
+    Seq::from_vec(values)
+}
+
+/// Whether the content is this value.
+fn has_value(content: &Option<Value>, word: &[u8]) -> bool {
+    match content {
+        None => false,
+        Some(value) => value.is(word),
+    }
 }
 
 /// Whether the second operation differs: it read 20, where 21 is kept.
 fn differs(played: Result<(), PlayFault>) -> bool {
     match played {
-        Err(PlayFault::Differs { op, kept, read }) => op == 2 && kept.is(b"21") && read.is(b"20"),
+        Err(PlayFault::Differs { op, kept, read }) => {
+            op == 2 && has_value(&kept, b"21") && has_value(&read, b"20")
+        }
         Ok(()) | Err(PlayFault::NoMemory) => false,
     }
 }
@@ -56,8 +69,8 @@ fn differs(played: Result<(), PlayFault>) -> bool {
 /// Whether a write of record 1 and then a read of another value differ, on a copy of two records.
 fn plays_to_a_difference(rt: &impl Abort, alloc: Global, copy: &mut Map) -> bool {
     let rec = RecId::new(1);
-    let written = value(rt, alloc, b"21");
-    let read = value(rt, alloc, b"20");
+    let written = Some(value(rt, alloc, b"21"));
+    let read = Some(value(rt, alloc, b"20"));
     let mut ops = Ops::new(alloc);
     ops.push(Op::Write {
         rec,
@@ -70,10 +83,11 @@ fn plays_to_a_difference(rt: &impl Abort, alloc: Global, copy: &mut Map) -> bool
 
 #[test]
 fn a_read_has_the_value_that_was_written(rt: HostRuntime) {
-    let mut copy = two_values(&rt, rt.alloc());
+    let values = two_values(&rt, rt.alloc());
+    let mut copy = Map::starting(rt.alloc(), values.as_slice()).expect(&rt, "memory");
     assert!(rt; plays_to_a_difference(&rt, rt.alloc(), &mut copy));
     let left = copy.copy_of().expect(&rt, "memory");
-    assert!(rt; matches!(left.as_slice(), [first, ..] if first.is(b"10")));
+    assert!(rt; matches!(left.as_slice(), [first, ..] if has_value(first, b"10")));
 }
 
 /// Makes a journal whose second transaction commits in the opening view, after a commit in the next view.
@@ -84,11 +98,17 @@ fn journal(rt: &impl Abort, alloc: Global) -> Vec<Commit> {
     let ops = vec![in alloc; read(rt, alloc, 0, b"10"), write(rt, alloc, 0, b"11")].expect(
         rt, "memory",
     );
-    journal.push(commit(1, opening, ops)).expect(rt, "memory");
+    journal
+        .push(commit(alloc, 1, opening, ops))
+        .expect(rt, "memory");
     let ops = vec![in alloc; read(rt, alloc, 0, b"11")].expect(rt, "memory");
-    journal.push(commit(3, next, ops)).expect(rt, "memory");
+    journal
+        .push(commit(alloc, 3, next, ops))
+        .expect(rt, "memory");
     let ops = vec![in alloc; write(rt, alloc, 1, b"21")].expect(rt, "memory");
-    journal.push(commit(2, opening, ops)).expect(rt, "memory");
+    journal
+        .push(commit(alloc, 2, opening, ops))
+        .expect(rt, "memory");
     journal
 }
 
@@ -137,7 +157,7 @@ fn bad(line: usize, at: usize) -> Option<HistoryFault> {
 
 #[test]
 fn histories_are_refused_at_their_places(rt: HostRuntime) {
-    let cases: [(&[u8], Option<HistoryFault>); 10] = [
+    let cases: [(&[u8], Option<HistoryFault>); 12] = [
         (b"", bad(1, 1)),
         (
             b"history\nstart x 10\ncommit 1.1.1 0@0 r y 10\n",
@@ -153,6 +173,8 @@ fn histories_are_refused_at_their_places(rt: HostRuntime) {
         ),
         (b"history\nstart x 10\nend 1\n", bad(3, 5)),
         (b"history\nstart x 10\nend 0\nx", bad(4, 1)),
+        (b"history\nstart x 10\ncommit 1.1.1 0@0 a y\n", bad(3, 20)),
+        (b"history\nstart x 10\ncommit 1.1.1 0@0 d x 1\n", bad(3, 22)),
         (b"1 tick\n\nhistory\nstart x 10\nend 0", bad(5, 6)),
         (b"1 tick\nhistor", bad(2, 7)),
         (
@@ -168,7 +190,8 @@ fn histories_are_refused_at_their_places(rt: HostRuntime) {
 
 fn verdict(rt: &impl Abort, alloc: Global, text: &[u8]) -> Verdict {
     let history = read_history(alloc, text).expect(rt, "a history");
-    check(&history.start, history.commits.as_slice()).expect(rt, "memory")
+    let start = Map::starting(alloc, history.start.as_slice()).expect(rt, "memory");
+    check(&start, history.commits.as_slice()).expect(rt, "memory")
 }
 
 /// Whether the first operation of transaction 2 differs: it read 10 of record 0, where 11 is kept.
@@ -181,7 +204,9 @@ fn is_difference(verdict: &Verdict) -> bool {
             rec,
             kept,
             read,
-        } => (txn.seq, *op, rec.get()) == (2, 1, 0) && kept.is(b"11") && read.is(b"10"),
+        } => (txn.seq, *op, rec.get()) == (2, 1, 0)
+            && has_value(kept, b"11")
+            && has_value(read, b"10"),
     }
 }
 
@@ -200,4 +225,42 @@ fn what_was_read_is_printed(rt: HostRuntime) {
     let history = read_history(rt.alloc(), lines).expect(&rt, "a history");
     let printed = printed(&rt, rt.alloc(), &history);
     assert_eq!(rt; printed.as_slice(), lines.as_slice());
+}
+
+/// Whether all is serial, and the first record is left with this value.
+fn is_serial_to(verdict: &Verdict, word: &[u8]) -> bool {
+    match verdict {
+        Verdict::Serial { map } => match map.as_slice().first() {
+            Some(content) => has_value(content, word),
+            None => false,
+        },
+        Verdict::Differs { .. } => false,
+    }
+}
+
+#[test]
+fn an_absent_record_is_read_and_written_again(rt: HostRuntime) {
+    let lines =
+        b"history\nstart x 10\ncommit 1.1.1 0@0 d x a x\ncommit 1.1.2 0@0 a x w x 5\nend 2\n";
+    let history = read_history(rt.alloc(), lines).expect(&rt, "a history");
+    let printed = printed(&rt, rt.alloc(), &history);
+    assert_eq!(rt; printed.as_slice(), lines.as_slice());
+    assert!(rt; is_serial_to(&verdict(&rt, rt.alloc(), lines), b"5"));
+}
+
+/// Whether a read of a value or of none differs from what is kept.
+fn is_absent_difference(verdict: &Verdict, is_kept: bool, is_read: bool) -> bool {
+    match verdict {
+        Verdict::Serial { .. } => false,
+        Verdict::Differs { kept, read, .. } => kept.is_some() == is_kept
+            && read.is_some() == is_read,
+    }
+}
+
+#[test]
+fn a_deleted_value_is_not_read(rt: HostRuntime) {
+    let deleted = b"history\nstart x 10\ncommit 1.1.1 0@0 d x\ncommit 1.1.2 0@0 r x 10\nend 2\n";
+    assert!(rt; is_absent_difference(&verdict(&rt, rt.alloc(), deleted), false, true));
+    let kept = b"history\nstart x 10\ncommit 1.1.1 0@0 a x\nend 1\n";
+    assert!(rt; is_absent_difference(&verdict(&rt, rt.alloc(), kept), true, false));
 }

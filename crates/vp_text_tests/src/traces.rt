@@ -3,9 +3,9 @@
 use std::alloc::Global;
 use std::process::Abort;
 use vp_base::{
-    Answer, Boxed, Call, CallNo, Commit, Commits, Event, Line, Message, Messages, OPENING,
-    Obstacle, Ops, Owner, RecId, Replies, Reply, Sent, Seq, Shown, SiteId, Stored, TxnId, Value,
-    ViewId,
+    Answer, Boxed, Call, CallNo, Change, Commit, Commits, Event, Line, Message, Messages, OPENING,
+    Obstacle, Ops, Owner, Put, RecId, Replies, Reply, Sent, Seq, Shown, SiteId, Stored, Tables,
+    TxnId, Value, ViewId,
 };
 use vp_catalog::Catalog;
 use vp_trace::print_line;
@@ -57,7 +57,8 @@ fn of_views(rt: &impl Abort, alloc: Global, kind: u8) -> Message {
         5 => Message::RefreshRequest { view, rec },
         _ => {
             let stored = Stored {
-                value: value(rt, alloc),
+                value: Some(value(rt, alloc)),
+                table: None,
                 date: OPENING,
             };
             let stored = boxed(rt, alloc, stored);
@@ -91,7 +92,7 @@ fn of_calls(rt: &impl Abort, alloc: Global, kind: u8) -> Message {
         8 => Message::ReadAnswer {
             txn,
             number,
-            value: boxed(rt, alloc, value(rt, alloc)),
+            value: Some(boxed(rt, alloc, value(rt, alloc))),
         },
         9 => Message::WriteRequest {
             txn,
@@ -110,7 +111,13 @@ fn of_calls(rt: &impl Abort, alloc: Global, kind: u8) -> Message {
 
 fn prepare(rt: &impl Abort, alloc: Global) -> Message {
     let reads = only(rt, alloc, RecId::new(0));
-    let writes = only(rt, alloc, (RecId::new(0), value(rt, alloc)));
+    let change = Change {
+        put: Put::Value {
+            value: value(rt, alloc),
+        },
+        table: None,
+    };
+    let writes = only(rt, alloc, (RecId::new(0), change));
     Message::Prepare {
         txn: txn(),
         view: OPENING,
@@ -157,6 +164,7 @@ fn commits(rt: &impl Abort, alloc: Global) -> Commits {
         txn: txn(),
         view: OPENING,
         ops: Ops::new(alloc),
+        tables: Tables::new(alloc),
     };
     only(rt, alloc, commit)
 }

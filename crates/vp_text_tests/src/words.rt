@@ -32,15 +32,15 @@ fn names_are_refused_at_their_places(rt: HostRuntime) {
 
 #[test]
 fn values_are_refused_at_their_places(rt: HostRuntime) {
-    let cases: [(&[u8], Option<usize>); 5] = [
+    let most = vec![in rt.alloc(); b'a'; 1024].expect(&rt, "memory");
+    let more = vec![in rt.alloc(); b'a'; 1025].expect(&rt, "memory");
+    let cases: [(&[u8], Option<usize>); 6] = [
         (b"~A!z", None),
         (b"a b", Some(1)),
         (b"", Some(0)),
         (b"a\x7f", Some(1)),
-        (
-            b"aaaaaaaaaaaaaaaaaaaaaaaaaaaaaaaaaaaaaaaaaaaaaaaaaaaaaaaaaaaaaaaaa",
-            Some(64),
-        ),
+        (&most, None),
+        (&more, Some(1024)),
     ];
     for (text, at) in cases {
         assert_eq!(rt; fault_of(Value::read(rt.alloc(), text)), at);

@@ -2,12 +2,12 @@
 
 ghost use Rattle.std.specs.Prelude.{◌≡◌, ◌++◌, ◌∷◌, OnOk, codes, flat_map};
 ghost use Rattle.std.specs.Fmt.{decimal};
-ghost use Rattle.vp_audit.specs.Lines.{can_text, doubt_line, found_text, newest_line, report_text};
+ghost use Rattle.vp_audit.specs.Lines.{can_text, content_text, doubt_line, found_text, newest_line, report_text};
 ghost use Rattle.vp_model.specs.Catalogue.{name_of};
 ghost use Rattle.vp_model.specs.Texts.Fields.{sites_text, txn_text, view_text};
 
 use vp_audit::{Can, DoubtAt, Found, Report};
-use vp_base::{NoMemory, RecId, SiteId, Stored};
+use vp_base::{NoMemory, RecId, SiteId, Value, ViewId};
 use vp_catalog::Catalog;
 use vp_text::print_number;
 use vp_trace::print_sites;
@@ -46,23 +46,43 @@ fn print_newest(catalog: &Catalog, found: &Found, out: &mut Vec<u8>) -> Result<(
         out.push(b'\n')?;
         return Ok(());
     };
-    out.extend_from_slice(b"newest ")?;
-    print_name(catalog, found.rec, out)?;
-    print_copy(copy, found.sites.as_slice(), out)?;
+    print_content(catalog, found.rec, &copy.value, out)?;
+    print_date(&copy.date, found.sites.as_slice(), out)?;
     out.push(b'\n')?;
     Ok(())
 }
 
-/// Appends the value and the date of a copy, and the sites that have one of that date.
-fn print_copy(copy: &Stored, sites: &[SiteId], out: &mut Vec<u8>) -> Result<(), NoMemory>
+/// Appends the beginning of a line on a copy: its record, and its value if it has one.
+fn print_content(
+    catalog: &Catalog,
+    rec: RecId,
+    content: &Option<Value>,
+    out: &mut Vec<u8>,
+) -> Result<(), NoMemory>
+    ensures { OnOk result (out.new.items ≡ out.old.items ++ content_text (name_of catalog.now rec) content.now) }
+{
+    match content {
+        None => {
+            out.extend_from_slice(b"absent ")?;
+            print_name(catalog, rec, out)
+        }
+        Some(value) => {
+            out.extend_from_slice(b"newest ")?;
+            print_name(catalog, rec, out)?;
+            out.push(b' ')?;
+            value.print(out)
+        }
+    }
+}
+
+/// Appends the date of a copy, and the sites that have one of that date.
+fn print_date(date: &ViewId, sites: &[SiteId], out: &mut Vec<u8>) -> Result<(), NoMemory>
     ensures { OnOk result
         (out.new.items ≡ out.old.items ++ 32 ∷
-        (copy.now.value ++ 32 ∷ (view_text copy.now.date ++ (codes " at " ++ sites_text sites.now)))) }
+        (view_text date.now ++ (codes " at " ++ sites_text sites.now))) }
 {
     out.push(b' ')?;
-    copy.value.print(out)?;
-    out.push(b' ')?;
-    copy.date.print(out)?;
+    date.print(out)?;
     out.extend_from_slice(b" at ")?;
     print_sites(out, sites)
 }

@@ -59,11 +59,7 @@ fn send<L: Link>(
     ensures { Sends port (frame_bytes (frame_of 0 site (signal_body signal))) (L.state link.old)
         (L.state link.new) result }
 {
-    let frame = Frame {
-        from: 0,
-        to: site.get(),
-        body: body_of(signal),
-    };
+    let frame = Frame::of(0, site.get(), body_of(signal));
     let mut bytes = BytesMut::new(alloc);
     encode(&frame, &mut bytes)?;
     link.send(port, &bytes)

@@ -13,24 +13,28 @@ use vp_top::run;
 /// Two records at two sites; the second site has more weight of one of them.
 const CATALOGUE: &str = "site 1 7001\nsite 2 7002\nrecord x 10 1:1 2:1\nrecord y 5 1:1 2:3\n";
 
-/// Site 1 has accepted a transaction of site 2 that writes x, and is in doubt about it.
+/// Site 1 has accepted a transaction of site 2 that writes x, and is in doubt about it. Its records are of the first version.
 const AT_1: &[u8] = b"\x01\0\0\0\0\0\0\0\x05\x01\0\0\0\x01\
     \x01\0\0\0\0\0\0\0\x18\x03\x02\0\0\0\x01\0\0\0\x01\0\0\0\0\0\0\0\0\0\x01\0\x0212\0";
 
 /// Site 2 has accepted a transaction of site 1 that writes x, and is in doubt about it.
 const AT_2: &[u8] = b"\x01\0\0\0\0\0\0\0\x05\x01\0\0\0\x01\
-    \x01\0\0\0\0\0\0\0\x18\x03\x01\0\0\0\x01\0\0\0\x01\0\0\0\0\0\0\0\0\0\x01\0\x0211\0";
+    \x01\0\0\0\0\0\0\0\x1b\x09\x01\0\0\0\x01\0\0\0\x01\0\0\0\0\0\0\0\0\0\x01\0\x01\0\x0211\0\0";
 
 /// Site 2 has applied a transaction of site 1 that wrote y, in the view 1@1.
 const APPLIED: &[u8] = b"\x01\0\0\0\0\0\0\0\x05\x01\0\0\0\x01\
-    \x01\0\0\0\0\0\0\0\x17\x03\x01\0\0\0\x01\0\0\0\x01\0\0\0\0\0\0\0\x01\x01\x01\x01\x016\
+    \x01\0\0\0\0\0\0\0\x1a\x09\x01\0\0\0\x01\0\0\0\x01\0\0\0\0\0\0\0\x01\x01\x01\x01\x01\0\x016\0\
     \x01\0\0\0\0\0\0\0\x0b\x04\x01\0\0\0\x01\0\0\0\x01\x01\0";
+
+/// Site 1 has a copy of x from a batch of the first version, and one of y, which has no value, from a batch of the second.
+const BOTH: &[u8] = b"\x01\0\0\0\0\0\0\0\x0e\x06\0\x0211\0\0\0\0\0\0\0\x01\x01\
+    \x01\0\0\0\0\0\0\0\x0d\x0b\x01\0\0\0\0\0\0\0\0\0\x01\x02\0";
 
 /// A batch without a gate after it.
 const TORN: &[u8] = b"\x01\0\0\0\0\0\0\0\x05\x01\0\0\0\x01";
 
 /// The words of an audit, and what it prints. The logs of these names are there, but for `missing`.
-const AUDITS: [(&str, Status, &str); 13] = [
+const AUDITS: [(&str, Status, &str); 14] = [
     (
         "audit 1 missing 2 missing",
         Status::Done,
@@ -66,6 +70,11 @@ const AUDITS: [(&str, Status, &str); 13] = [
         Status::Done,
         "newest x 10 0@0 at 2\ncan x no 1 of 2\nnewest y 6 1@1 at 2\ncan y yes\n",
     ),
+    (
+        "audit 1 both 2 missing",
+        Status::Done,
+        "newest x 11 1@1 at 1\ncan x yes\nabsent y 1@2 at 1\ncan y yes\n",
+    ),
     ("audit 1 torn 2 at2", Status::BadLog, "bad log 0 at 0\n"),
     ("audit 1 at1 2 torn", Status::BadLog, "bad log 0 at 0\n"),
     ("audit 1 at1 3 missing", Status::Usage, USAGE),
@@ -81,6 +90,7 @@ fn disk_with(rt: &impl Abort, alloc: Global, failing: u64) -> MemDisk {
         ("at1", AT_1),
         ("at2", AT_2),
         ("applied", APPLIED),
+        ("both", BOTH),
         ("torn", TORN),
     ] {
         let name = Word::from_vec(name.as_bytes().to_vec(alloc).expect(rt, "memory"));

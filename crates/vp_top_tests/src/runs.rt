@@ -174,7 +174,7 @@ const HEAD_OF_THREE: &str =
     "site 1 7001\nsite 2 7002\nsite 3 7003\nrecord x 10 1:1 2:1 3:1\nevents\n";
 
 /// Command lines, their inputs, and their results.
-const ANSWERED: [(&str, &str, Status, &str); 29] = [
+const ANSWERED: [(&str, &str, Status, &str); 34] = [
     ("replay", HEAD, Status::Done, "history\nstart x 10\nend 0\n"),
     (
         "replay",
@@ -235,6 +235,12 @@ const ANSWERED: [(&str, &str, Status, &str); 29] = [
         "bad line 6 at 11\n",
     ),
     ("replay", "#flew 1\n", Status::BadLine, "bad line 6 at 3\n"),
+    (
+        "replay",
+        "#call 1 1.1.1 1 weigh x 1:3\n",
+        Status::BadLine,
+        "bad line 6 at 17\n",
+    ),
     // Histories have their verdict, also after a trace, and other texts are no histories.
     (
         "check",
@@ -247,6 +253,30 @@ const ANSWERED: [(&str, &str, Status, &str); 29] = [
         "history\nstart x 10\ncommit 1.1.1 0@0 w x 11\ncommit 1.1.2 0@0 r x 10\nend 2\n",
         Status::Differs,
         "differs 1.1.2 1 x kept 11 read 10\n",
+    ),
+    (
+        "check",
+        "history\nstart x 10\ncommit 1.1.1 0@0 d x a x\ncommit 1.1.2 0@0 a x w x 5\nend 2\n",
+        Status::Done,
+        "serial 2\nx 5\n",
+    ),
+    (
+        "check",
+        "history\nstart x 10\nstart y 5\ncommit 1.1.1 0@0 d x\nend 1\n",
+        Status::Done,
+        "serial 1\nx\ny 5\n",
+    ),
+    (
+        "check",
+        "history\nstart x 10\ncommit 1.1.1 0@0 d x\ncommit 1.1.2 0@0 r x 10\nend 2\n",
+        Status::Differs,
+        "differs 1.1.2 1 x absent read 10\n",
+    ),
+    (
+        "check",
+        "history\nstart x 10\ncommit 1.1.1 0@0 w x 11 a x\nend 1\n",
+        Status::Differs,
+        "differs 1.1.1 2 x kept 11 absent\n",
     ),
     ("check", "", Status::BadLine, "bad line 1 at 1\n"),
     (
@@ -343,6 +373,42 @@ history
 start x 10
 commit 1.1.1 0@0{reads}
 end 1
+"
+    )
+    .expect(&rt, "memory");
+    assert!(rt; is_printed(alloc, &schedule, &printed).expect(&rt, "memory"));
+}
+
+#[test]
+fn a_transaction_has_15360_bytes_of_values(rt: HostRuntime) {
+    let alloc = rt.alloc();
+    let value = "v".repeat(alloc, 1024).expect(&rt, "memory");
+    let call = format!(in alloc; "call 1 1.1.1 # write r# {value}\n").expect(&rt, "memory");
+    let done = format!(in alloc; "+ {call} reply written 1.1.1 #\n").expect(&rt, "memory");
+    let records = numbered(&rt, alloc, "record r# 10 1:1\n", 17);
+    let calls = numbered(&rt, alloc, &call, 16);
+    let written = numbered(&rt, alloc, &done, 16);
+    let starts = numbered(&rt, alloc, "start r# 10\n", 17);
+    let schedule = format!(in alloc;
+        "\
+site 1 7001
+{records}events
+call 1 begin
+{calls}call 1 1.1.1 16 write r16 v
+call 1 1.1.1 16 delete r16
+"
+    )
+    .expect(&rt, "memory");
+    let printed = format!(in alloc;
+        "\
+1 call 1 begin
+ reply begun 1.1.1 0@0
+{written}17 call 1 1.1.1 16 write r16 v
+ reply toomanyops 1.1.1 16
+18 call 1 1.1.1 16 delete r16
+ reply deleted 1.1.1 16
+history
+{starts}end 0
 "
     )
     .expect(&rt, "memory");

@@ -4,10 +4,11 @@ ghost use Rattle.std.specs.Prelude.{◌++◌, ◌∷◌, [], codes};
 ghost use Rattle.vp_text.specs.Printing.{Appends};
 ghost use Rattle.std.specs.Fmt.{decimal};
 ghost use Rattle.vp_model.specs.Texts.Calls.{call_text, event_text, pair_text};
-ghost use Rattle.vp_model.specs.Texts.Fields.{call_name_text};
+ghost use Rattle.vp_model.specs.Texts.Fields.{call_name_text, table_text};
 
 use crate::fields::{print_call_name, print_counted, print_site, print_value, print_word};
 use vp_base::{Call, CallNo, Event, Name, NoMemory, SiteId, TxnId, Value};
+use vp_catalog::print_weights;
 
 /// Appends a call as it follows its site in a schedule. After an error a beginning of it may have been appended.
 pub fn print_call(call: &Call, out: &mut Vec<u8>) -> Result<(), NoMemory>
@@ -16,25 +17,54 @@ pub fn print_call(call: &Call, out: &mut Vec<u8>) -> Result<(), NoMemory>
     match call {
         Call::Begin => print_word(out, b"begin"),
         Call::Regroup => print_word(out, b"regroup"),
-        Call::Read { txn, number, name } => print_read(out, txn, *number, name),
+        Call::Read { txn, number, name } => print_named(out, txn, *number, b" read ", name),
         Call::Write {
             txn,
             number,
             name,
             value,
         } => print_write(out, txn, *number, name, value),
+        Call::Delete { txn, number, name } => print_named(out, txn, *number, b" delete ", name),
+        Call::Weigh {
+            txn,
+            number,
+            name,
+            table,
+        } => print_weigh(out, txn, *number, name, table.as_slice()),
         Call::Commit { txn, number } => print_end(out, txn, *number, b" commit"),
         Call::Abort { txn, number } => print_end(out, txn, *number, b" abort"),
     }
 }
 
-fn print_read(out: &mut Vec<u8>, txn: &TxnId, number: CallNo, name: &Name) -> Result<(), NoMemory>
-    ensures { Appends result out.old.items (call_name_text txn.now number ++ (codes " read " ++ name.now))
+fn print_named(
+    out: &mut Vec<u8>,
+    txn: &TxnId,
+    number: CallNo,
+    word: &[u8],
+    name: &Name,
+) -> Result<(), NoMemory>
+    ensures { Appends result out.old.items (call_name_text txn.now number ++ (word.now ++ name.now))
         out.new.items }
 {
     print_call_name(out, txn, number)?;
-    print_word(out, b" read ")?;
+    print_word(out, word)?;
     name.print(out)
+}
+
+fn print_weigh(
+    out: &mut Vec<u8>,
+    txn: &TxnId,
+    number: CallNo,
+    name: &Name,
+    table: &[(SiteId, u16)],
+) -> Result<(), NoMemory>
+    ensures { Appends result out.old.items
+        (call_name_text txn.now number ++ (codes " weigh " ++ (name.now ++ table_text table.now))) out.new.items }
+{
+    print_call_name(out, txn, number)?;
+    print_word(out, b" weigh ")?;
+    name.print(out)?;
+    print_weights(out, table)
 }
 
 fn print_write(

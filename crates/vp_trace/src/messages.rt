@@ -1,18 +1,24 @@
 //! Printing messages, as a trace has them.
 
-ghost use Rattle.std.specs.Prelude.{◌++◌, ◌∷◌, [], codes, flat_map};
+ghost use Rattle.std.specs.Prelude.{◌++◌, ◌∷◌, ℕ, codes, flat_map};
+ghost use Rattle.vp_base.specs.declared.message.Message.TheVariants as message;
+ghost use Rattle.vp_model.specs.Types.{Change as ChangeState};
 ghost use Rattle.vp_text.specs.Printing.{Appends};
 ghost use Rattle.std.specs.Fmt.{decimal};
 ghost use Rattle.vp_model.specs.Catalogue.{name_of};
-ghost use Rattle.vp_model.specs.Texts.Fields.{view_text, txn_text, call_name_text, sites_text};
-ghost use Rattle.vp_model.specs.Texts.Messages.{message_text, request_text, read_text, write_text, obstacle_text, outcome_text};
+ghost use Rattle.vp_model.specs.Texts.Fields.{view_text, txn_text, call_name_text, sites_text, table_text};
+ghost use Rattle.vp_model.specs.Texts.Messages.{message_text, request_text, read_text, put_text, write_text, given_text, own_table_text, copy_text, obstacle_text, outcome_text};
+ghost use Rattle.vp_trace.specs.Copies.{begun_copy};
 
 use crate::fields::{
-    print_count, print_held, print_numbered, print_owner, print_record, print_record_after,
-    print_sites, print_txn, print_value, print_view, print_word,
+    print_count, print_counted, print_held, print_numbered, print_owner, print_record,
+    print_record_after, print_sites, print_txn, print_value, print_view, print_word,
 };
-use vp_base::{CallNo, Message, NoMemory, Obstacle, RecId, SiteId, Stored, TxnId, Value, ViewId};
-use vp_catalog::Catalog;
+use vp_base::{
+    Boxed, CallNo, Change, Message, NoMemory, Obstacle, Put, RecId, SiteId, Stored, Table, TxnId,
+    Value, ViewId,
+};
+use vp_catalog::{Catalog, print_weights};
 
 fn print_stale(out: &mut Vec<u8>, id: &ViewId, promise: &ViewId) -> Result<(), NoMemory>
     ensures { Appends result out.old.items
@@ -64,7 +70,7 @@ fn print_lock_request(
     print_record_after(out, catalog, rec)
 }
 
-fn print_read_answer(
+fn print_read_value(
     out: &mut Vec<u8>,
     txn: &TxnId,
     number: CallNo,
@@ -75,6 +81,30 @@ fn print_read_answer(
 {
     print_numbered(out, b"read-answer ", txn, number)?;
     print_value(out, value)
+}
+
+fn print_read_answer(
+    out: &mut Vec<u8>,
+    catalog: &Catalog,
+    txn: &TxnId,
+    number: CallNo,
+    value: &Option<Boxed<Value>>,
+) -> Result<(), NoMemory>
+    ensures { Appends result out.old.items
+        (message_text catalog.now (message.ReadAnswer txn.now number value.now)) out.new.items }
+{
+    match value {
+        None => print_numbered(out, b"read-absent ", txn, number),
+        Some(value) => print_read_value(out, txn, number, value.as_ref()),
+    }
+}
+
+fn print_barred(out: &mut Vec<u8>, inside: u32, total: u32) -> Result<(), NoMemory>
+    ensures { Appends result out.old.items
+        (codes "barred " ++ (decimal inside ++ (codes " of " ++ decimal total))) out.new.items }
+{
+    print_counted(out, b"barred ", inside)?;
+    print_counted(out, b" of ", total)
 }
 
 fn print_obstacle(out: &mut Vec<u8>, why: &Obstacle) -> Result<(), NoMemory>
@@ -89,6 +119,7 @@ fn print_obstacle(out: &mut Vec<u8>, why: &Obstacle) -> Result<(), NoMemory>
             print_word(out, b"view ")?;
             print_held(out, now)
         }
+        Obstacle::Barred { inside, total } => print_barred(out, *inside, *total),
     }
 }
 
@@ -116,17 +147,92 @@ fn print_reads(out: &mut Vec<u8>, catalog: &Catalog, reads: &[RecId]) -> Result<
     Ok(())
 }
 
+fn print_put_value(
+    out: &mut Vec<u8>,
+    catalog: &Catalog,
+    rec: RecId,
+    value: &Value,
+) -> Result<(), NoMemory>
+    ensures { Appends result out.old.items (codes " w " ++ (name_of catalog.now rec ++ 32 ∷ value.now))
+        out.new.items }
+{
+    print_word(out, b" w ")?;
+    print_record(out, catalog, rec)?;
+    print_value(out, value)
+}
+
+fn print_put_absent(out: &mut Vec<u8>, catalog: &Catalog, rec: RecId) -> Result<(), NoMemory>
+    ensures { Appends result out.old.items (codes " d " ++ name_of catalog.now rec) out.new.items }
+{
+    print_word(out, b" d ")?;
+    print_record(out, catalog, rec)
+}
+
+/// Appends what a change makes of the content of the record: nothing where it keeps it.
+#[tactic(auto, using(vp_text::proofs::Printing::printing))]
+fn print_put(out: &mut Vec<u8>, catalog: &Catalog, rec: RecId, put: &Put) -> Result<(), NoMemory>
+    ensures { Appends result out.old.items (put_text catalog.now rec put.now) out.new.items }
+{
+    match put {
+        Put::Keep => Ok(()),
+        Put::Absent => print_put_absent(out, catalog, rec),
+        Put::Value { value } => print_put_value(out, catalog, rec, value),
+    }
+}
+
 fn print_writes(
     out: &mut Vec<u8>,
     catalog: &Catalog,
-    writes: &[(RecId, Value)],
+    writes: &[(RecId, Change)],
 ) -> Result<(), NoMemory>
     ensures { Appends result out.old.items (flat_map (write_text catalog.now) writes.now) out.new.items }
 {
     for write in writes {
-        print_word(out, b" w ")?;
-        print_record(out, catalog, write.0)?;
-        print_value(out, &write.1)?;
+        print_put(out, catalog, write.0, &write.1.put)?;
+    }
+    Ok(())
+}
+
+fn print_table(
+    out: &mut Vec<u8>,
+    catalog: &Catalog,
+    rec: RecId,
+    table: &[(SiteId, u16)],
+) -> Result<(), NoMemory>
+    ensures { Appends result out.old.items (codes " t " ++ (name_of catalog.now rec ++ table_text table.now))
+        out.new.items }
+{
+    print_word(out, b" t ")?;
+    print_record(out, catalog, rec)?;
+    print_weights(out, table)
+}
+
+/// Appends the table that a change gives the record, if there is one.
+#[tactic(auto, using(vp_text::proofs::Printing::printing))]
+fn print_given(
+    out: &mut Vec<u8>,
+    catalog: &Catalog,
+    rec: RecId,
+    table: &Option<Table>,
+) -> Result<(), NoMemory>
+    ensures { Appends result out.old.items (given_text catalog.now rec table.now) out.new.items }
+{
+    match table {
+        None => Ok(()),
+        Some(table) => print_table(out, catalog, rec, table.as_slice()),
+    }
+}
+
+fn print_tables(
+    out: &mut Vec<u8>,
+    catalog: &Catalog,
+    writes: &[(RecId, Change)],
+) -> Result<(), NoMemory>
+    ensures { Appends result out.old.items (flat_map (λ (w : ℕ × ChangeState). given_text catalog.now w.0 w.1.table) writes.now)
+        out.new.items }
+{
+    for write in writes {
+        print_given(out, catalog, write.0, &write.1.table)?;
     }
     Ok(())
 }
@@ -163,20 +269,70 @@ fn print_refresh_request(
     print_record_after(out, catalog, rec)
 }
 
-fn print_copy(
+/// Appends a space, the date of a copy, and its own table if it has one.
+fn print_dated(out: &mut Vec<u8>, stored: &Stored) -> Result<(), NoMemory>
+    ensures { Appends result out.old.items
+        (32 ∷ (view_text stored.now.date ++ own_table_text stored.now.table)) out.new.items }
+{
+    print_view(out, b" ", &stored.date)?;
+    print_own_table(out, &stored.table)
+}
+
+#[tactic(auto, using(vp_text::proofs::Printing::printing))]
+fn print_own_table(out: &mut Vec<u8>, table: &Option<Table>) -> Result<(), NoMemory>
+    ensures { Appends result out.old.items (own_table_text table.now) out.new.items }
+{
+    match table {
+        None => Ok(()),
+        Some(table) => print_weights(out, table.as_slice()),
+    }
+}
+
+/// Appends the bytes, a view and the name of a record.
+fn print_refreshed(
     out: &mut Vec<u8>,
     catalog: &Catalog,
+    word: &[u8],
+    view: &ViewId,
     rec: RecId,
-    stored: &Stored,
 ) -> Result<(), NoMemory>
     ensures { Appends result out.old.items
-        (32 ∷ (name_of catalog.now rec ++ 32 ∷ (stored.now.value ++ 32 ∷ view_text stored.now.date)))
+        (word.now ++ (view_text view.now ++ 32 ∷ name_of catalog.now rec)) out.new.items }
+{
+    print_word(out, word)?;
+    view.print(out)?;
+    print_record_after(out, catalog, rec)
+}
+
+fn print_copy_value(
+    out: &mut Vec<u8>,
+    catalog: &Catalog,
+    view: &ViewId,
+    rec: RecId,
+    value: &Value,
+) -> Result<(), NoMemory>
+    ensures { Appends result out.old.items
+        ((codes "refresh-answer " ++ (view_text view.now ++ 32 ∷ name_of catalog.now rec)) ++ 32 ∷ value.now)
         out.new.items }
 {
-    print_record_after(out, catalog, rec)?;
-    print_value(out, &stored.value)?;
-    out.push(b' ')?;
-    stored.date.print(out)
+    print_refreshed(out, catalog, b"refresh-answer ", view, rec)?;
+    print_value(out, value)
+}
+
+/// Appends the beginning of an answer to a refresh, up to the content.
+fn print_content(
+    out: &mut Vec<u8>,
+    catalog: &Catalog,
+    view: &ViewId,
+    rec: RecId,
+    content: &Option<Value>,
+) -> Result<(), NoMemory>
+    ensures { Appends result out.old.items (begun_copy catalog.now view.now rec content.now) out.new.items }
+{
+    match content {
+        None => print_refreshed(out, catalog, b"refresh-absent ", view, rec),
+        Some(value) => print_copy_value(out, catalog, view, rec, value),
+    }
 }
 
 fn print_refresh_answer(
@@ -187,13 +343,11 @@ fn print_refresh_answer(
     stored: &Stored,
 ) -> Result<(), NoMemory>
     ensures { Appends result out.old.items
-        (codes "refresh-answer " ++
-        (view_text view.now ++ 32 ∷
-        (name_of catalog.now rec ++ 32 ∷ (stored.now.value ++ 32 ∷ view_text stored.now.date))))
+        (copy_text (view_text view.now ++ 32 ∷ name_of catalog.now rec) stored.now.value stored.now)
         out.new.items }
 {
-    print_view(out, b"refresh-answer ", view)?;
-    print_copy(out, catalog, rec, stored)
+    print_content(out, catalog, view, rec, &stored.value)?;
+    print_dated(out, stored)
 }
 
 fn print_prepare(
@@ -203,16 +357,19 @@ fn print_prepare(
     view: &ViewId,
     number: CallNo,
     reads: &[RecId],
-    writes: &[(RecId, Value)],
+    writes: &[(RecId, Change)],
 ) -> Result<(), NoMemory>
     ensures { Appends result out.old.items
         (request_text (codes "prepare ") txn.now view.now number ++
-        (flat_map (read_text catalog.now) reads.now ++ flat_map (write_text catalog.now) writes.now))
+        (flat_map (read_text catalog.now) reads.now ++
+        (flat_map (write_text catalog.now) writes.now ++
+        flat_map (λ (w : ℕ × ChangeState). given_text catalog.now w.0 w.1.table) writes.now)))
         out.new.items }
 {
     print_request(out, b"prepare ", txn, view, number)?;
     print_reads(out, catalog, reads)?;
-    print_writes(out, catalog, writes)
+    print_writes(out, catalog, writes)?;
+    print_tables(out, catalog, writes)
 }
 
 /// Appends a message as a trace has it, with its records by name. After an error a beginning of it may have been appended.
@@ -235,7 +392,7 @@ pub fn print_message(
             rec,
         } => print_lock_request(out, catalog, b"read-request ", txn, view, *number, *rec),
         Message::ReadAnswer { txn, number, value } => {
-            print_read_answer(out, txn, *number, value.as_ref())
+            print_read_answer(out, catalog, txn, *number, value)
         }
         Message::WriteRequest {
             txn,

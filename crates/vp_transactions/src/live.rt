@@ -16,7 +16,9 @@ use crate::slots::Slots;
 use std::alloc::Global;
 use std::marker::Model;
 use std::mem;
-use vp_base::{Boxed, CopyOf, Live, Newest, NoMemory, Ops, Pending, Seq, Sites, TxnId, ViewId};
+use vp_base::{
+    Boxed, CopyOf, Live, Newest, NoMemory, Ops, Pending, Seq, Sites, Tables, TxnId, ViewId,
+};
 use vp_lists::is_same_txn;
 
 /// The live transactions, in the order in which they began. Their numbers ascend, so that one is found by halving; the place where
@@ -237,6 +239,7 @@ fn new_live(alloc: Global, txn: &TxnId, view: ViewId) -> Live
         txn: *txn,
         view,
         ops: Ops::new(alloc),
+        tables: Tables::new(alloc),
         remote: Seq::new(alloc),
         parts: Sites::new(alloc),
         answers: Seq::new(alloc),
@@ -305,6 +308,7 @@ fn copy_of_live(t: &Live) -> Result<Live, NoMemory>
         txn: t.txn,
         view: t.view,
         ops: t.ops.copy_of()?,
+        tables: t.tables.copy_of()?,
         remote: t.remote.copy_of()?,
         parts: t.parts.copy_of()?,
         answers: t.answers.copy_of()?,

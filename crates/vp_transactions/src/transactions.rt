@@ -76,6 +76,17 @@ fn answer_to(txn: &TxnId, number: CallNo, why: &Ending) -> Result<Answer, NoMemo
             number,
             at: *at,
         }),
+        Ending::Inaccessible {
+            name,
+            inside,
+            total,
+        } => Ok(Answer::Inaccessible {
+            txn,
+            number,
+            name: name.copy_of()?,
+            inside: *inside,
+            total: *total,
+        }),
     }
 }
 

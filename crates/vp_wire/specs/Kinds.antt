@@ -17,10 +17,18 @@ use Rattle.vp_wire.specs.declared.kind.AnswerKind.{AnswerKind}
 use Rattle.vp_wire.specs.declared.kind.AnswerKind.TheVariants as answers
 use Rattle.vp_wire.specs.declared.kind.FrameKind.{FrameKind}
 use Rattle.vp_wire.specs.declared.kind.FrameKind.TheVariants as frames
+use Rattle.vp_contents.specs.declared.version.Version.{Version}
+use Rattle.vp_contents.specs.declared.version.Version.TheVariants as versions
 
 -- the first of these kinds that has this code
 abbrev pub kind_of_code : {K : Type 0} → (K → ℕ) → List K → ℕ → Option K
 kind_of_code code kinds c = find (λ kind. code kind == c) kinds
+
+-- a kind of both versions, or one that only the second has
+abbrev pub or_later : {K : Type 0} → Version → Option K → Option K → Option K
+or_later version (Some kind) later = Some kind
+or_later versions.First None later = None
+or_later versions.Second None later = later
 
 -- ---- messages
 
@@ -77,12 +85,18 @@ call_code calls.Read = 3
 call_code calls.Write = 4
 call_code calls.Commit = 5
 call_code calls.Abort = 6
+call_code calls.Delete = 7
+call_code calls.Weigh = 8
 
 abbrev pub call_kinds : List CallKind
 call_kinds = calls.Begin ∷ calls.Regroup ∷ calls.Read ∷ calls.Write ∷ calls.Commit ∷ calls.Abort ∷ []
 
-abbrev pub call_kind : ℕ → Option CallKind
-call_kind c = kind_of_code call_code call_kinds c
+-- those of the second version alone
+abbrev pub later_calls : List CallKind
+later_calls = calls.Delete ∷ calls.Weigh ∷ []
+
+abbrev pub call_kind : Version → ℕ → Option CallKind
+call_kind version c = or_later version (kind_of_code call_code call_kinds c) (kind_of_code call_code later_calls c)
 
 abbrev pub kind_of_call : Call → CallKind
 kind_of_call call.Begin = calls.Begin
@@ -91,6 +105,8 @@ kind_of_call (call.Read txn number name) = calls.Read
 kind_of_call (call.Write txn number name value) = calls.Write
 kind_of_call (call.Commit txn number) = calls.Commit
 kind_of_call (call.Abort txn number) = calls.Abort
+kind_of_call (call.Delete txn number name) = calls.Delete
+kind_of_call (call.Weigh txn number name table) = calls.Weigh
 
 -- ---- answers
 
@@ -113,12 +129,20 @@ answer_code answers.ViewChanged = 15
 answer_code answers.TimedOut = 16
 answer_code answers.Spent = 17
 answer_code answers.TooManyLive = 18
+answer_code answers.Absent = 19
+answer_code answers.Deleted = 20
+answer_code answers.Weighed = 21
+answer_code answers.BadTable = 22
 
 abbrev pub answer_kinds : List AnswerKind
 answer_kinds = answers.Begun ∷ answers.Value ∷ answers.Written ∷ answers.Committed ∷ answers.Aborted ∷ answers.Inviting ∷ answers.NoView ∷ answers.Unknown ∷ answers.Skipped ∷ answers.Busy ∷ answers.NoRecord ∷ answers.TooManyOps ∷ answers.Inaccessible ∷ answers.LockHeld ∷ answers.ViewChanged ∷ answers.TimedOut ∷ answers.Spent ∷ answers.TooManyLive ∷ []
 
-abbrev pub answer_kind : ℕ → Option AnswerKind
-answer_kind c = kind_of_code answer_code answer_kinds c
+-- those of the second version alone
+abbrev pub later_answers : List AnswerKind
+later_answers = answers.Absent ∷ answers.Deleted ∷ answers.Weighed ∷ answers.BadTable ∷ []
+
+abbrev pub answer_kind : Version → ℕ → Option AnswerKind
+answer_kind version c = or_later version (kind_of_code answer_code answer_kinds c) (kind_of_code answer_code later_answers c)
 
 abbrev pub kind_of_answer : Answer → AnswerKind
 kind_of_answer (answer.Begun txn view) = answers.Begun
@@ -139,6 +163,10 @@ kind_of_answer (answer.ViewChanged txn number at held now) = answers.ViewChanged
 kind_of_answer (answer.TimedOut txn number at) = answers.TimedOut
 kind_of_answer (answer.Spent number) = answers.Spent
 kind_of_answer answer.TooManyLive = answers.TooManyLive
+kind_of_answer (answer.Absent txn number) = answers.Absent
+kind_of_answer (answer.Deleted txn number) = answers.Deleted
+kind_of_answer (answer.Weighed txn number) = answers.Weighed
+kind_of_answer (answer.BadTable txn number) = answers.BadTable
 
 -- ---- frames: messages by their codes, and the other kinds of frames
 

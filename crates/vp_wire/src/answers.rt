@@ -2,7 +2,8 @@
 
 ghost use Rattle.std.specs.Prelude.{◌≡◌, ◌++◌, ◌∷◌, []};
 ghost use Rattle.vp_text.specs.Printing.{Appends};
-ghost use Rattle.vp_wire.specs.Grammar.{answer_bytes, answer_fields};
+ghost use Rattle.vp_wire.specs.Grammar.{IsAnswer, answer_bytes, answer_fields};
+ghost use Rattle.vp_contents.specs.Values.{IsValueIn, value_bytes};
 ghost use Rattle.vp_bytes.specs.Fields.{number_bytes, counted_bytes, numbered_bytes, txn_bytes, view_bytes, owner_bytes, maybe_view_bytes};
 
 use crate::calls::put_numbered_name;
@@ -10,26 +11,30 @@ use crate::kind::AnswerKind;
 use bytes::BytesMut;
 use vp_base::{Answer, CallNo, Name, NoMemory, Owner, SiteId, TxnId, Value, ViewId};
 use vp_bytes::{
-    put_byte, put_maybe_view, put_numbered, put_owner, put_txn, put_u32, put_u64, put_value,
-    put_view,
+    put_byte, put_maybe_view, put_numbered, put_owner, put_txn, put_u32, put_u64, put_view,
 };
+use vp_contents::{Version, put_value};
 
 /// Appends an answer: the byte of its kind and its fields. After an error a beginning of it may have been appended.
 #[tactic(auto, using(vp_bytes::proofs::Writing::writing))]
-pub fn put_answer(out: &mut BytesMut, answer: &Answer) -> Result<(), NoMemory>
-    ensures { Appends result out.old.items (answer_bytes answer.now) out.new.items }
+pub fn put_answer(out: &mut BytesMut, version: Version, answer: &Answer) -> Result<(), NoMemory>
+    requires { IsAnswer version answer.now }
+    ensures { Appends result out.old.items (answer_bytes version answer.now) out.new.items }
 {
     put_byte(out, AnswerKind::of_answer(answer).code())?;
-    put_answer_fields(out, answer)
+    put_answer_fields(out, version, answer)
 }
 
 #[tactic(auto, using(vp_bytes::proofs::Writing::writing))]
-fn put_answer_fields(out: &mut BytesMut, answer: &Answer) -> Result<(), NoMemory>
-    ensures { Appends result out.old.items (answer_fields answer.now) out.new.items }
+fn put_answer_fields(out: &mut BytesMut, version: Version, answer: &Answer) -> Result<(), NoMemory>
+    requires { IsAnswer version answer.now }
+    ensures { Appends result out.old.items (answer_fields version answer.now) out.new.items }
 {
     match answer {
         Answer::Begun { txn, view } => put_begun(out, txn, view),
-        Answer::Value { txn, number, value } => put_numbered_value(out, txn, *number, value),
+        Answer::Value { txn, number, value } => put_numbered_value(
+            out, version, txn, *number, value,
+        ),
         Answer::Written { txn, number } => put_numbered(out, txn, *number),
         Answer::Committed { txn, number } => put_numbered(out, txn, *number),
         Answer::Aborted { txn, number } => put_numbered(out, txn, *number),
@@ -64,6 +69,10 @@ fn put_answer_fields(out: &mut BytesMut, answer: &Answer) -> Result<(), NoMemory
         Answer::TimedOut { txn, number, at } => put_numbered_site(out, txn, *number, *at),
         Answer::Spent { number } => put_u64(out, *number),
         Answer::TooManyLive => Ok(()),
+        Answer::Absent { txn, number } => put_numbered(out, txn, *number),
+        Answer::Deleted { txn, number } => put_numbered(out, txn, *number),
+        Answer::Weighed { txn, number } => put_numbered(out, txn, *number),
+        Answer::BadTable { txn, number } => put_numbered(out, txn, *number),
     }
 }
 
@@ -75,19 +84,21 @@ fn put_begun(out: &mut BytesMut, txn: &TxnId, view: &ViewId) -> Result<(), NoMem
     put_view(out, view)
 }
 
-/// Appends the transaction and the number of an answer or of a message, and a value.
+/// Appends the transaction and the number of an answer, and a value.
 #[tactic(auto, using(vp_bytes::proofs::Writing::writing))]
-pub fn put_numbered_value(
+fn put_numbered_value(
     out: &mut BytesMut,
+    version: Version,
     txn: &TxnId,
     number: CallNo,
     value: &Value,
 ) -> Result<(), NoMemory>
-    ensures { Appends result out.old.items (numbered_bytes txn.now number ++ counted_bytes value.now)
+    requires { IsValueIn version value.now }
+    ensures { Appends result out.old.items (numbered_bytes txn.now number ++ value_bytes version value.now)
         out.new.items }
 {
     put_numbered(out, txn, number)?;
-    put_value(out, value)
+    put_value(out, version, value)
 }
 
 #[tactic(auto, using(vp_bytes::proofs::Writing::writing))]

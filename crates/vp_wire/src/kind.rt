@@ -1,11 +1,12 @@
 //! The kinds of messages, calls, answers and frames, and the byte of each in a frame.
 
 ghost use Rattle.std.specs.Prelude.{◌≡◌};
-ghost use Rattle.vp_wire.specs.Kinds.{answer_code, answer_kind, call_code, call_kind, kind_of_code, frame_code, frame_kind, kind_of_answer, kind_of_body, kind_of_call, kind_of_message, message_code, message_kind, other_kinds};
+ghost use Rattle.vp_wire.specs.Kinds.{answer_code, answer_kind, answer_kinds, call_code, call_kind, call_kinds, kind_of_code, later_answers, later_calls, frame_code, frame_kind, kind_of_answer, kind_of_body, kind_of_call, kind_of_message, message_code, message_kind, other_kinds};
 
 use crate::frame::Body;
 use vp_base::{Answer, Call, Message};
 use vp_bytes::HasCode;
+use vp_contents::Version;
 
 /// A kind of message, as the variants of `Message` are. Its number is its byte in a frame.
 #[derive(Clone, Copy, Drop)]
@@ -103,10 +104,13 @@ pub enum CallKind {
     Write = 4,
     Commit = 5,
     Abort = 6,
+    Delete = 7,
+    Weigh = 8,
 }
 
 impl CallKind {
-    const ALL: [CallKind; 6] = [
+    /// The kinds of both versions.
+    const BOTH: [CallKind; 6] = [
         CallKind::Begin,
         CallKind::Regroup,
         CallKind::Read,
@@ -114,6 +118,9 @@ impl CallKind {
         CallKind::Commit,
         CallKind::Abort,
     ];
+
+    /// The kinds of the second version alone.
+    const LATER: [CallKind; 2] = [CallKind::Delete, CallKind::Weigh];
 
     /// The kind of this call.
     pub fn of_call(call: &Call) -> CallKind
@@ -126,6 +133,8 @@ impl CallKind {
             Call::Write { .. } => CallKind::Write,
             Call::Commit { .. } => CallKind::Commit,
             Call::Abort { .. } => CallKind::Abort,
+            Call::Delete { .. } => CallKind::Delete,
+            Call::Weigh { .. } => CallKind::Weigh,
         }
     }
 
@@ -135,13 +144,33 @@ impl CallKind {
     {
         self as u8
     }
-}
 
-impl HasCode for CallKind {
-    ghost kind = { call_kind };
+    /// The kind with this code in the version, or `None` where no kind has it there.
+    pub fn of(version: Version, code: u8) -> Option<CallKind>
+        ensures { result ≡ call_kind version code }
+    {
+        match CallKind::in_both(code) {
+            Some(kind) => Some(kind),
+            None => match version {
+                Version::First => None,
+                Version::Second => CallKind::later(code),
+            },
+        }
+    }
 
-    fn of(code: u8) -> Option<CallKind> {
-        CallKind::ALL
+    fn in_both(code: u8) -> Option<CallKind>
+        ensures { result ≡ kind_of_code call_code call_kinds code }
+    {
+        CallKind::BOTH
+            .iter()
+            .copied()
+            .find(|kind| kind.code() == code)
+    }
+
+    fn later(code: u8) -> Option<CallKind>
+        ensures { result ≡ kind_of_code call_code later_calls code }
+    {
+        CallKind::LATER
             .iter()
             .copied()
             .find(|kind| kind.code() == code)
@@ -169,10 +198,15 @@ pub enum AnswerKind {
     TimedOut = 16,
     Spent = 17,
     TooManyLive = 18,
+    Absent = 19,
+    Deleted = 20,
+    Weighed = 21,
+    BadTable = 22,
 }
 
 impl AnswerKind {
-    const ALL: [AnswerKind; 18] = [
+    /// The kinds of both versions.
+    const BOTH: [AnswerKind; 18] = [
         AnswerKind::Begun,
         AnswerKind::Value,
         AnswerKind::Written,
@@ -191,6 +225,14 @@ impl AnswerKind {
         AnswerKind::TimedOut,
         AnswerKind::Spent,
         AnswerKind::TooManyLive,
+    ];
+
+    /// The kinds of the second version alone.
+    const LATER: [AnswerKind; 4] = [
+        AnswerKind::Absent,
+        AnswerKind::Deleted,
+        AnswerKind::Weighed,
+        AnswerKind::BadTable,
     ];
 
     /// The kind of this answer.
@@ -216,6 +258,10 @@ impl AnswerKind {
             Answer::TimedOut { .. } => AnswerKind::TimedOut,
             Answer::Spent { .. } => AnswerKind::Spent,
             Answer::TooManyLive => AnswerKind::TooManyLive,
+            Answer::Absent { .. } => AnswerKind::Absent,
+            Answer::Deleted { .. } => AnswerKind::Deleted,
+            Answer::Weighed { .. } => AnswerKind::Weighed,
+            Answer::BadTable { .. } => AnswerKind::BadTable,
         }
     }
 
@@ -225,13 +271,33 @@ impl AnswerKind {
     {
         self as u8
     }
-}
 
-impl HasCode for AnswerKind {
-    ghost kind = { answer_kind };
+    /// The kind with this code in the version, or `None` where no kind has it there.
+    pub fn of(version: Version, code: u8) -> Option<AnswerKind>
+        ensures { result ≡ answer_kind version code }
+    {
+        match AnswerKind::in_both(code) {
+            Some(kind) => Some(kind),
+            None => match version {
+                Version::First => None,
+                Version::Second => AnswerKind::later(code),
+            },
+        }
+    }
 
-    fn of(code: u8) -> Option<AnswerKind> {
-        AnswerKind::ALL
+    fn in_both(code: u8) -> Option<AnswerKind>
+        ensures { result ≡ kind_of_code answer_code answer_kinds code }
+    {
+        AnswerKind::BOTH
+            .iter()
+            .copied()
+            .find(|kind| kind.code() == code)
+    }
+
+    fn later(code: u8) -> Option<AnswerKind>
+        ensures { result ≡ kind_of_code answer_code later_answers code }
+    {
+        AnswerKind::LATER
             .iter()
             .copied()
             .find(|kind| kind.code() == code)

@@ -1,17 +1,19 @@
-//! Reading the fields of answers.
+//! Reading the fields of answers. Where both versions have the same fields, what is read is said for the second.
 
 ghost use Rattle.vp_text.specs.Reading.{Tries};
 ghost use Rattle.vp_base.specs.Faults.{line_left};
 ghost use Rattle.vp_wire.specs.declared.kind.AnswerKind.TheVariants as kinds;
 ghost use Rattle.vp_wire.specs.Answers.{answer_at};
+ghost use Rattle.vp_contents.specs.declared.version.Version.TheVariants as versions;
 
 use crate::kind::AnswerKind;
 use std::alloc::Global;
 use vp_base::{Answer, LineFault};
 use vp_bytes::{
     read_maybe_view, read_name, read_numbered, read_owner, read_site, read_txn, read_u32, read_u64,
-    read_value, read_view,
+    read_view,
 };
+use vp_contents::{Version, read_value};
 use vp_text::Cursor;
 
 /// Reads the fields of an answer of this kind.
@@ -19,13 +21,14 @@ use vp_text::Cursor;
 pub fn read_answer(
     alloc: Global,
     cursor: &mut Cursor,
+    version: Version,
     kind: AnswerKind,
 ) -> Result<Answer, LineFault>
-    ensures { Tries (λ m. m) line_left result cursor.new (answer_at kind cursor.old) }
+    ensures { Tries (λ m. m) line_left result cursor.new (answer_at version kind cursor.old) }
 {
     match kind {
         AnswerKind::Begun => read_begun(cursor),
-        AnswerKind::Value => read_value_read(alloc, cursor),
+        AnswerKind::Value => read_value_read(alloc, cursor, version),
         AnswerKind::Written => read_written(cursor),
         AnswerKind::Committed => read_committed(cursor),
         AnswerKind::Aborted => read_aborted(cursor),
@@ -42,12 +45,16 @@ pub fn read_answer(
         AnswerKind::TimedOut => read_timed_out(cursor),
         AnswerKind::Spent => read_spent(cursor),
         AnswerKind::TooManyLive => Ok(Answer::TooManyLive),
+        AnswerKind::Absent => read_absent(cursor),
+        AnswerKind::Deleted => read_deleted(cursor),
+        AnswerKind::Weighed => read_weighed(cursor),
+        AnswerKind::BadTable => read_bad_table(cursor),
     }
 }
 
 #[tactic(auto, unfolding(crate::specs::Answers::answer_at))]
 fn read_begun(cursor: &mut Cursor) -> Result<Answer, LineFault>
-    ensures { Tries (λ m. m) line_left result cursor.new (answer_at kinds.Begun cursor.old) }
+    ensures { Tries (λ m. m) line_left result cursor.new (answer_at versions.Second kinds.Begun cursor.old) }
 {
     let txn = read_txn(cursor)?;
     let view = read_view(cursor)?;
@@ -55,17 +62,21 @@ fn read_begun(cursor: &mut Cursor) -> Result<Answer, LineFault>
 }
 
 #[tactic(auto, unfolding(crate::specs::Answers::answer_at))]
-fn read_value_read(alloc: Global, cursor: &mut Cursor) -> Result<Answer, LineFault>
-    ensures { Tries (λ m. m) line_left result cursor.new (answer_at kinds.Value cursor.old) }
+fn read_value_read(
+    alloc: Global,
+    cursor: &mut Cursor,
+    version: Version,
+) -> Result<Answer, LineFault>
+    ensures { Tries (λ m. m) line_left result cursor.new (answer_at version kinds.Value cursor.old) }
 {
     let (txn, number) = read_numbered(cursor)?;
-    let value = read_value(alloc, cursor)?;
+    let value = read_value(alloc, cursor, version)?;
     Ok(Answer::Value { txn, number, value })
 }
 
 #[tactic(auto, unfolding(crate::specs::Answers::answer_at))]
 fn read_written(cursor: &mut Cursor) -> Result<Answer, LineFault>
-    ensures { Tries (λ m. m) line_left result cursor.new (answer_at kinds.Written cursor.old) }
+    ensures { Tries (λ m. m) line_left result cursor.new (answer_at versions.Second kinds.Written cursor.old) }
 {
     let (txn, number) = read_numbered(cursor)?;
     Ok(Answer::Written { txn, number })
@@ -73,7 +84,7 @@ fn read_written(cursor: &mut Cursor) -> Result<Answer, LineFault>
 
 #[tactic(auto, unfolding(crate::specs::Answers::answer_at))]
 fn read_committed(cursor: &mut Cursor) -> Result<Answer, LineFault>
-    ensures { Tries (λ m. m) line_left result cursor.new (answer_at kinds.Committed cursor.old) }
+    ensures { Tries (λ m. m) line_left result cursor.new (answer_at versions.Second kinds.Committed cursor.old) }
 {
     let (txn, number) = read_numbered(cursor)?;
     Ok(Answer::Committed { txn, number })
@@ -81,7 +92,7 @@ fn read_committed(cursor: &mut Cursor) -> Result<Answer, LineFault>
 
 #[tactic(auto, unfolding(crate::specs::Answers::answer_at))]
 fn read_aborted(cursor: &mut Cursor) -> Result<Answer, LineFault>
-    ensures { Tries (λ m. m) line_left result cursor.new (answer_at kinds.Aborted cursor.old) }
+    ensures { Tries (λ m. m) line_left result cursor.new (answer_at versions.Second kinds.Aborted cursor.old) }
 {
     let (txn, number) = read_numbered(cursor)?;
     Ok(Answer::Aborted { txn, number })
@@ -89,7 +100,7 @@ fn read_aborted(cursor: &mut Cursor) -> Result<Answer, LineFault>
 
 #[tactic(auto, unfolding(crate::specs::Answers::answer_at))]
 fn read_inviting(cursor: &mut Cursor) -> Result<Answer, LineFault>
-    ensures { Tries (λ m. m) line_left result cursor.new (answer_at kinds.Inviting cursor.old) }
+    ensures { Tries (λ m. m) line_left result cursor.new (answer_at versions.Second kinds.Inviting cursor.old) }
 {
     let view = read_view(cursor)?;
     Ok(Answer::Inviting { view })
@@ -97,7 +108,7 @@ fn read_inviting(cursor: &mut Cursor) -> Result<Answer, LineFault>
 
 #[tactic(auto, unfolding(crate::specs::Answers::answer_at))]
 fn read_no_view(cursor: &mut Cursor) -> Result<Answer, LineFault>
-    ensures { Tries (λ m. m) line_left result cursor.new (answer_at kinds.NoView cursor.old) }
+    ensures { Tries (λ m. m) line_left result cursor.new (answer_at versions.Second kinds.NoView cursor.old) }
 {
     let promise = read_view(cursor)?;
     Ok(Answer::NoView { promise })
@@ -105,7 +116,7 @@ fn read_no_view(cursor: &mut Cursor) -> Result<Answer, LineFault>
 
 #[tactic(auto, unfolding(crate::specs::Answers::answer_at))]
 fn read_unknown(cursor: &mut Cursor) -> Result<Answer, LineFault>
-    ensures { Tries (λ m. m) line_left result cursor.new (answer_at kinds.Unknown cursor.old) }
+    ensures { Tries (λ m. m) line_left result cursor.new (answer_at versions.Second kinds.Unknown cursor.old) }
 {
     let txn = read_txn(cursor)?;
     Ok(Answer::Unknown { txn })
@@ -113,7 +124,7 @@ fn read_unknown(cursor: &mut Cursor) -> Result<Answer, LineFault>
 
 #[tactic(auto, unfolding(crate::specs::Answers::answer_at))]
 fn read_skipped(cursor: &mut Cursor) -> Result<Answer, LineFault>
-    ensures { Tries (λ m. m) line_left result cursor.new (answer_at kinds.Skipped cursor.old) }
+    ensures { Tries (λ m. m) line_left result cursor.new (answer_at versions.Second kinds.Skipped cursor.old) }
 {
     let (txn, expected) = read_numbered(cursor)?;
     Ok(Answer::Skipped { txn, expected })
@@ -121,7 +132,7 @@ fn read_skipped(cursor: &mut Cursor) -> Result<Answer, LineFault>
 
 #[tactic(auto, unfolding(crate::specs::Answers::answer_at))]
 fn read_busy(cursor: &mut Cursor) -> Result<Answer, LineFault>
-    ensures { Tries (λ m. m) line_left result cursor.new (answer_at kinds.Busy cursor.old) }
+    ensures { Tries (λ m. m) line_left result cursor.new (answer_at versions.Second kinds.Busy cursor.old) }
 {
     let (txn, number) = read_numbered(cursor)?;
     Ok(Answer::Busy { txn, number })
@@ -129,7 +140,7 @@ fn read_busy(cursor: &mut Cursor) -> Result<Answer, LineFault>
 
 #[tactic(auto, unfolding(crate::specs::Answers::answer_at))]
 fn read_no_record(cursor: &mut Cursor) -> Result<Answer, LineFault>
-    ensures { Tries (λ m. m) line_left result cursor.new (answer_at kinds.NoRecord cursor.old) }
+    ensures { Tries (λ m. m) line_left result cursor.new (answer_at versions.Second kinds.NoRecord cursor.old) }
 {
     let (txn, number) = read_numbered(cursor)?;
     Ok(Answer::NoRecord { txn, number })
@@ -137,7 +148,7 @@ fn read_no_record(cursor: &mut Cursor) -> Result<Answer, LineFault>
 
 #[tactic(auto, unfolding(crate::specs::Answers::answer_at))]
 fn read_too_many_ops(cursor: &mut Cursor) -> Result<Answer, LineFault>
-    ensures { Tries (λ m. m) line_left result cursor.new (answer_at kinds.TooManyOps cursor.old) }
+    ensures { Tries (λ m. m) line_left result cursor.new (answer_at versions.Second kinds.TooManyOps cursor.old) }
 {
     let (txn, number) = read_numbered(cursor)?;
     Ok(Answer::TooManyOps { txn, number })
@@ -145,7 +156,7 @@ fn read_too_many_ops(cursor: &mut Cursor) -> Result<Answer, LineFault>
 
 #[tactic(auto, unfolding(crate::specs::Answers::answer_at))]
 fn read_inaccessible(alloc: Global, cursor: &mut Cursor) -> Result<Answer, LineFault>
-    ensures { Tries (λ m. m) line_left result cursor.new (answer_at kinds.Inaccessible cursor.old) }
+    ensures { Tries (λ m. m) line_left result cursor.new (answer_at versions.Second kinds.Inaccessible cursor.old) }
 {
     let (txn, number) = read_numbered(cursor)?;
     let name = read_name(alloc, cursor)?;
@@ -162,7 +173,7 @@ fn read_inaccessible(alloc: Global, cursor: &mut Cursor) -> Result<Answer, LineF
 
 #[tactic(auto, unfolding(crate::specs::Answers::answer_at))]
 fn read_lock_held(alloc: Global, cursor: &mut Cursor) -> Result<Answer, LineFault>
-    ensures { Tries (λ m. m) line_left result cursor.new (answer_at kinds.LockHeld cursor.old) }
+    ensures { Tries (λ m. m) line_left result cursor.new (answer_at versions.Second kinds.LockHeld cursor.old) }
 {
     let (txn, number) = read_numbered(cursor)?;
     let name = read_name(alloc, cursor)?;
@@ -179,7 +190,7 @@ fn read_lock_held(alloc: Global, cursor: &mut Cursor) -> Result<Answer, LineFaul
 
 #[tactic(auto, unfolding(crate::specs::Answers::answer_at))]
 fn read_view_changed(cursor: &mut Cursor) -> Result<Answer, LineFault>
-    ensures { Tries (λ m. m) line_left result cursor.new (answer_at kinds.ViewChanged cursor.old) }
+    ensures { Tries (λ m. m) line_left result cursor.new (answer_at versions.Second kinds.ViewChanged cursor.old) }
 {
     let (txn, number) = read_numbered(cursor)?;
     let at = read_site(cursor)?;
@@ -196,7 +207,7 @@ fn read_view_changed(cursor: &mut Cursor) -> Result<Answer, LineFault>
 
 #[tactic(auto, unfolding(crate::specs::Answers::answer_at))]
 fn read_timed_out(cursor: &mut Cursor) -> Result<Answer, LineFault>
-    ensures { Tries (λ m. m) line_left result cursor.new (answer_at kinds.TimedOut cursor.old) }
+    ensures { Tries (λ m. m) line_left result cursor.new (answer_at versions.Second kinds.TimedOut cursor.old) }
 {
     let (txn, number) = read_numbered(cursor)?;
     let at = read_site(cursor)?;
@@ -205,8 +216,40 @@ fn read_timed_out(cursor: &mut Cursor) -> Result<Answer, LineFault>
 
 #[tactic(auto, unfolding(crate::specs::Answers::answer_at))]
 fn read_spent(cursor: &mut Cursor) -> Result<Answer, LineFault>
-    ensures { Tries (λ m. m) line_left result cursor.new (answer_at kinds.Spent cursor.old) }
+    ensures { Tries (λ m. m) line_left result cursor.new (answer_at versions.Second kinds.Spent cursor.old) }
 {
     let number = read_u64(cursor)?;
     Ok(Answer::Spent { number })
+}
+
+#[tactic(auto, unfolding(crate::specs::Answers::answer_at))]
+fn read_absent(cursor: &mut Cursor) -> Result<Answer, LineFault>
+    ensures { Tries (λ m. m) line_left result cursor.new (answer_at versions.Second kinds.Absent cursor.old) }
+{
+    let (txn, number) = read_numbered(cursor)?;
+    Ok(Answer::Absent { txn, number })
+}
+
+#[tactic(auto, unfolding(crate::specs::Answers::answer_at))]
+fn read_deleted(cursor: &mut Cursor) -> Result<Answer, LineFault>
+    ensures { Tries (λ m. m) line_left result cursor.new (answer_at versions.Second kinds.Deleted cursor.old) }
+{
+    let (txn, number) = read_numbered(cursor)?;
+    Ok(Answer::Deleted { txn, number })
+}
+
+#[tactic(auto, unfolding(crate::specs::Answers::answer_at))]
+fn read_weighed(cursor: &mut Cursor) -> Result<Answer, LineFault>
+    ensures { Tries (λ m. m) line_left result cursor.new (answer_at versions.Second kinds.Weighed cursor.old) }
+{
+    let (txn, number) = read_numbered(cursor)?;
+    Ok(Answer::Weighed { txn, number })
+}
+
+#[tactic(auto, unfolding(crate::specs::Answers::answer_at))]
+fn read_bad_table(cursor: &mut Cursor) -> Result<Answer, LineFault>
+    ensures { Tries (λ m. m) line_left result cursor.new (answer_at versions.Second kinds.BadTable cursor.old) }
+{
+    let (txn, number) = read_numbered(cursor)?;
+    Ok(Answer::BadTable { txn, number })
 }

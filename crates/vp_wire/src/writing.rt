@@ -2,36 +2,48 @@
 
 ghost use Rattle.std.specs.Prelude.{◌≡◌, ◌++◌, ◌∷◌, []};
 ghost use Rattle.vp_text.specs.Printing.{Appends};
-ghost use Rattle.vp_bytes.specs.Fields.{IsSites, IsRecs, IsWrites, view_bytes, txn_bytes, counted_bytes, writes_bytes, numbered_bytes, request_bytes};
-ghost use Rattle.vp_bytes.specs.Copies.{copy_bytes};
+ghost use Rattle.vp_bytes.specs.Fields.{IsSites, IsRecs, view_bytes, txn_bytes, counted_bytes, number_bytes, numbered_bytes, request_bytes};
+ghost use Rattle.vp_contents.specs.Versions.{version_of};
+ghost use Rattle.vp_contents.specs.Contents.{IsContent, content_bytes};
+ghost use Rattle.vp_contents.specs.Changes.{IsWrites, writes_bytes};
+ghost use Rattle.vp_contents.specs.Copies.{IsStored, copy_bytes};
+ghost use Rattle.vp_contents.specs.declared.version.Version.TheVariants as versions;
 ghost use Rattle.vp_wire.specs.Grammar.{IsMessage, IsFrame, message_fields, fields, frame_of, frame_bytes, obstacle_bytes};
 ghost use Rattle.vp_wire.specs.Kinds.{frame_code};
 ghost use Rattle.vp_wire.specs.declared.frame.Body.TheVariants as body;
 
-use crate::answers::{put_answer, put_numbered_value};
+use crate::answers::put_answer;
 use crate::calls::put_call;
-use crate::frame::{Body, Frame};
+use crate::frame::{Body, Frame, SENT};
 use crate::kind::{FrameKind, MessageKind};
 use bytes::{BufMut, BytesMut};
 use vp_base::{
-    Answer, CallNo, Message, NoMemory, Obstacle, RecId, SiteId, Stored, TxnId, Value, ViewId,
+    Answer, Boxed, CallNo, Change, Message, NoMemory, Obstacle, RecId, SiteId, Stored, TxnId,
+    Value, ViewId,
 };
 use vp_bytes::{
-    put_byte, put_copy, put_maybe_view, put_numbered, put_outcome, put_owner, put_recs,
-    put_request, put_sites, put_txn, put_view, put_writes,
+    put_byte, put_maybe_view, put_numbered, put_outcome, put_owner, put_recs, put_request,
+    put_sites, put_txn, put_u32, put_view,
 };
+use vp_contents::{Version, put_absent, put_copy, put_present, put_writes};
 
-/// Appends the frame in its only encoding. After want of memory a beginning of it has been appended, and nothing else changed.
+/// Appends the frame in the only encoding that it has in its version. After want of memory a beginning of it has been appended, and nothing else changed.
 #[tactic(auto, using(vp_bytes::proofs::Writing::writing))]
 pub fn encode(frame: &Frame, out: &mut BytesMut) -> Result<(), NoMemory>
     requires { IsFrame frame.now }
     ensures { Appends result out.old.items (frame_bytes frame.now) out.new.items }
 {
-    put_head(out, FrameKind::of_body(&frame.body), frame.from, frame.to)?;
+    put_head(
+        out,
+        frame.version,
+        FrameKind::of_body(&frame.body),
+        frame.from,
+        frame.to,
+    )?;
     put_fields(out, frame)
 }
 
-/// Like `encode`, for the frame of a message from site to site; it takes the message by reference.
+/// Like `encode`, for the frame of a message from site to site, which is sent in version 2; it takes the message by reference.
 #[tactic(auto, using(vp_bytes::proofs::Writing::writing))]
 pub fn encode_message(
     from: SiteId,
@@ -44,47 +56,55 @@ pub fn encode_message(
         out.new.items }
 {
     let kind = FrameKind::Message(MessageKind::of_message(message));
-    put_head(out, kind, from.get(), to.get())?;
-    put_message(out, message)
+    put_head(out, SENT, kind, from.get(), to.get())?;
+    put_message(out, Version::Second, message)
 }
 
-/// Like `encode`, for the frame of an answer from a site to its client; it takes the answer by reference.
+/// Like `encode`, for the frame of an answer from a site to its client, which is sent in version 2; it takes the answer by
+/// reference.
 #[tactic(auto, using(vp_bytes::proofs::Writing::writing))]
 pub fn encode_reply(from: SiteId, answer: &Answer, out: &mut BytesMut) -> Result<(), NoMemory>
     requires { IsFrame (frame_of from 0 (body.Reply answer.now)) }
     ensures { Appends result out.old.items (frame_bytes (frame_of from 0 (body.Reply answer.now)))
         out.new.items }
 {
-    put_head(out, FrameKind::Reply, from.get(), 0)?;
-    put_answer(out, answer)
+    put_head(out, SENT, FrameKind::Reply, from.get(), 0)?;
+    put_answer(out, Version::Second, answer)
 }
 
-/// Appends what every frame begins with: the byte of its kind, the sender and the receiver.
+/// Appends what every frame begins with: its version, the byte of its kind, the sender and the receiver.
 #[tactic(auto, using(vp_bytes::proofs::Writing::writing))]
-fn put_head(out: &mut BytesMut, kind: FrameKind, from: u8, to: u8) -> Result<(), NoMemory>
-    ensures { Appends result out.old.items (86 ∷ 1 ∷ frame_code kind ∷ from ∷ to ∷ []) out.new.items }
+fn put_head(
+    out: &mut BytesMut,
+    version: u8,
+    kind: FrameKind,
+    from: u8,
+    to: u8,
+) -> Result<(), NoMemory>
+    ensures { Appends result out.old.items (86 ∷ version ∷ frame_code kind ∷ from ∷ to ∷ []) out.new.items }
 {
-    out.put_slice(&[0x56, 1, kind.code(), from, to])?;
+    out.put_slice(&[0x56, version, kind.code(), from, to])?;
     Ok(())
 }
 
 #[tactic(auto, using(vp_bytes::proofs::Writing::writing))]
 fn put_fields(out: &mut BytesMut, frame: &Frame) -> Result<(), NoMemory>
     requires { IsFrame frame.now }
-    ensures { Appends result out.old.items (fields frame.now.body) out.new.items }
+    ensures { Appends result out.old.items (fields (version_of frame.now.version) frame.now.body) out.new.items }
 {
+    let version = Version::of(frame.version);
     match &frame.body {
-        Body::Message(message) => put_message(out, message),
-        Body::Call(call) => put_call(out, call),
-        Body::Reply(answer) => put_answer(out, answer),
+        Body::Message(message) => put_message(out, version, message),
+        Body::Call(call) => put_call(out, version, call),
+        Body::Reply(answer) => put_answer(out, version, answer),
         Body::Tick | Body::ProbeNow | Body::Stop => Ok(()),
     }
 }
 
 #[tactic(auto, using(vp_bytes::proofs::Writing::writing))]
-fn put_message(out: &mut BytesMut, message: &Message) -> Result<(), NoMemory>
-    requires { IsMessage message.now }
-    ensures { Appends result out.old.items (message_fields message.now) out.new.items }
+fn put_message(out: &mut BytesMut, version: Version, message: &Message) -> Result<(), NoMemory>
+    requires { IsMessage version message.now }
+    ensures { Appends result out.old.items (message_fields version message.now) out.new.items }
 {
     match message {
         Message::Invite { id } => put_view(out, id),
@@ -98,7 +118,7 @@ fn put_message(out: &mut BytesMut, message: &Message) -> Result<(), NoMemory>
             rec,
         } => put_lock_request(out, txn, view, *number, *rec),
         Message::ReadAnswer { txn, number, value } => {
-            put_numbered_value(out, txn, *number, value.as_ref())
+            put_read_answer(out, version, txn, *number, value)
         }
         Message::WriteRequest {
             txn,
@@ -116,6 +136,7 @@ fn put_message(out: &mut BytesMut, message: &Message) -> Result<(), NoMemory>
             writes,
         } => put_prepare(
             out,
+            version,
             txn,
             view,
             *number,
@@ -128,7 +149,7 @@ fn put_message(out: &mut BytesMut, message: &Message) -> Result<(), NoMemory>
         Message::Inquire { txn } => put_txn(out, txn),
         Message::RefreshRequest { view, rec } => put_refresh_request(out, view, *rec),
         Message::RefreshAnswer { view, rec, stored } => {
-            put_refresh_answer(out, view, *rec, stored.as_ref())
+            put_refresh_answer(out, version, view, *rec, stored.as_ref())
         }
         Message::Probe { view } => put_view(out, view),
     }
@@ -178,7 +199,17 @@ fn put_obstacle(out: &mut BytesMut, why: &Obstacle) -> Result<(), NoMemory>
             put_byte(out, 2)?;
             put_maybe_view(out, now)
         }
+        Obstacle::Barred { inside, total } => put_bar(out, *inside, *total),
     }
+}
+
+#[tactic(auto, using(vp_bytes::proofs::Writing::writing))]
+fn put_bar(out: &mut BytesMut, inside: u32, total: u32) -> Result<(), NoMemory>
+    ensures { Appends result out.old.items (3 ∷ (number_bytes 4 inside ++ number_bytes 4 total)) out.new.items }
+{
+    put_byte(out, 3)?;
+    put_u32(out, inside)?;
+    put_u32(out, total)
 }
 
 #[tactic(auto, using(vp_bytes::proofs::Writing::writing))]
@@ -196,23 +227,43 @@ fn put_refuse(
 }
 
 #[tactic(auto, using(vp_bytes::proofs::Writing::writing))]
+fn put_read_answer(
+    out: &mut BytesMut,
+    version: Version,
+    txn: &TxnId,
+    number: CallNo,
+    content: &Option<Boxed<Value>>,
+) -> Result<(), NoMemory>
+    requires { IsContent version content.now }
+    ensures { Appends result out.old.items (numbered_bytes txn.now number ++ content_bytes version content.now)
+        out.new.items }
+{
+    put_numbered(out, txn, number)?;
+    match content {
+        None => put_absent(out, version),
+        Some(value) => put_present(out, version, value.as_ref()),
+    }
+}
+
+#[tactic(auto, using(vp_bytes::proofs::Writing::writing))]
 fn put_prepare(
     out: &mut BytesMut,
+    version: Version,
     txn: &TxnId,
     view: &ViewId,
     number: CallNo,
     reads: &[RecId],
-    writes: &[(RecId, Value)],
+    writes: &[(RecId, Change)],
 ) -> Result<(), NoMemory>
     requires reads { IsRecs reads.now }
-    requires writes { IsWrites writes.now }
+    requires writes { IsWrites version writes.now }
     ensures { Appends result out.old.items
-        (request_bytes txn.now view.now number ++ (counted_bytes reads.now ++ writes_bytes writes.now))
+        (request_bytes txn.now view.now number ++ (counted_bytes reads.now ++ writes_bytes version writes.now))
         out.new.items }
 {
     put_request(out, txn, view, number)?;
     put_recs(out, reads)?;
-    put_writes(out, writes)
+    put_writes(out, version, writes)
 }
 
 /// Appends the fields of a request for a refresh. Most messages of a large run are such requests, so the fields are appended all at
@@ -229,13 +280,15 @@ fn put_refresh_request(out: &mut BytesMut, view: &ViewId, rec: RecId) -> Result<
 #[tactic(auto, using(vp_bytes::proofs::Writing::writing))]
 fn put_refresh_answer(
     out: &mut BytesMut,
+    version: Version,
     view: &ViewId,
     rec: RecId,
     stored: &Stored,
 ) -> Result<(), NoMemory>
-    ensures { Appends result out.old.items (view_bytes view.now ++ copy_bytes (rec, stored.now))
+    requires { IsStored version stored.now }
+    ensures { Appends result out.old.items (view_bytes view.now ++ copy_bytes version (rec, stored.now))
         out.new.items }
 {
     put_view(out, view)?;
-    put_copy(out, rec, stored)
+    put_copy(out, version, rec, stored)
 }

@@ -1,6 +1,6 @@
 -- An entry that wrote a record in a view above the date of a copy, and of which the site is a member, is in doubt there after a step; and
 -- what a refresh brings is the newest copy of the members.
-use Rattle.std.proofs.Common.{◌≡◌, ◌≢◌, ◌∙◌, ap, sym, subst, ℕ, Bool, true, List, ⊎_elim}
+use Rattle.std.proofs.Common.{inr, ◌≡◌, ◌≢◌, ◌∙◌, ap, sym, subst, ℕ, Bool, true, List, ⊎_elim}
 use Rattle.std.specs.Prelude.{Some}
 use Rattle.vp_model.specs.Types.{Change, TxnId, View, Commit, Input, Stored, Doubt}
 use Rattle.vp_model.specs.Types.message
@@ -19,20 +19,18 @@ use Rattle.vp_laws.proofs.Worlds.Scenes.{Scene, kept_at, promise_at}
 use Rattle.vp_laws.proofs.Invariant.Shares.{InDoubt, InvShares}
 use Rattle.vp_laws.proofs.Invariant.Entered.{AgreedAs}
 use Rattle.vp_laws.proofs.Keeping.Stopping.{shared_holder}
-use Rattle.vp_laws.proofs.Journal.ValuesAfter.{Wrote, value_after}
+use Rattle.vp_laws.proofs.Journal.ValuesAfter.{content_of, Wrote, value_after}
 use Rattle.vp_laws.proofs.Copies.Facts.{still_below, copy_holder}
 use Rattle.vp_laws.proofs.Keeping.NewEntries.{doubted, agreed_was}
 use Rattle.vp_laws.proofs.Copies.Origins.{Untouched, Own, Brought, gone_aborted}
 use Rattle.vp_laws.proofs.Copies.Values.{value_now}
 use Rattle.vp_laws.proofs.Copies.Writes.{applied_above, written_above}
 use Rattle.vp_laws.proofs.Copies.Refreshes.{Answer, answer_listed, answer_view, answer_in, answer_unwritten, answer_usable, left_below, other_answer, all_closed}
-use Rattle.vp_laws.proofs.Invariant.Ops.{written_used}
 use Rattle.vp_laws.proofs.Keeping.Does.{Does}
 use Rattle.vp_laws.proofs.Invariant.Copies.{FromView, InvCopies}
 use Rattle.vp_laws.proofs.Invariant.Refresh.{InvRefresh}
 use Rattle.vp_laws.proofs.Keeping.Listed.{wrote_here}
 use Rattle.vp_laws.proofs.Invariant.Known.{Known}
-use Rattle.vp_laws.proofs.Lists.Pairs.{written_op}
 
 -- a doubt of an entry's transaction writes what the entry wrote there
 pub doubt_on : (catalogue : Catalogue) (w : Scene) → InvShares catalogue w → (e : Commit) (j rec : ℕ) (u : Doubt) → Has w.journal e → Wrote e rec → Has (holders catalogue rec) j → Has (kept_at w j).doubts u → u.txn ≡ e.txn → Has (keys u.writes) rec
@@ -94,10 +92,10 @@ module _ (catalogue : Catalogue) (w new : Scene) (s : ℕ) (x : SiteState) (give
     pub brought_sure : Certain (kept_at new j).doubts rec
     brought_sure v h on = b.refreshed.certain v (subst (λ (k : DurableState). Has k.doubts v) (ap (kept_at new) b.here ∙ d.st.kept_now) h) on
 
-    pub brought_value : value_after catalogue new.journal c.date rec ≡ Some c.value
+    pub brought_value : value_after catalogue new.journal c.date rec ≡ Some (content_of c)
     brought_value =
         value_now catalogue w new s x given o k n d copies refresh c.date rec (λ e h wrote le. answer_unwritten catalogue w new s x given o k n d rec b.refreshed.taken.0 taken e h wrote)
-        ∙ subst (λ (c : Stored). value_after catalogue w.journal c.date rec ≡ Some c.value) b.refreshed.taken.2 (refresh.value b.refreshed.taken.0.0 s rec u.id b.refreshed.taken.0.1 answer.sent answer.low)
+        ∙ subst (λ (c : Stored). value_after catalogue w.journal c.date rec ≡ Some (content_of c)) b.refreshed.taken.2 (refresh.value b.refreshed.taken.0.0 s rec u.id b.refreshed.taken.0.1 answer.sent answer.low)
 
     pub brought_from : FromView catalogue new j rec c.date
     brought_from = FromView.closed u (d.st.moved.agreed u (d.here.held u held)) low (subst (Has u.members) (sym b.here) member)
@@ -131,7 +129,7 @@ module _ (catalogue : Catalogue) (w new : Scene) (s : ℕ) (x : SiteState) (give
 
             below : Precedes e.view u.id → InDoubt new j e.txn
             below p =
-                let q = shared_holder catalogue rec v.members u.members (refresh.entry e v rec there v_was (written_used e.ops rec (written_op e.ops rec wrote))).usable usable in
+                let q = shared_holder catalogue rec v.members u.members (refresh.entry e v rec there v_was (inr wrote)).usable usable in
                 ⊎_elim
                 (λ (here : q.0 ≡ s). own_above j rec b.own e v holder b.from h wrote own_later agreed in_view)
                 (λ (other : q.0 ≢ s). absurd (missed q.0 q.1 q.2 q.3 other))

@@ -1,8 +1,7 @@
 -- A step keeps the invariant of copies.
-use Rattle.std.proofs.Common.{◌≡◌, ◌≢◌, ◌∙◌, ap, sym, subst, ℕ, Bool, true, false, List, [], ◌∷◌, ◌++◌, refl, ⊎_elim, cond}
-use Rattle.std.specs.Prelude.{Option, Some, None, find, ◌==◌}
-use Rattle.std.proofs.lemmas.Bool.{eqb-true}
-use Rattle.vp_model.specs.Types.{ViewId, View, Commit, Input, Stored, Refreshing, Doubt}
+use Rattle.std.proofs.Common.{◌≡◌, ◌≢◌, ◌∙◌, ap, sym, subst, ℕ, Bool, true, List, ◌∷◌, ◌++◌, ⊎_elim}
+use Rattle.std.specs.Prelude.{Option, Some, None}
+use Rattle.vp_model.specs.Types.{ViewId, View, Commit, Input, Stored, Doubt}
 use Rattle.vp_model.specs.Words.{value_at, keys, has}
 use Rattle.vp_model.specs.Transactions.{last_changes}
 use Rattle.vp_laws.proofs.Copies.Force.{Table, accessible_by, weighs, below, after, Weighed, none_between, in_force}
@@ -11,7 +10,7 @@ use Rattle.vp_model.specs.Catalogue.{Catalogue, holders, accessible}
 use Rattle.vp_model.specs.Durable.{DurableState}
 use Rattle.vp_model.specs.Refresh.{is_open, is_usable_in, refreshing_of}
 use Rattle.vp_model.specs.Site.{SiteState, Stepped}
-use Rattle.vp_laws.proofs.Lists.Members.{Has, has_none, has_first, has_more, has_cons, has_test, has_from_test}
+use Rattle.vp_laws.proofs.Lists.Members.{Has, has_test, has_from_test}
 use Rattle.vp_laws.proofs.Lists.Views.{Precedes, same_site}
 use Rattle.vp_laws.proofs.Journal.Order.{Precedes-trans}
 use Rattle.vp_laws.proofs.Table.Copies.{AnswerNow}
@@ -24,39 +23,23 @@ use Rattle.vp_laws.proofs.Invariant.Entered.{AgreedAs}
 use Rattle.vp_laws.proofs.Invariant.Held.{has_copy, holds_copy}
 use Rattle.vp_laws.proofs.Keeping.Closing.{closed_lasts}
 use Rattle.vp_laws.proofs.Keeping.Stopping.{shared_holder}
-use Rattle.vp_laws.proofs.Journal.ValuesAfter.{Wrote, value_after, without_entry}
+use Rattle.vp_laws.proofs.Journal.ValuesAfter.{content_of, Wrote, value_after, without_entry}
 use Rattle.vp_laws.proofs.Copies.Facts.{still_below, copy_holder}
 use Rattle.vp_laws.proofs.Worlds.Sites.{NowIs, now_is}
 use Rattle.vp_laws.proofs.Keeping.NewEntries.{entering, stops, wrote_in_force, agreed_was}
 use Rattle.vp_laws.proofs.Copies.Origins.{Own, Origin, origin}
 use Rattle.vp_laws.proofs.Copies.Values.{old_value, old_in_doubt, old_last}
-use Rattle.vp_laws.proofs.Copies.Writes.{applied_date, applied_on, applied_sure, applied_value, applied_from, written_date, written_sure, written_value, written_from}
+use Rattle.vp_laws.proofs.Copies.Writes.{applied_date, applied_on, applied_sure, applied_value, applied_from, written_date, written_sure, written_from}
+use Rattle.vp_laws.proofs.Copies.NewCopies.{written_value}
+use Rattle.vp_laws.proofs.Invariant.Base.{InvBase}
 use Rattle.vp_laws.proofs.Copies.Brought.{doubt_on, own_above, brought_sure, brought_value, brought_from, brought_above}
-use Rattle.vp_laws.proofs.Copies.Refreshes.{certain_from, answer_listed, answer_in, left_below_now, other_answer, all_closed}
+use Rattle.vp_laws.proofs.Copies.Refreshes.{unlisted_from, unlisted_none, certain_from, answer_listed, answer_in, left_below_now, other_answer, all_closed}
 use Rattle.vp_laws.proofs.Keeping.Does.{Does}
 use Rattle.vp_laws.proofs.Invariant.Copies.{FromView, DoubtOn, InvCopies}
 use Rattle.vp_laws.proofs.Invariant.Refresh.{InvRefresh}
 use Rattle.vp_laws.proofs.Keeping.Listed.{not_below_itself}
 use Rattle.vp_laws.proofs.Invariant.Known.{Known}
 use Rattle.vp_laws.proofs.Invariant.Closed.{Closed, Open}
-use Rattle.vp_laws.proofs.Lists.Numbers.{unequal}
-
--- what is not found is not listed, and the other way round
-pub unlisted_from : (rec : ℕ) (refresh : List Refreshing) → refreshing_of rec refresh ≡ None → IsUnlisted refresh rec
-unlisted_from rec [] e r h is = has_none r h
-unlisted_from rec (a ∷ refresh) e r h is = go (a.rec == rec) refl e (λ q more. unlisted_from rec refresh q r more is)
-  where
-    go : (b : Bool) → (a.rec == rec) ≡ b → cond b (Some a) (find (λ (r : Refreshing). r.rec == rec) refresh) ≡ None → (refreshing_of rec refresh ≡ None → Has refresh r → ⊥) → ⊥
-    go true t q rest = cc
-    go false t q rest = ⊎_elim (λ (one : a ≡ r). unequal a.rec rec t (ap (λ (r : Refreshing). r.rec) one ∙ is)) (λ more. rest q more) (has_cons a refresh r h)
-
-pub unlisted_none : (rec : ℕ) (refresh : List Refreshing) → IsUnlisted refresh rec → refreshing_of rec refresh ≡ None
-unlisted_none rec [] none = refl
-unlisted_none rec (a ∷ refresh) none = go (a.rec == rec) refl (unlisted_none rec refresh (λ r h. none r (has_more a refresh r h)))
-  where
-    go : (b : Bool) → (a.rec == rec) ≡ b → refreshing_of rec refresh ≡ None → cond b (Some a) (find (λ (r : Refreshing). r.rec == rec) refresh) ≡ None
-    go true t rest = absurd (none a (has_first a refresh) (eqb-true a.rec rec t))
-    go false t rest = rest
 
 module _ (catalogue : Catalogue) (w new : Scene) (s : ℕ) (x : SiteState) (given : Input) (o : Stepped) (k : Known catalogue w) (n : Known catalogue new) (d : Does catalogue w new s x given o) (copies : InvCopies catalogue w) (refresh : InvRefresh catalogue w) where
   pub closed_now : (rec : ℕ) (v : View) → Closed catalogue w rec v → Closed catalogue new rec v
@@ -76,19 +59,19 @@ module _ (catalogue : Catalogue) (w new : Scene) (s : ℕ) (x : SiteState) (give
     at : Origin catalogue w new s x given o k n d j rec c
     at = origin catalogue w new s x given o k n d j rec c h
 
-    value_kept : ((u : Doubt) → DoubtOn new j rec c.date u → ⊥) → value_after catalogue new.journal c.date rec ≡ Some c.value
-    value_kept none = go at
+    value_kept : InvBase w → ((u : Doubt) → DoubtOn new j rec c.date u → ⊥) → value_after catalogue new.journal c.date rec ≡ Some (content_of c)
+    value_kept base none = go at
       where
-        go : Origin catalogue w new s x given o k n d j rec c → value_after catalogue new.journal c.date rec ≡ Some c.value
+        go : Origin catalogue w new s x given o k n d j rec c → value_after catalogue new.journal c.date rec ≡ Some (content_of c)
         go (Origin.plain (Own.old t)) = old_value catalogue w new s x given o k n d copies refresh j rec c t none
-        go (Origin.plain (Own.outcome a)) = applied_value catalogue w new s x given o k n d copies refresh j rec c holder a
+        go (Origin.plain (Own.outcome a)) = applied_value catalogue w new s x given o k n d copies refresh j rec c holder a base
         go (Origin.plain (Own.entered b)) = written_value catalogue w new s x given o k n d copies refresh j rec c holder b
         go (Origin.brought b) = brought_value catalogue w new s x given o k n d copies refresh j rec c holder b
 
-    in_doubt_kept : (u : Doubt) → DoubtOn new j rec c.date u → value_after catalogue (without_entry u.txn new.journal) c.date rec ≡ Some c.value
+    in_doubt_kept : (u : Doubt) → DoubtOn new j rec c.date u → value_after catalogue (without_entry u.txn new.journal) c.date rec ≡ Some (content_of c)
     in_doubt_kept u on = go at
       where
-        go : Origin catalogue w new s x given o k n d j rec c → value_after catalogue (without_entry u.txn new.journal) c.date rec ≡ Some c.value
+        go : Origin catalogue w new s x given o k n d j rec c → value_after catalogue (without_entry u.txn new.journal) c.date rec ≡ Some (content_of c)
         go (Origin.plain (Own.old t)) = old_in_doubt catalogue w new s x given o k n d copies refresh j rec c u t on
         go (Origin.plain (Own.outcome a)) = absurd (applied_sure catalogue w new s x given o k n d copies refresh j rec c holder a u on.0 on.1)
         go (Origin.plain (Own.entered b)) = absurd (written_sure catalogue w new s x given o k n d copies refresh j rec c holder b u on.0 on.1)
@@ -240,9 +223,9 @@ module _ (catalogue : Catalogue) (w new : Scene) (s : ℕ) (x : SiteState) (give
             (d.st.entered e there)
         go (Quits.ended q) = ended_between q e there wrote later below
 
-  pub copies_keep : InvCopies catalogue new
-  copies_keep = record {
-    value = λ j rec c h none. value_kept j rec c h none;
+  pub copies_keep : InvBase w → InvCopies catalogue new
+  copies_keep base = record {
+    value = λ j rec c h none. value_kept j rec c h base none;
     value_in_doubt = λ j rec c u h on. in_doubt_kept j rec c h u on;
     last = λ j rec c u front back e f h on is named behind wrote. last_kept j rec c h u front back e f on is named behind wrote;
     above = λ j rec c e v h there wrote later agreed member. above_kept j rec c h e v there wrote later agreed member;

@@ -3,6 +3,7 @@ use Rattle.std.proofs.Common.{◌≡◌, ◌⊎◌, ◌∙◌, ap, sym, subst, �
 use Rattle.std.specs.Prelude.{Option, Some, ◌==◌, ◌&&◌, ◌||◌, not}
 use Rattle.std.specs.List.{list_all}
 use Rattle.std.proofs.lemmas.Bool.{eqb-true}
+use Rattle.vp_laws.proofs.Journal.Changed.{HasChanged}
 use Rattle.vp_model.specs.Types.{Change, ViewId, TxnId, View, Commit, Input, Owner, Stored, Lock, Live, Doubt}
 use Rattle.vp_model.specs.Types.message
 use Rattle.vp_model.specs.Types.owner
@@ -10,7 +11,7 @@ use Rattle.vp_model.specs.Words.{has, keys, value_at, same_txn, same_owner}
 use Rattle.vp_model.specs.Catalogue.{Catalogue, holders, accessible}
 use Rattle.vp_model.specs.Durable.{DurableState}
 use Rattle.vp_model.specs.Locks.{holds}
-use Rattle.vp_model.specs.Transactions.{last_changes, last_writes, writes_held}
+use Rattle.vp_model.specs.Transactions.{entry_of, last_changes, writes_held}
 use Rattle.vp_model.specs.Refresh.{is_open, is_usable_in}
 use Rattle.vp_model.specs.Site.{SiteState, Stepped}
 use Rattle.vp_laws.proofs.Lists.Members.{Has, has_none, has_cons, any_true, any_false, both_true, map_has, filter_has}
@@ -22,10 +23,9 @@ use Rattle.vp_laws.proofs.Table.Votes.{IsPrepared}
 use Rattle.vp_laws.proofs.Table.Unlisted.{IsUnlisted}
 use Rattle.vp_laws.proofs.Worlds.Scenes.{Scene, plain_at, kept_at}
 use Rattle.vp_laws.proofs.Invariant.Names.{UsedTxn}
-use Rattle.vp_laws.proofs.Invariant.Ops.{written_used, HasWritten}
 use Rattle.vp_laws.proofs.Invariant.Entered.{AgreedAs}
 use Rattle.vp_laws.proofs.Copies.Facts.{copy_holder, entry_closes}
-use Rattle.vp_laws.proofs.Copies.CopiesKept.{unlisted_none}
+use Rattle.vp_laws.proofs.Copies.Refreshes.{unlisted_none}
 use Rattle.vp_laws.proofs.Copies.OwnUse.{view_is, written_closed}
 use Rattle.vp_laws.proofs.Worlds.Sites.{now_is}
 use Rattle.vp_laws.proofs.Keeping.NewEntries.{entering, stops, Fresh, doubt_from, doubt_says, fresh_same, fresh_not_entered}
@@ -39,14 +39,13 @@ use Rattle.vp_laws.proofs.Invariant.Refresh.{InvRefresh}
 use Rattle.vp_laws.proofs.Keeping.Settled.{holding}
 use Rattle.vp_laws.proofs.Keeping.Used.{Was}
 use Rattle.vp_laws.proofs.Invariant.Known.{Known}
-use Rattle.vp_laws.proofs.Lists.Pairs.{written_op}
 use Rattle.vp_laws.proofs.Journal.ValuesAfter.{Wrote}
 
 -- what is held of the writes was written
 held_wrote : (catalogue : Catalogue) (q rec : ℕ) (writes : List (ℕ × Change)) → Has (keys (writes_held catalogue q writes)) rec → Has (keys writes) rec
 held_wrote catalogue q rec writes h =
-    let r = map_has (λ (p : ℕ × List ℕ). p.0) (writes_held catalogue q writes) rec h in
-    subst (Has (keys writes)) r.2 (mapped_has (λ (p : ℕ × List ℕ). p.0) writes r.0 (filter_has (λ (w : ℕ × List ℕ). has (holders catalogue w.0) q) writes r.0 r.1).0)
+    let r = map_has (λ (p : ℕ × Change). p.0) (writes_held catalogue q writes) rec h in
+    subst (Has (keys writes)) r.2 (mapped_has (λ (p : ℕ × Change). p.0) writes r.0 (filter_has (λ (w : ℕ × Change). has (holders catalogue w.0) q) writes r.0 r.1).0)
 
 module _ (catalogue : Catalogue) (w new : Scene) (s : ℕ) (x : SiteState) (given : Input) (o : Stepped) (k : Known catalogue w) (n : Known catalogue new) (d : Does catalogue w new s x given o) (copies : InvCopies catalogue w) (refresh : InvRefresh catalogue w) where
   -- a live transaction whose prepare was sent, with what it writes there
@@ -57,11 +56,11 @@ module _ (catalogue : Catalogue) (w new : Scene) (s : ℕ) (x : SiteState) (give
     is : IsPrepared catalogue t to view number reads writes
     is = k.votes.prepared _ sent y t at here named
 
-    wrote : HasWritten t rec
-    wrote = written_op t.ops rec (held_wrote catalogue to rec (last_writes t.ops) (subst (λ (ws : List (ℕ × Change)). Has (keys ws) rec) (sym is.has_written) on))
+    wrote : HasChanged t rec
+    wrote = held_wrote catalogue to rec (last_changes (entry_of t)) (subst (λ (ws : List (ℕ × Change)). Has (keys ws) rec) (sym is.has_written) on)
 
     usable_there : (v : View) → AgreedAs w t.view v → accessible catalogue rec v.members ≡ true
-    usable_there v agreed = subst (λ (held : Option View). is_usable_in catalogue held rec ≡ true) (view_is catalogue w k copies i y t up here v agreed) ((refresh.live i y t up here).usable rec (written_used t.ops rec wrote))
+    usable_there v agreed = subst (λ (held : Option View). is_usable_in catalogue held rec ≡ true) (view_is catalogue w k copies i y t up here v agreed) ((refresh.live i y t up here).changed rec wrote)
 
     -- no entry of the step is of a lower view and wrote the record
     live_stops : (e : Commit) → Has o.effects.commits e → Wrote e rec → Precedes e.view view → ⊥

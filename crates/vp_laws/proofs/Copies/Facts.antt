@@ -1,5 +1,5 @@
 -- What follows from the invariant of copies in one world: a date closes its record, and so does a view above it.
-use Rattle.std.proofs.Common.{◌≡◌, ◌∙◌, sym, subst, ℕ, arith, ⊎_elim}
+use Rattle.std.proofs.Common.{inr, ◌≡◌, ◌∙◌, sym, subst, ℕ, arith, ⊎_elim}
 use Rattle.std.specs.Prelude.{Some}
 use Rattle.vp_model.specs.Types.{ViewId, View, Commit, Stored, Doubt}
 use Rattle.vp_model.specs.Words.{keys, opening, value_at}
@@ -13,11 +13,9 @@ use Rattle.vp_laws.proofs.Table.Copies.{value_pair}
 use Rattle.vp_laws.proofs.Invariant.Entered.{AgreedAs}
 use Rattle.vp_laws.proofs.Invariant.Dated.{IsDated}
 use Rattle.vp_laws.proofs.Invariant.Held.{holder_kept}
-use Rattle.vp_laws.proofs.Invariant.Ops.{written_used}
 use Rattle.vp_laws.proofs.Invariant.Copies.{FromView, InvCopies}
 use Rattle.vp_laws.proofs.Invariant.Refresh.{InvRefresh}
 use Rattle.vp_laws.proofs.Invariant.Known.{Known}
-use Rattle.vp_laws.proofs.Lists.Pairs.{written_op}
 use Rattle.vp_laws.proofs.Invariant.Closed.{Open}
 use Rattle.vp_laws.proofs.Journal.ValuesAfter.{Wrote}
 
@@ -44,7 +42,7 @@ module _ (catalogue : Catalogue) (w : Scene) (k : Known catalogue w) (refresh : 
   -- the view of an entry
   pub entry_closes : (e : Commit) (rec : ℕ) (v : View) → Has w.journal e → Wrote e rec → AgreedAs w e.view v → Open catalogue w rec v
   entry_closes e rec v h wrote a =
-      refresh.entry e v rec h a (written_used e.ops rec (written_op e.ops rec wrote))
+      refresh.entry e v rec h a (inr wrote)
 
   pub closed_above : (s rec : ℕ) (date j : ViewId) → FromView catalogue w s rec date → IsDated w rec date → Precedes j date → ClosedAbove catalogue w s rec j
   closed_above s rec date j (FromView.closed v agreed later member opened) dated below = record { view = v; agreed = agreed; member = member; above = Precedes-trans j date v.id below later; opened = opened }

@@ -1,13 +1,13 @@
 -- Where each copy in the world after a step comes from: it is untouched, or is written by a transaction in doubt that commits or by
 -- an entry of the step, or a refresh brought it.
-use Rattle.std.proofs.Common.{◌≡◌, ◌≢◌, ◌⊎◌, ◌∙◌, ap, sym, subst, ℕ, Bool, true, false, List, refl, inl, inr, ⊎_elim}
+use Rattle.std.proofs.Common.{◌≡◌, ◌≢◌, ◌⊎◌, ◌∙◌, ap, sym, subst, ℕ, Bool, true, false, refl, inl, inr, ⊎_elim}
 use Rattle.std.specs.Prelude.{Some}
-use Rattle.vp_model.specs.Types.{ViewId, TxnId, Commit, Input, Stored, Doubt}
+use Rattle.vp_model.specs.Types.{Change, ViewId, TxnId, Commit, Input, Stored, Doubt}
 use Rattle.vp_model.specs.Types.message
 use Rattle.vp_model.specs.Words.{keys, value_at, same_view}
 use Rattle.vp_model.specs.Catalogue.{Catalogue, holders}
 use Rattle.vp_model.specs.Durable.{DurableState, doubt_of}
-use Rattle.vp_model.specs.Transactions.{last_changes, last_writes, writes_held}
+use Rattle.vp_model.specs.Transactions.{last_changes, writes_held}
 use Rattle.vp_model.specs.Site.{SiteState, Stepped}
 use Rattle.vp_model.specs.Step.{durable_of}
 use Rattle.vp_laws.proofs.Lists.Members.{Has}
@@ -46,21 +46,25 @@ module _ (catalogue : Catalogue) (w new : Scene) (s : ℕ) (x : SiteState) (give
     pub here : j ≡ s
     pub from : ℕ
     pub doubt : Doubt
-    pub write : ℕ × List ℕ
+    pub write : ℕ × Change
+    pub old : Stored
     pub comes : Comes given from (message.Outcome doubt.txn true)
     pub was : Has (kept_at w j).doubts doubt
     pub wrote : Has doubt.writes write
-    pub is : dated_at doubt.view write ≡ (rec, c)
+    pub before : Has (kept_at w j).copies (write.0, old)
+    pub is : dated_at doubt.view write old ≡ (rec, c)
     pub gone : (v : Doubt) → Has (kept_at new j).doubts v → v.txn ≢ doubt.txn
 
   -- it is of an entry of this step
   pub record Written (j rec : ℕ) (c : Stored) : Type 0 where
     pub here : j ≡ s
     pub entry : Commit
-    pub write : ℕ × List ℕ
+    pub write : ℕ × Change
+    pub old : Stored
     pub entered : Has o.effects.commits entry
-    pub wrote : Has (writes_held catalogue x.id (last_writes entry.ops)) write
-    pub is : dated_at entry.view write ≡ (rec, c)
+    pub wrote : Has (writes_held catalogue x.id (last_changes entry)) write
+    pub before : Has (kept_at w j).copies (write.0, old)
+    pub is : dated_at entry.view write old ≡ (rec, c)
 
   pub data Own (j rec : ℕ) (c : Stored) : Type 0 where
     old : Untouched j rec c → Own j rec c
@@ -94,18 +98,29 @@ module _ (catalogue : Catalogue) (w new : Scene) (s : ℕ) (x : SiteState) (give
     where
       was : value_at rec (kept_at w j).copies ≡ Some c
       was = subst (λ (k : DurableState). value_at rec k.copies ≡ Some c) (at_was j z) (copy_value catalogue w s x d.up d.here.kept k.held rec c h)
-  own_of j rec c z (OwnCopy.outcome from u b comes h there is gone) = Own.outcome (record {
+  own_of j rec c z (OwnCopy.outcome from u b comes h there first before is gone) = Own.outcome (record {
     here = z;
     from = from;
     doubt = u;
     write = b;
+    old = first;
     comes = comes;
     was = subst (λ (k : DurableState). Has k.doubts u) (at_was j z) h;
     wrote = there;
+    before = subst (λ (k : DurableState). Has k.copies (b.0, first)) (at_was j z) before;
     is = is;
     gone = λ v q. gone v (subst (λ (k : DurableState). Has k.doubts v) (at_now j z) q);
   })
-  own_of j rec c z (OwnCopy.entered e b h there is) = Own.entered (record { here = z; entry = e; write = b; entered = h; wrote = there; is = is })
+  own_of j rec c z (OwnCopy.entered e b h there first before is) = Own.entered (record {
+    here = z;
+    entry = e;
+    write = b;
+    old = first;
+    entered = h;
+    wrote = there;
+    before = subst (λ (k : DurableState). Has k.copies (b.0, first)) (at_was j z) before;
+    is = is;
+  })
 
   pub origin : (j rec : ℕ) (c : Stored) → value_at rec (kept_at new j).copies ≡ Some c → Origin j rec c
   origin j rec c h = go (kept_is w new s x o d.st j)

@@ -2,6 +2,7 @@
 -- answered.
 use Rattle.std.proofs.Common.{◌⊎◌, ◌≡◌, ◌≢◌, ◌∙◌, ap, sym, subst, ℕ, Bool, true, false, List, refl, inl, inr, ⊎_elim}
 use Rattle.std.specs.Prelude.{Option, Some, None}
+use Rattle.vp_laws.proofs.Journal.Changed.{operation_changed, HasChanged}
 use Rattle.vp_model.specs.Types.{TxnId, View, Op, Stored, Pending, Live}
 use Rattle.vp_model.specs.Types.op
 use Rattle.vp_model.specs.Types.owner
@@ -18,13 +19,13 @@ use Rattle.vp_laws.proofs.Table.Led.{IsOf}
 use Rattle.vp_laws.proofs.Table.Copies.{value_pair}
 use Rattle.vp_laws.proofs.Table.Unlisted.{IsUnlisted}
 use Rattle.vp_laws.proofs.Worlds.Scenes.{Scene, plain_at}
-use Rattle.vp_laws.proofs.Invariant.Ops.{op_used, written_used, HasUsed, HasWritten}
+use Rattle.vp_laws.proofs.Invariant.Ops.{op_used, HasUsed}
 use Rattle.vp_laws.proofs.Invariant.Answers.{HasRead}
 use Rattle.vp_laws.proofs.Invariant.Entered.{AgreedAs}
 use Rattle.vp_laws.proofs.Invariant.Used.{HasAnswered}
 use Rattle.vp_laws.proofs.Invariant.Held.{holds_copy}
 use Rattle.vp_laws.proofs.Keeping.Stopping.{in_force_holder}
-use Rattle.vp_laws.proofs.Copies.CopiesKept.{unlisted_none}
+use Rattle.vp_laws.proofs.Copies.Refreshes.{unlisted_none}
 use Rattle.vp_laws.proofs.Invariant.Copies.{InvCopies}
 use Rattle.vp_laws.proofs.Invariant.Refresh.{InvRefresh}
 use Rattle.vp_laws.proofs.Keeping.Entered.{other_holder}
@@ -57,23 +58,26 @@ module _ (catalogue : Catalogue) (w : Scene) (k : Known catalogue w) (copies : I
     usable_in_view rec h = subst (λ (held : Option View). is_usable_in catalogue held rec ≡ true) (view_is v agreed) ((refresh.live s x t up live).usable rec h)
 
     -- it was written elsewhere, where there is no copy here
-    elsewhere : (rec : ℕ) → HasWritten t rec → value_at rec x.copies ≡ None → Open catalogue w rec v
+    changed_in_view : (rec : ℕ) → HasChanged t rec → accessible catalogue rec v.members ≡ true
+    changed_in_view rec h = subst (λ (held : Option View). is_usable_in catalogue held rec ≡ true) (view_is v agreed) ((refresh.live s x t up live).changed rec h)
+
+    elsewhere : (rec : ℕ) → HasChanged t rec → value_at rec x.copies ≡ None → Open catalogue w rec v
     elsewhere rec wrote none =
-        let usable = usable_in_view rec (written_used t.ops rec wrote) in
+        let usable = changed_in_view rec wrote in
         let q = in_force_holder catalogue rec v.members usable in
         let other : q.0 ≢ x.id = (λ z. not_copied rec x.copies none (holds_copy catalogue w s x up (k.views.site s x up).kept k.held rec (subst (Has (holders catalogue rec)) (z ∙ (k.views.site s x up).id) q.1))) in
         let holder = subst (λ (held : Option View). Has (other_holders_in catalogue x.id held rec) q.0) (sym (view_is v agreed)) (other_holder catalogue x.id rec q.0 v q.1 q.2 other) in
         refresh.used s q.0 rec true x t v up live (HasAnswered.wrote ((k.answers.live s x t up live).wrote rec wrote q.0 holder)) agreed
 
-    pub written_closed : (rec : ℕ) → HasWritten t rec → Open catalogue w rec v
+    pub written_closed : (rec : ℕ) → HasChanged t rec → Open catalogue w rec v
     written_closed rec wrote = go (value_at rec x.copies) refl
       where
         go : (c : Option Stored) → value_at rec x.copies ≡ c → Open catalogue w rec v
         go None e = elsewhere rec wrote e
-        go (Some stored) e = own_closed rec true v stored (((k.guards.site s x up).own t live).wrote rec wrote.0 wrote.1 (copied rec stored e)) (view_is v agreed) e ((refresh.live s x t up live).usable rec (written_used t.ops rec wrote))
+        go (Some stored) e = own_closed rec true v stored (((k.guards.site s x up).own t live).wrote rec wrote (copied rec stored e)) (view_is v agreed) e ((refresh.live s x t up live).changed rec wrote)
 
     -- where no read is pending, a done one has been answered, or is of an own write
-    pub idle_reads : ((p : Pending) (rec : ℕ) → t.pending ≡ Some p → Reads catalogue p rec → ⊥) → (rec : ℕ) (value : List ℕ) → Has t.ops (op.Read rec value) → value_at rec x.copies ≡ None → HasWritten t rec ⊎ ((q : ℕ) × HasRead w q t.txn rec)
+    pub idle_reads : ((p : Pending) (rec : ℕ) → t.pending ≡ Some p → Reads catalogue p rec → ⊥) → (rec : ℕ) (value : Option (List ℕ)) → Has t.ops (op.Read rec value) → value_at rec x.copies ≡ None → HasChanged t rec ⊎ ((q : ℕ) × HasRead w q t.txn rec)
     idle_reads idle rec value h none = ⊎_elim
         (λ wrote. inl wrote)
         (λ asked. ⊎_elim
@@ -83,8 +87,8 @@ module _ (catalogue : Catalogue) (w : Scene) (k : Known catalogue w) (copies : I
         ((k.reads.live s x t up live).done rec value h (not_copied rec x.copies none))
 
     -- what it has done is closed for its view, where each read elsewhere has been answered
-    module _ (reads : (rec : ℕ) (value : List ℕ) → Has t.ops (op.Read rec value) → value_at rec x.copies ≡ None → HasWritten t rec ⊎ ((q : ℕ) × HasRead w q t.txn rec)) where
-      read_closed : (rec : ℕ) (value : List ℕ) → Has t.ops (op.Read rec value) → Open catalogue w rec v
+    module _ (reads : (rec : ℕ) (value : Option (List ℕ)) → Has t.ops (op.Read rec value) → value_at rec x.copies ≡ None → HasChanged t rec ⊎ ((q : ℕ) × HasRead w q t.txn rec)) where
+      read_closed : (rec : ℕ) (value : Option (List ℕ)) → Has t.ops (op.Read rec value) → Open catalogue w rec v
       read_closed rec value h = go (value_at rec x.copies) refl
         where
           go : (c : Option Stored) → value_at rec x.copies ≡ c → Open catalogue w rec v
@@ -96,7 +100,7 @@ module _ (catalogue : Catalogue) (w : Scene) (k : Known catalogue w) (copies : I
 
       op_closed : (operation : Op) → Has t.ops operation → Open catalogue w (record_in operation) v
       op_closed (op.Read rec value) h = read_closed rec value h
-      op_closed (op.Write rec value) h = written_closed rec (value, h)
+      op_closed (op.Write rec value) h = written_closed rec (operation_changed t rec value h)
 
       pub used_closed : (rec : ℕ) → HasUsed t.ops rec → Open catalogue w rec v
       used_closed rec h = subst (λ (n : ℕ). Open catalogue w n v) h.2 (op_closed h.0 h.1)

@@ -5,7 +5,7 @@ use Rattle.std.proofs.lemmas.Option.{slice_get-map}
 use Rattle.vp_model.specs.Types.{ViewId, TxnId, View, Commit, Stored, Live, Doubt}
 use Rattle.vp_model.specs.Words.{opening, value_at}
 use Rattle.vp_model.specs.Refresh.{is_usable_in}
-use Rattle.vp_model.specs.Catalogue.{Catalogue, RecordEntry, sites_of, start_values, start_copies}
+use Rattle.vp_model.specs.Catalogue.{Table, Catalogue, RecordEntry, sites_of, start_values, start_copies}
 use Rattle.vp_model.specs.Durable.{DurableState, empty_durable, apply}
 use Rattle.vp_model.specs.Site.{SiteState}
 use Rattle.vp_model.specs.Step.{start, start_record}
@@ -20,7 +20,7 @@ use Rattle.vp_laws.proofs.Invariant.Shares.{HasRequest}
 use Rattle.vp_laws.proofs.Invariant.Entered.{AgreedAs}
 use Rattle.vp_laws.proofs.Invariant.Lived.{InvLived}
 use Rattle.vp_laws.proofs.Keeping.Closing.{closed_quiet}
-use Rattle.vp_laws.proofs.Journal.ValuesAfter.{value_after, without_entry}
+use Rattle.vp_laws.proofs.Journal.ValuesAfter.{Content, content_of, started as begun_as, value_after, without_entry}
 use Rattle.vp_laws.proofs.Invariant.Copies.{FromView, DoubtOn, InvCopies}
 use Rattle.vp_laws.proofs.Invariant.Refresh.{InvRefresh}
 use Rattle.vp_laws.proofs.Keeping.Lived.{start_unused}
@@ -31,6 +31,9 @@ use Rattle.vp_laws.proofs.Lists.Numbers.{from_first}
 use Rattle.vp_laws.proofs.Lists.StartCopies.{placed_value}
 
 -- the world as it starts
+
+abbrev tabled : Option (List ℕ) → Option Table → Content
+tabled value table = record { value = value; table = table }
 
 module _ (catalogue : Catalogue) where
   abbrev w : Scene
@@ -54,15 +57,16 @@ module _ (catalogue : Catalogue) where
   pub no_doubt : (s : ℕ) (u : Doubt) → Has (kept_at w s).doubts u → ⊥
   no_doubt s u h = has_none u (subst (λ (us : List Doubt). Has us u) (start_kept catalogue s).doubts h)
 
-  no_entries : (date : ViewId) (rec : ℕ) (value : List ℕ) → slice_get (start_values catalogue) rec ≡ Some value → value_after catalogue [] date rec ≡ Some value
-  no_entries date rec value e = ap (option_map (λ (start : List ℕ). start)) e
+  no_entries : (date : ViewId) (rec : ℕ) (value : Option (List ℕ)) → slice_get (start_values catalogue) rec ≡ Some value → value_after catalogue [] date rec ≡ Some (begun_as value)
+  no_entries date rec value e = ap (option_map (λ (start : Option (List ℕ)). begun_as start)) e
 
-  start_value : (s rec : ℕ) (c : Stored) → value_at rec (kept_at w s).copies ≡ Some c → value_after catalogue w.journal c.date rec ≡ Some c.value
+  start_value : (s rec : ℕ) (c : Stored) → value_at rec (kept_at w s).copies ≡ Some c → value_after catalogue w.journal c.date rec ≡ Some (content_of c)
   unfolding start_world
   start_value s rec c h =
       let q = placed_value 0 catalogue.records s (rec, c) (start_copy s rec c h).copy in
       let at : rec ≡ q.0 = q.1 ∙ from_first q.0 in
-      no_entries c.date rec c.value (subst (λ (i : ℕ). slice_get (start_values catalogue) i ≡ Some c.value) (sym at) (slice_get-map (λ (r : RecordEntry). r.start) catalogue.records q.0 ∙ ap (option_map (λ (r : RecordEntry). r.start)) q.3 ∙ ap (λ (v : List ℕ). Some v) q.4))
+      no_entries c.date rec c.value (subst (λ (i : ℕ). slice_get (start_values catalogue) i ≡ Some c.value) (sym at) (slice_get-map (λ (r : RecordEntry). Some r.start) catalogue.records q.0 ∙ ap (option_map (λ (r : RecordEntry). Some r.start)) q.3 ∙ ap (λ (v : Option (List ℕ)). Some v) q.4))
+      ∙ ap (λ (x : Option Table). Some (tabled c.value x)) (sym ((start_kept catalogue s).tables (rec, c) (value_pair rec (kept_at w s).copies c h)))
 
   start_from : (s rec : ℕ) (c : Stored) → value_at rec (kept_at w s).copies ≡ Some c → FromView catalogue w s rec c.date
   start_from s rec c h = FromView.member (record { id = opening; members = sites_of catalogue }) ((views_last catalogue).starts.opening, sym ((start_kept catalogue s).dated (rec, c) (value_pair rec (kept_at w s).copies c h))) (start_copy s rec c h).site
@@ -104,6 +108,7 @@ module _ (catalogue : Catalogue) where
     from = λ p to rec view stored h low. absurd (start_sent catalogue _ h);
     live = λ s x t up h. absurd (started_idle catalogue s x t up h);
     entry = λ e v rec h agreed did. absurd (start_entered catalogue e h);
+    weighed = λ e v rec table h agreed gave. absurd (start_entered catalogue e h);
     used = λ s q rec exclusive x t v up h has agreed. absurd (started_idle catalogue s x t up h);
     asked = λ from to number rec txn view exclusive v h agreed. absurd (no_request from to number rec txn view exclusive h);
   }
@@ -132,7 +137,7 @@ module _ (catalogue : Catalogue) (w new : Scene) (s : ℕ) (q : Quiet catalogue 
   from_now j rec date (FromView.member v agreed m) = FromView.member v (q.moved.agreed v agreed.0, agreed.1) m
   from_now j rec date (FromView.closed v agreed later m opened) = FromView.closed v (q.moved.agreed v agreed) later m (open_now rec v opened)
 
-  value_same : (date : ViewId) (rec : ℕ) (value : List ℕ) → value_after catalogue w.journal date rec ≡ Some value → value_after catalogue new.journal date rec ≡ Some value
+  value_same : (date : ViewId) (rec : ℕ) (value : Content) → value_after catalogue w.journal date rec ≡ Some value → value_after catalogue new.journal date rec ≡ Some value
   value_same date rec value h = subst (λ (es : List Commit). value_after catalogue es date rec ≡ Some value) (sym q.journal) h
 
   -- a site that holds a view is another one, as it was
@@ -153,8 +158,8 @@ module _ (catalogue : Catalogue) (w new : Scene) (s : ℕ) (q : Quiet catalogue 
 
   pub copies_quiet : InvCopies catalogue new
   copies_quiet = record {
-    value = λ j rec c h none. value_same c.date rec c.value (copies.value j rec c (copy_was j rec c h) (λ u on. none u (on_now j rec c.date u on)));
-    value_in_doubt = λ j rec c u h on. subst (λ (es : List Commit). value_after catalogue (without_entry u.txn es) c.date rec ≡ Some c.value) (sym q.journal) (copies.value_in_doubt j rec c u (copy_was j rec c h) (on_was j rec c.date u on));
+    value = λ j rec c h none. value_same c.date rec (content_of c) (copies.value j rec c (copy_was j rec c h) (λ u on. none u (on_now j rec c.date u on)));
+    value_in_doubt = λ j rec c u h on. subst (λ (es : List Commit). value_after catalogue (without_entry u.txn es) c.date rec ≡ Some (content_of c)) (sym q.journal) (copies.value_in_doubt j rec c u (copy_was j rec c h) (on_was j rec c.date u on));
     last = λ j rec c u front back e f h on is named behind wrote. copies.last j rec c u front back e f (copy_was j rec c h) (on_was j rec c.date u on) (sym q.journal ∙ is) named behind wrote;
     above = λ j rec c e v h there wrote later agreed member.
         let u = copies.above j rec c e v (copy_was j rec c h) (entry_was e there) wrote later (agreed_was e.view v agreed) member in
@@ -168,11 +173,12 @@ module _ (catalogue : Catalogue) (w new : Scene) (s : ℕ) (q : Quiet catalogue 
   refresh_quiet = record {
     holder = λ p to rec view stored h. refresh.holder p to rec view stored (rw q.sent at h);
     closed = λ p to rec view stored h low. closed_quiet catalogue w new s q lived p rec view (refresh.closed p to rec view stored (rw q.sent at h) low);
-    value = λ p to rec view stored h low. value_same stored.date rec stored.value (refresh.value p to rec view stored (rw q.sent at h) low);
+    value = λ p to rec view stored h low. value_same stored.date rec (content_of stored) (refresh.value p to rec view stored (rw q.sent at h) low);
     between = λ p to rec view stored e v h there wrote later below agreed member. refresh.between p to rec view stored e v (rw q.sent at h) (entry_was e there) wrote later below (agreed_was e.view v agreed) member;
     from = λ p to rec view stored h low. from_now p rec stored.date (refresh.from p to rec view stored (rw q.sent at h) low);
     live = λ j y t up h. refresh.live j y t (still_live j y t up h) h;
     entry = λ e v rec h agreed did. open_now rec v (refresh.entry e v rec (entry_was e h) (agreed_was e.view v agreed) did);
+    weighed = λ e v rec table h agreed gave. refresh.weighed e v rec table (entry_was e h) (agreed_was e.view v agreed) gave;
     used = λ j a rec exclusive y t v up h has agreed. open_now rec v (refresh.used j a rec exclusive y t v (still_live j y t up h) h (answered_on w new q.sent a t.txn rec exclusive has) (agreed_was t.view v agreed));
     asked = λ from to number rec txn view exclusive v h agreed. refresh.asked from to number rec txn view exclusive v (request_on w new q.sent from to txn view number rec exclusive h) (agreed_was view v agreed);
   }

@@ -1,11 +1,11 @@
 -- A step keeps the invariant of answers to a refresh and of closed records.
-use Rattle.std.proofs.Common.{List, ◌≡◌, ◌≢◌, ◌⊎◌, ◌∙◌, ap, sym, subst, ℕ, Bool, true, false, refl, inl, inr, ⊎_elim}
+use Rattle.std.proofs.Common.{◌≡◌, ◌≢◌, ◌⊎◌, ◌∙◌, ap, sym, subst, ℕ, Bool, true, false, refl, inl, inr, ⊎_elim}
 use Rattle.std.specs.Prelude.{Option, Some, is_some, not, ◌||◌, ◌&&◌, ◌==◌}
-use Rattle.vp_model.specs.Types.{ViewId, TxnId, View, Sent, Commit, Input, Op, Stored, Pending, Live}
+use Rattle.vp_model.specs.Types.{ViewId, TxnId, View, Sent, Commit, Input, Stored, Pending, Live}
 use Rattle.vp_model.specs.Types.message
 use Rattle.vp_model.specs.Types.owner
 use Rattle.vp_model.specs.Words.{has, value_at}
-use Rattle.vp_model.specs.Catalogue.{Catalogue, holders, accessible}
+use Rattle.vp_model.specs.Catalogue.{Catalogue, Table, holders, accessible}
 use Rattle.vp_model.specs.Durable.{DurableState}
 use Rattle.vp_model.specs.Refresh.{is_open, is_usable_in, is_doubtful, members_in, other_holders}
 use Rattle.vp_model.specs.Messages.{holds_view}
@@ -32,16 +32,16 @@ use Rattle.vp_laws.proofs.Invariant.Ops.{HasUsed}
 use Rattle.vp_laws.proofs.Invariant.Entered.{AgreedAs}
 use Rattle.vp_laws.proofs.Invariant.Used.{HasAnswered}
 use Rattle.vp_laws.proofs.Keeping.Closing.{closed_at_lasts}
-use Rattle.vp_laws.proofs.Journal.ValuesAfter.{Wrote, value_after}
+use Rattle.vp_laws.proofs.Journal.ValuesAfter.{content_of, Wrote, value_after}
 use Rattle.vp_laws.proofs.Copies.Facts.{copy_holder, closed_above}
 use Rattle.vp_laws.proofs.Worlds.Sites.{now_is, NowIs}
 use Rattle.vp_laws.proofs.Keeping.NewEntries.{none_entered, journal_same, Entering, entering, doubted, stops, agreed_was, Fresh, doubt_from}
 use Rattle.vp_laws.proofs.Copies.Values.{value_now}
 use Rattle.vp_laws.proofs.Copies.Brought.{doubt_on}
-use Rattle.vp_laws.proofs.Copies.CopiesKept.{open_now, from_lasts, unlisted_none}
-use Rattle.vp_laws.proofs.Copies.OwnUse.{idle_reads, used_closed}
-use Rattle.vp_laws.proofs.Copies.Refreshes.{certain_from, left_below}
-use Rattle.vp_laws.proofs.Invariant.LiveUses.{LiveUses, live_uses}
+use Rattle.vp_laws.proofs.Copies.CopiesKept.{open_now, from_lasts}
+use Rattle.vp_laws.proofs.Copies.OwnUse.{written_closed, idle_reads, used_closed}
+use Rattle.vp_laws.proofs.Copies.Refreshes.{unlisted_none, certain_from, left_below}
+use Rattle.vp_laws.proofs.Invariant.LiveUses.{MayWeigh, LiveUses, live_uses}
 use Rattle.vp_laws.proofs.Keeping.Does.{Does}
 use Rattle.vp_laws.proofs.Invariant.Copies.{FromView, InvCopies}
 use Rattle.vp_laws.proofs.Invariant.Refresh.{InvRefresh}
@@ -115,7 +115,7 @@ module _ (catalogue : Catalogue) (w new : Scene) (s : ℕ) (x : SiteState) (give
     replied_closed : ClosedAt new p rec view
     replied_closed = rw r.here (record { left = λ j below. left_below catalogue w new s x given o k n d held.0 j held.1 (subst (Precedes j) (sym held.2) below); certain = λ u h on below. sure_now u h on })
 
-    replied_value : value_after catalogue new.journal stored.date rec ≡ Some stored.value
+    replied_value : value_after catalogue new.journal stored.date rec ≡ Some (content_of stored)
     replied_value =
         value_now catalogue w new s x given o k n d copies refresh stored.date rec (λ e h. absurd (no_entry e h))
         ∙ copies.value s rec stored kept_copy (λ u on. sure_then u on.0 on.1)
@@ -174,12 +174,24 @@ module _ (catalogue : Catalogue) (w new : Scene) (s : ℕ) (x : SiteState) (give
           let is : p ≡ a = (let z = sym pending ∙ ap (λ (t : Live). t.pending) (same t there named) ∙ last.pending in cc) in
           no_reads a rec commit (subst (λ (p : Pending). Reads catalogue p rec) is reads)
 
-  entry_new : (e : Commit) (v : View) (rec : ℕ) → Has o.effects.commits e → AgreedAs new e.view v → HasUsed e.ops rec → Open catalogue new rec v
+  entry_new : (e : Commit) (v : View) (rec : ℕ) → Has o.effects.commits e → AgreedAs new e.view v → HasUsed e.ops rec ⊎ Wrote e rec → Open catalogue new rec v
   entry_new e v rec h agreed did =
       let f = entering catalogue w new s x given o k n d e h in
       let same : f.view ≡ v = n.views.unique f.view v (d.st.moved.agreed f.view (d.here.held f.view f.held)) agreed.0 (f.is ∙ sym agreed.1) in
+      let was : AgreedAs w f.was.view v = (subst (Has w.agreed) same (d.here.held f.view f.held), agreed.1 ∙ sym f.viewed) in
       open_now catalogue w new s x given o k n d copies refresh rec v
-      (used_closed catalogue w k copies s x f.was d.up f.live refresh v (subst (Has w.agreed) same (d.here.held f.view f.held), agreed.1 ∙ sym f.viewed) (idle_reads catalogue w k copies s x f.was d.up f.live refresh v (subst (Has w.agreed) same (d.here.held f.view f.held), agreed.1 ∙ sym f.viewed) (deciding e h f)) rec (subst (λ (ops : List Op). HasUsed ops rec) (sym f.done) did))
+      (⊎_elim
+      (λ used. used_closed catalogue w k copies s x f.was d.up f.live refresh v was (idle_reads catalogue w k copies s x f.was d.up f.live refresh v was (deciding e h f)) rec (subst (λ (e : Commit). HasUsed e.ops rec) (sym f.done) used))
+      (λ wrote. written_closed catalogue w k copies s x f.was d.up f.live refresh v was rec (subst (λ (e : Commit). Wrote e rec) (sym f.done) wrote))
+      did)
+
+  weighed_new : (e : Commit) (v : View) (rec : ℕ) (table : Table) → Has o.effects.commits e → AgreedAs new e.view v → value_at rec e.tables ≡ Some table → MayWeigh catalogue v.members rec table
+  weighed_new e v rec table h agreed gave =
+      let f = entering catalogue w new s x given o k n d e h in
+      let same : f.view ≡ v = n.views.unique f.view v (d.st.moved.agreed f.view (d.here.held f.view f.held)) agreed.0 (f.is ∙ sym agreed.1) in
+      let held : x.held ≡ Some v = f.held ∙ ap (λ (v : View). Some v) same in
+      subst (λ (held : Option View). MayWeigh catalogue (members_in held) rec table) held
+      ((refresh.live s x f.was d.up f.live).weighed rec table (subst (λ (e : Commit). value_at rec e.tables ≡ Some table) (sym f.done) gave))
 
   -- each record that is asked for is accessible
   usable_in : (u : Live) (r rec : ℕ) (view : ViewId) (v : View) → Has x.live u → is_open catalogue x r ≡ true → r ≡ rec → u.view ≡ view → AgreedAs new view v → accessible catalogue rec v.members ≡ true
@@ -319,6 +331,10 @@ module _ (catalogue : Catalogue) (w new : Scene) (s : ℕ) (x : SiteState) (give
     entry = λ e v rec h agreed did. ⊎_elim
         (λ old. open_now catalogue w new s x given o k n d copies refresh rec v (refresh.entry e v rec old (agreed_was catalogue w new s x given o k n d e v old agreed) did))
         (λ more. entry_new e v rec more agreed did)
+        (d.st.entered e h);
+    weighed = λ e v rec table h agreed gave. ⊎_elim
+        (λ old. refresh.weighed e v rec table old (agreed_was catalogue w new s x given o k n d e v old agreed) gave)
+        (λ more. weighed_new e v rec table more agreed gave)
         (d.st.entered e h);
     used = used_new;
     asked = asked_now;

@@ -1,19 +1,22 @@
 -- What a site knows of a record that it refreshes: each answer has a lower date; and once all other holders have answered and no
 -- transaction in doubt writes the record, it is closed for the held view.
-use Rattle.std.proofs.Common.{◌≡◌, ◌≢◌, ◌∙◌, ap, sym, subst, ℕ, Bool, true, false, List, [], ◌∷◌, refl, ⊎_elim}
-use Rattle.std.specs.Prelude.{Option, Some, not}
+use Rattle.std.proofs.Common.{◌≡◌, ◌≢◌, ◌∙◌, ap, sym, subst, ℕ, Bool, true, false, cond, List, [], ◌∷◌, refl, ⊎_elim}
+use Rattle.std.specs.Prelude.{Option, Some, None, find, ◌==◌, not}
+use Rattle.std.proofs.lemmas.Bool.{eqb-true}
 use Rattle.vp_model.specs.Types.{ViewId, View, Commit, Input, Stored, Refreshing, Doubt}
 use Rattle.vp_model.specs.Types.message
 use Rattle.vp_model.specs.Words.{has, is_empty, keys, opening}
 use Rattle.vp_model.specs.Catalogue.{Catalogue, holders, accessible}
 use Rattle.vp_model.specs.Durable.{DurableState}
-use Rattle.vp_model.specs.Refresh.{is_usable_in, other_holders, other_holders_in, unanswered, is_doubtful}
+use Rattle.vp_model.specs.Refresh.{refreshing_of, is_usable_in, other_holders, other_holders_in, unanswered, is_doubtful}
 use Rattle.vp_model.specs.Site.{SiteState, Stepped}
-use Rattle.vp_laws.proofs.Lists.Members.{Has, has_none, has_from_test, filter_keeps, map_has, any_false, has_test}
+use Rattle.vp_laws.proofs.Lists.Members.{Has, has_first, has_more, has_cons, has_none, has_from_test, filter_keeps, map_has, any_false, has_test}
 use Rattle.vp_laws.proofs.Lists.Views.{AtMost, Precedes, AtMost-trans, AtMost-along, Precedes-at_most, not_both, same_site}
 use Rattle.vp_laws.proofs.Moves.LocalViews.{letter}
 use Rattle.vp_laws.proofs.Table.Copies.{AnswerNow}
 use Rattle.vp_laws.proofs.Table.CopyAt.{Certain}
+use Rattle.vp_laws.proofs.Table.Unlisted.{IsUnlisted}
+use Rattle.vp_laws.proofs.Lists.Numbers.{unequal}
 use Rattle.vp_laws.proofs.Table.Leaves.{Uses}
 use Rattle.vp_laws.proofs.Worlds.Scenes.{Scene, kept_at, promise_at}
 use Rattle.vp_laws.proofs.Invariant.Dated.{WasSent}
@@ -30,6 +33,23 @@ use Rattle.vp_laws.proofs.Invariant.Known.{Known}
 use Rattle.vp_laws.proofs.Keeping.Leaving.{left_here}
 use Rattle.vp_laws.proofs.Invariant.Closed.{ClosedAt, Closed}
 use Rattle.vp_laws.proofs.Journal.ValuesAfter.{Wrote}
+
+-- what is not found is not listed, and the other way round
+pub unlisted_from : (rec : ℕ) (refresh : List Refreshing) → refreshing_of rec refresh ≡ None → IsUnlisted refresh rec
+unlisted_from rec [] e r h is = has_none r h
+unlisted_from rec (a ∷ refresh) e r h is = go (a.rec == rec) refl e (λ q more. unlisted_from rec refresh q r more is)
+  where
+    go : (b : Bool) → (a.rec == rec) ≡ b → cond b (Some a) (find (λ (r : Refreshing). r.rec == rec) refresh) ≡ None → (refreshing_of rec refresh ≡ None → Has refresh r → ⊥) → ⊥
+    go true t q rest = cc
+    go false t q rest = ⊎_elim (λ (one : a ≡ r). unequal a.rec rec t (ap (λ (r : Refreshing). r.rec) one ∙ is)) (λ more. rest q more) (has_cons a refresh r h)
+
+pub unlisted_none : (rec : ℕ) (refresh : List Refreshing) → IsUnlisted refresh rec → refreshing_of rec refresh ≡ None
+unlisted_none rec [] none = refl
+unlisted_none rec (a ∷ refresh) none = go (a.rec == rec) refl (unlisted_none rec refresh (λ r h. none r (has_more a refresh r h)))
+  where
+    go : (b : Bool) → (a.rec == rec) ≡ b → refreshing_of rec refresh ≡ None → cond b (Some a) (find (λ (r : Refreshing). r.rec == rec) refresh) ≡ None
+    go true t rest = absurd (none a (has_first a refresh) (eqb-true a.rec rec t))
+    go false t rest = rest
 
 -- a test that finds no doubtful record
 pub certain_from : (doubts : List Doubt) (site : SiteState) (rec : ℕ) → site.doubts ≡ doubts → is_doubtful site rec ≡ false → Certain doubts rec

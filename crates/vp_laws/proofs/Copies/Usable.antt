@@ -13,7 +13,7 @@ use Rattle.vp_laws.proofs.Lists.Members.{Has}
 use Rattle.vp_laws.proofs.Lists.Views.{AtMost, Precedes, same_is, same_from}
 use Rattle.vp_laws.proofs.Worlds.Scenes.{Scene, plain_at, kept_at}
 use Rattle.vp_laws.proofs.Invariant.Shares.{InvShares}
-use Rattle.vp_laws.proofs.Journal.ValuesAfter.{Wrote, value_after, value_up_to, value_between, without_none}
+use Rattle.vp_laws.proofs.Journal.ValuesAfter.{content_of, Content, started, Wrote, value_after, value_up_to, value_between, without_none}
 use Rattle.vp_laws.proofs.Journal.ValuesGrow.{doubt_or_none}
 use Rattle.vp_laws.proofs.Copies.Brought.{doubt_on}
 use Rattle.vp_laws.proofs.Invariant.Copies.{InvCopies}
@@ -23,9 +23,9 @@ use Rattle.vp_laws.proofs.Keeping.Guards.{strictly}
 pub after_between : (catalogue : Catalogue) (journal : List Commit) (c d : ViewId) (rec : ℕ) → AtMost c d → ((f : Commit) → Has journal f → Precedes c f.view → AtMost f.view d → Wrote f rec → ⊥) → value_after catalogue journal d rec ≡ value_after catalogue journal c rec
 after_between catalogue journal c d rec h none = go (slice_get (start_values catalogue) rec)
   where
-    go : (o : Option (List ℕ)) → option_map (λ start. value_up_to rec start journal d) o ≡ option_map (λ start. value_up_to rec start journal c) o
+    go : (o : Option (Option (List ℕ))) → option_map (λ start. value_up_to rec (started start) journal d) o ≡ option_map (λ start. value_up_to rec (started start) journal c) o
     go None = refl
-    go (Some start) = ap (λ (v : List ℕ). Some v) (value_between rec start journal c d h none)
+    go (Some start) = ap (λ (v : Content). Some v) (value_between rec (started start) journal c d h none)
 
 not_same : (i : ViewId) → same_view i i ≡ false → ⊥
 not_same i e = let t : same_view i i ≡ true = same_from i i refl in cc
@@ -50,12 +50,12 @@ module _ (catalogue : Catalogue) (w : Scene) (shares : InvShares catalogue w) (i
       go true e = none_in_held f h wrote above (same_is f.view v.id e)
       go false e = inv.between s rec x v c f up held usable unlisted copy h wrote above (strictly f.view v.id below (apart e))
 
-  at_date : value_after catalogue w.journal c.date rec ≡ Some c.value
+  at_date : value_after catalogue w.journal c.date rec ≡ Some (content_of c)
   at_date = ⊎_elim
       (λ (q : (u : Doubt) × Has (kept_at w s).doubts u × Has (keys u.writes) rec × (u.view ≡ c.date)).
-      subst (λ (es : List Commit). value_after catalogue es c.date rec ≡ Some c.value) (without_none q.0.txn w.journal (unentered q.0 q.1 q.2)) (inv.value_in_doubt s rec c q.0 copy_kept (q.1, q.2, q.3)))
+      subst (λ (es : List Commit). value_after catalogue es c.date rec ≡ Some (content_of c)) (without_none q.0.txn w.journal (unentered q.0 q.1 q.2)) (inv.value_in_doubt s rec c q.0 copy_kept (q.1, q.2, q.3)))
       (λ none. inv.value s rec c copy_kept (λ d on. none d on.0 on.1 on.2))
       (doubt_or_none (kept_at w s).doubts rec c.date)
 
-  pub usable_value : value_after catalogue w.journal v.id rec ≡ Some c.value
+  pub usable_value : value_after catalogue w.journal v.id rec ≡ Some (content_of c)
   usable_value = after_between catalogue w.journal c.date v.id rec dated none_after ∙ at_date

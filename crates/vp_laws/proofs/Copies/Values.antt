@@ -12,7 +12,7 @@ use Rattle.vp_laws.proofs.Lists.Views.{AtMost, AtMost-same}
 use Rattle.vp_laws.proofs.Table.Shares.{OutcomeComes}
 use Rattle.vp_laws.proofs.Worlds.Scenes.{Scene, kept_at}
 use Rattle.vp_laws.proofs.Journal.Places.{Once, last_split, stands, once_later}
-use Rattle.vp_laws.proofs.Journal.ValuesAfter.{Wrote, value_after, without_entry, without_more, without_same, without_none}
+use Rattle.vp_laws.proofs.Journal.ValuesAfter.{content_of, Wrote, value_after, without_entry, without_more, without_same, without_none}
 use Rattle.vp_laws.proofs.Journal.ValuesGrow.{after_more, doubt_or_none}
 use Rattle.vp_laws.proofs.Keeping.NewEntries.{JournalNow, journal_now, doubt_says, doubt_stays, Fresh, doubt_from, fresh_name, fresh_same, fresh_no_outcome, fresh_not_entered}
 use Rattle.vp_laws.proofs.Copies.Origins.{Untouched, gone_aborted, meets}
@@ -48,25 +48,25 @@ module _ (catalogue : Catalogue) (w new : Scene) (s : ℕ) (x : SiteState) (give
 
   -- a copy that is untouched
 
-  pub old_value : (j rec : ℕ) (c : Stored) → Untouched catalogue w new s x given o k n d j rec c → ((u : Doubt) → DoubtOn new j rec c.date u → ⊥) → value_after catalogue new.journal c.date rec ≡ Some c.value
+  pub old_value : (j rec : ℕ) (c : Stored) → Untouched catalogue w new s x given o k n d j rec c → ((u : Doubt) → DoubtOn new j rec c.date u → ⊥) → value_after catalogue new.journal c.date rec ≡ Some (content_of c)
   old_value j rec c t none = value_now c.date rec (λ e h wrote le. let q = meets catalogue w new s x given o k n d j rec c t (copies.from j rec c t.was) refresh e h wrote le in none q.0.doubt (q.0.now, q.0.on, sym q.0.viewed ∙ q.1)) ∙ before
     where
-      aborted : (u : Doubt) → DoubtOn w j rec c.date u → ((e : Commit) → Has w.journal e → e.txn ≢ u.txn) → value_after catalogue w.journal c.date rec ≡ Some c.value
-      aborted u on no_entry = subst (λ (es : List Commit). value_after catalogue es c.date rec ≡ Some c.value) (without_none u.txn w.journal no_entry) (copies.value_in_doubt j rec c u t.was on)
+      aborted : (u : Doubt) → DoubtOn w j rec c.date u → ((e : Commit) → Has w.journal e → e.txn ≢ u.txn) → value_after catalogue w.journal c.date rec ≡ Some (content_of c)
+      aborted u on no_entry = subst (λ (es : List Commit). value_after catalogue es c.date rec ≡ Some (content_of c)) (without_none u.txn w.journal no_entry) (copies.value_in_doubt j rec c u t.was on)
 
-      before : value_after catalogue w.journal c.date rec ≡ Some c.value
+      before : value_after catalogue w.journal c.date rec ≡ Some (content_of c)
       before = ⊎_elim
           (λ (q : (u : Doubt) × Has (kept_at w j).doubts u × Has (keys u.writes) rec × (u.view ≡ c.date)). ⊎_elim (λ still. absurd (none q.0 (still, q.2, q.3))) (λ no_entry. aborted q.0 (q.1, q.2, q.3) no_entry) (gone_aborted catalogue w new s x given o k n d j rec c q.0 t q.1 q.2))
           (λ none_then. copies.value j rec c t.was (λ u on. none_then u on.0 on.1 on.2))
           (doubt_or_none (kept_at w j).doubts rec c.date)
 
-  pub old_in_doubt : (j rec : ℕ) (c : Stored) (u : Doubt) → Untouched catalogue w new s x given o k n d j rec c → DoubtOn new j rec c.date u → value_after catalogue (without_entry u.txn new.journal) c.date rec ≡ Some c.value
+  pub old_in_doubt : (j rec : ℕ) (c : Stored) (u : Doubt) → Untouched catalogue w new s x given o k n d j rec c → DoubtOn new j rec c.date u → value_after catalogue (without_entry u.txn new.journal) c.date rec ≡ Some (content_of c)
   old_in_doubt j rec c u t on = ⊎_elim
       (λ was. without_now u.txn c.date rec (λ e h other wrote le. let q = meets catalogue w new s x given o k n d j rec c t (copies.from j rec c t.was) refresh e h wrote le in other (sym q.0.named ∙ n.guards.writes j q.0.doubt u rec q.0.now on.0 q.0.on on.1)) ∙ copies.value_in_doubt j rec c u t.was (was, on.1, on.2))
       (λ f. first f)
       (doubt_from catalogue w new s x given o k n d j u on.0)
     where
-      first : Fresh catalogue w new s x given o k n d j u → value_after catalogue (without_entry u.txn new.journal) c.date rec ≡ Some c.value
+      first : Fresh catalogue w new s x given o k n d j u → value_after catalogue (without_entry u.txn new.journal) c.date rec ≡ Some (content_of c)
       first f =
           let all = without_none u.txn new.journal (fresh_not_entered catalogue w new s x given o k n d j u f on.0) in
           ap (λ (es : List Commit). value_after catalogue es c.date rec) (all ∙ fresh_same catalogue w new s x given o k n d j u f)

@@ -7,28 +7,30 @@ use Rattle.vp_model.specs.OneCopy.{order}
 use Rattle.vp_laws.proofs.Invariant.Base.{Stands, InvBase}
 use Rattle.vp_laws.proofs.Journal.Acts.{IsQuiet, after, after_upto, after_own, after_between, under_same}
 use Rattle.vp_laws.proofs.Journal.UpTo.{upto, under, up_to_from}
-use Rattle.std.specs.Prelude.{Some, not}
+use Rattle.std.specs.Prelude.{Option, Some, None, not, option_map, slice_get}
 use Rattle.vp_model.specs.Types.{Change, ViewId, TxnId, View, Commit, Input, Stored, Doubt}
 use Rattle.vp_model.specs.Types.message
 use Rattle.vp_model.specs.Words.{has, keys, value_at, view_before, same_txn}
-use Rattle.vp_model.specs.Catalogue.{Catalogue, holders}
+use Rattle.vp_model.specs.Catalogue.{Catalogue, holders, start_values}
 use Rattle.vp_model.specs.Durable.{DurableState}
 use Rattle.vp_model.specs.Transactions.{last_changes, writes_held}
 use Rattle.vp_model.specs.Site.{SiteState, Stepped}
+use Rattle.vp_model.specs.Step.{durable_of}
 use Rattle.vp_laws.proofs.Lists.Members.{Has, filter_has, has_first, has_more, has_right, has_cons}
 use Rattle.vp_laws.proofs.Lists.Changes.{mapped_has}
-use Rattle.vp_laws.proofs.Lists.Views.{AtMost, Precedes, AtMost-same, AtMost-along, Precedes-at_most, not_both, three_ways}
+use Rattle.vp_laws.proofs.Lists.Views.{AtMost, Precedes, AtMost-along, Precedes-at_most, not_both, three_ways}
 use Rattle.vp_laws.proofs.Journal.Order.{Precedes-trans}
 use Rattle.vp_laws.proofs.Moves.LocalViews.{letter}
 use Rattle.vp_laws.proofs.Worlds.Scenes.{Scene, kept_at, promise_at}
 use Rattle.vp_laws.proofs.Invariant.Shares.{InDoubt}
 use Rattle.vp_laws.proofs.Invariant.Entered.{AgreedAs}
-use Rattle.vp_laws.proofs.Invariant.Held.{has_copy}
-use Rattle.vp_laws.proofs.Journal.Places.{Once, has_split, stands_behind, once_later, last_value}
-use Rattle.vp_laws.proofs.Journal.ValuesAfter.{Wrote, without_entry, without_none, value_after, value_up_to, value_written, value_of_last}
-use Rattle.vp_laws.proofs.Journal.ValuesGrow.{after_is}
+use Rattle.vp_laws.proofs.Invariant.Held.{copy_value}
+use Rattle.vp_laws.proofs.Journal.Places.{Once, has_split, stands_behind, once_later}
+use Rattle.vp_laws.proofs.Journal.LastChanges.{last_change}
+use Rattle.vp_laws.proofs.Journal.ValuesAfter.{Content, content_of, started, writes_over, Wrote, without_entry, without_none, value_after, value_up_to, leaves_value, takes_value}
+use Rattle.vp_laws.proofs.Journal.ValuesGrow.{after_some}
 use Rattle.vp_laws.proofs.Copies.Facts.{no_doubt_below}
-use Rattle.vp_laws.proofs.Keeping.NewEntries.{none_entered, journal_same, journal_with, one_entry, Entering, entering, entering_agreed, certain_now, doubt_says, agreed_was, doubt_from, fresh_no_outcome}
+use Rattle.vp_laws.proofs.Keeping.NewEntries.{none_entered, journal_same, one_entry, Entering, entering, entering_agreed, certain_now, doubt_says, agreed_was, doubt_from, fresh_no_outcome}
 use Rattle.vp_laws.proofs.Copies.Origins.{Applied, Written}
 use Rattle.vp_laws.proofs.Copies.Values.{value_now}
 use Rattle.vp_laws.proofs.Keeping.Does.{Does}
@@ -36,12 +38,6 @@ use Rattle.vp_laws.proofs.Invariant.Copies.{FromView, DoubtOn, InvCopies}
 use Rattle.vp_laws.proofs.Invariant.Refresh.{InvRefresh}
 use Rattle.vp_laws.proofs.Keeping.Listed.{wrote_here, not_below_itself}
 use Rattle.vp_laws.proofs.Invariant.Known.{Known}
-
-pair_at : (ws : List (ℕ × Change)) (p : ℕ × List ℕ) (rec : ℕ) (value : List ℕ) → p.0 ≡ rec → p.1 ≡ value → value_at p.0 ws ≡ Some p.1 → value_at rec ws ≡ Some value
-pair_at ws p rec value e f h = rw (sym e, sym f) h
-
-value_along : (rec : ℕ) (start value : List ℕ) (es fs : List Commit) (a b : ViewId) → es ≡ fs → a ≡ b → value_up_to rec start fs b ≡ value → value_up_to rec start es a ≡ value
-value_along rec start value es fs a b e f h = rw (e, f) h
 
 -- the entries of views up to one are among those below a higher one
 upto_under : (d v : ViewId) (es : List Commit) → Precedes d v → upto d (under v es) ≡ upto d es
@@ -87,7 +83,7 @@ module _ (catalogue : Catalogue) (w new : Scene) (s : ℕ) (x : SiteState) (give
     applied_date = ap (λ (p : ℕ × Stored). p.1.date) a.is
 
     pub applied_on : Has (keys a.doubt.writes) rec
-    applied_on = subst (Has (keys a.doubt.writes)) (ap (λ (p : ℕ × Stored). p.0) a.is) (mapped_has (λ (p : ℕ × List ℕ). p.0) a.doubt.writes a.write a.wrote)
+    applied_on = subst (Has (keys a.doubt.writes)) (ap (λ (p : ℕ × Stored). p.0) a.is) (mapped_has (λ (p : ℕ × Change). p.0) a.doubt.writes a.write a.wrote)
 
     no_entry : (e : Commit) → Has o.effects.commits e → ⊥
     no_entry = none_entered catalogue w new s x given o k n d a.from (message.Outcome a.doubt.txn true) a.comes (λ q. let z = q.1 in cc)
@@ -110,11 +106,20 @@ module _ (catalogue : Catalogue) (w new : Scene) (s : ℕ) (x : SiteState) (give
         (λ f. fresh_no_outcome catalogue w new s x given o k n d j v f a.from a.doubt.txn true a.comes)
         (doubt_from catalogue w new s x given o k n d j v there)
 
+    rec_is : a.write.0 ≡ rec
+    rec_is = ap (λ (p : ℕ × Stored). p.0) a.is
+
+    kept_here : durable_of x ≡ kept_at w j
+    kept_here = d.here.kept ∙ ap (kept_at w) (sym a.here)
+
     -- the copy before
     pub before : (b : Stored) × (value_at rec (kept_at w j).copies ≡ Some b)
-    before =
-        let q = has_copy catalogue w s x d.up d.here.kept k.held rec (subst (Has (holders catalogue rec)) a.here holder) in
-        (q.0, subst (λ (k : DurableState). value_at rec k.copies ≡ Some q.0) (d.here.kept ∙ ap (kept_at w) (sym a.here)) q.1)
+    before = (a.old, subst (λ (n : ℕ). value_at n (kept_at w j).copies ≡ Some a.old) rec_is there)
+      where
+        there : value_at a.write.0 (kept_at w j).copies ≡ Some a.old
+        there =
+            subst (λ (k : DurableState). value_at a.write.0 k.copies ≡ Some a.old) kept_here
+            (copy_value catalogue w s x d.up d.here.kept k.held a.write.0 a.old (subst (λ (k : DurableState). Has k.copies (a.write.0, a.old)) (sym kept_here) a.before))
 
     -- an entry that wrote the record and is in doubt here is the doubt's
     same_txn_in_doubt : (f : Commit) → Has w.journal f → Wrote f rec → InDoubt w j f.txn → f.txn ≡ a.doubt.txn
@@ -141,18 +146,11 @@ module _ (catalogue : Catalogue) (w new : Scene) (s : ℕ) (x : SiteState) (give
         above : Precedes a.doubt.view before.0.date → ⊥
         above p = no_doubt_below catalogue w k copies refresh j rec before.0 a.doubt before.1 a.was applied_on p
 
-    wrote_value : value_at rec (last_changes entry.0) ≡ Some c.value
-    wrote_value =
+    change_is : value_at rec (last_changes entry.0) ≡ Some a.write.1
+    change_is =
         let there : Has (writes_held catalogue j (last_changes entry.0)) a.write = rw says.1 a.wrote in
-        let last = last_value entry.0.ops a.write (filter_has (λ (w : ℕ × List ℕ). has (holders catalogue w.0) j) (last_changes entry.0) a.write there).0 in
-        pair_at (last_changes entry.0) a.write rec c.value (ap (λ (p : ℕ × Stored). p.0) a.is) (ap (λ (p : ℕ × Stored). p.1.value) a.is) last
-
-    pub applied_value : value_after catalogue new.journal c.date rec ≡ Some c.value
-    applied_value =
-        let q = has_split w.journal entry.0 entry.1 in
-        let at : c.date ≡ entry.0.view = sym applied_date ∙ sym says.0 in
-        value_now catalogue w new s x given o k n d copies refresh c.date rec (λ e h. absurd (no_entry e h))
-        ∙ after_is catalogue w.journal c.date rec j c.value holder (λ start. value_along rec start c.value w.journal (q.0 ++ entry.0 ∷ q.1) c.date entry.0.view q.2 at (value_of_last rec start c.value q.0 q.1 entry.0 wrote_value (λ f h same wrote. none_behind q.0 q.1 f q.2 h same wrote)))
+        subst (λ (n : ℕ). value_at n (last_changes entry.0) ≡ Some a.write.1) rec_is
+        (last_change entry.0 a.write (filter_has (λ (w : ℕ × Change). has (holders catalogue w.0) j) (last_changes entry.0) a.write there).0)
 
     -- whatever entries make of it: the content after those of views up to the doubt's is what the doubt's entry makes of the copy before
     module _ {C : Type 0} (act : Commit → C → C) (calm : (e : Commit) → (Wrote e rec → ⊥) → IsQuiet act e) (start : C) (of : Stored → C) (base : InvBase w) (content : ((u : Doubt) → DoubtOn w j rec before.0.date u → ⊥) → after_upto act start w.journal before.0.date ≡ of before.0) (in_doubt : (u : Doubt) → DoubtOn w j rec before.0.date u → after_upto act start (without_entry u.txn w.journal) before.0.date ≡ of before.0) where
@@ -206,6 +204,33 @@ module _ (catalogue : Catalogue) (w new : Scene) (s : ℕ) (x : SiteState) (give
               above : Precedes a.doubt.view before.0.date → after_upto act start (front ++ back) entry.0.view ≡ of before.0
               above p = absurd (no_doubt_below catalogue w k copies refresh j rec before.0 a.doubt before.1 a.was applied_on p)
 
+    -- so its content is the one after these entries
+    pub applied_value : InvBase w → value_after catalogue new.journal c.date rec ≡ Some (content_of c)
+    unfolding before
+    applied_value base = value_now catalogue w new s x given o k n d copies refresh c.date rec (λ e h. absurd (no_entry e h)) ∙ go (slice_get (start_values catalogue) rec) refl
+      where
+        at : c.date ≡ entry.0.view
+        at = sym applied_date ∙ sym says.0
+
+        starts_as : (journal : List Commit) (view : ViewId) (first : Option (List ℕ)) (content : Content) → slice_get (start_values catalogue) rec ≡ Some first → value_after catalogue journal view rec ≡ Some content → value_up_to rec (started first) journal view ≡ content
+        starts_as journal view first content e h =
+            let z : Some (value_up_to rec (started first) journal view) ≡ Some content = subst (λ (q : Option (Option (List ℕ))). option_map (λ start. value_up_to rec (started start) journal view) q ≡ Some content) e h in
+            cc
+
+        go : (q : Option (Option (List ℕ))) → slice_get (start_values catalogue) rec ≡ q → option_map (λ start. value_up_to rec (started start) w.journal c.date) q ≡ Some (content_of c)
+        go None e =
+            let some = after_some catalogue w.journal c.date rec j holder in
+            let z = subst (λ (q : Option (Option (List ℕ))). option_map (λ start. value_up_to rec (started start) w.journal c.date) q ≡ Some some.0) e some.1 in
+            cc
+        go (Some first) e = ap (λ (v : Content). Some v) (
+            ap (value_up_to rec (started first) w.journal) at
+            ∙ applied_content (writes_over rec) (λ f none. leaves_value f rec none) (started first) content_of base
+            (λ none. starts_as w.journal before.0.date first (content_of before.0) e (copies.value j rec before.0 before.1 none))
+            (λ u on. starts_as (without_entry u.txn w.journal) before.0.date first (content_of before.0) e (copies.value_in_doubt j rec before.0 u before.1 on))
+            ∙ takes_value entry.0 rec a.write.1 (content_of a.old) change_is
+            ∙ ap (λ (p : ℕ × Stored). content_of p.1) a.is
+            )
+
     pub applied_above : (e : Commit) (v : View) → Has new.journal e → Wrote e rec → Precedes c.date e.view → AgreedAs new e.view v → Has v.members j → ⊥
     applied_above e v h wrote later agreed member = ⊎_elim earlier (λ q. ⊎_elim equal above q) (three_ways before.0.date e.view)
       where
@@ -235,11 +260,11 @@ module _ (catalogue : Catalogue) (w new : Scene) (s : ℕ) (x : SiteState) (give
     pub written_date : b.entry.view ≡ c.date
     written_date = ap (λ (p : ℕ × Stored). p.1.date) b.is
 
-    there_last : Has (last_changes b.entry) b.write
-    there_last = (filter_has (λ (w : ℕ × List ℕ). has (holders catalogue w.0) x.id) (last_changes b.entry) b.write b.wrote).0
+    pub there_last : Has (last_changes b.entry) b.write
+    there_last = (filter_has (λ (w : ℕ × Change). has (holders catalogue w.0) x.id) (last_changes b.entry) b.write b.wrote).0
 
-    wrote : Wrote b.entry rec
-    wrote = subst (Wrote b.entry) (ap (λ (p : ℕ × Stored). p.0) b.is) (mapped_has (λ (p : ℕ × List ℕ). p.0) (last_changes b.entry) b.write there_last)
+    pub wrote : Wrote b.entry rec
+    wrote = subst (Wrote b.entry) (ap (λ (p : ℕ × Stored). p.0) b.is) (mapped_has (λ (p : ℕ × Change). p.0) (last_changes b.entry) b.write there_last)
 
     f : Entering catalogue w new s x given o k n d b.entry
     f = entering catalogue w new s x given o k n d b.entry b.entered
@@ -248,12 +273,6 @@ module _ (catalogue : Catalogue) (w new : Scene) (s : ℕ) (x : SiteState) (give
     written_sure v there also =
         certain_now catalogue w new s x given o k n d b.entry rec b.entered wrote (subst (Has (holders catalogue rec)) b.here holder) v
         (subst (λ (k : DurableState). Has k.doubts v) (ap (kept_at new) b.here ∙ d.st.kept_now) there) also
-
-    pub written_value : value_after catalogue new.journal c.date rec ≡ Some c.value
-    written_value =
-        let last : value_at rec (last_changes b.entry) ≡ Some c.value = pair_at (last_changes b.entry) b.write rec c.value (ap (λ (p : ℕ × Stored). p.0) b.is) (ap (λ (p : ℕ × Stored). p.1.value) b.is) (last_value b.entry.ops b.write there_last) in
-        let grown = journal_with catalogue w new s x given o k n d b.entry b.entered in
-        after_is catalogue new.journal c.date rec j c.value holder (λ start. ap (λ (es : List Commit). value_up_to rec start es c.date) grown ∙ value_written rec start w.journal b.entry c.date c.value (AtMost-same b.entry.view c.date written_date) last (λ g h above le q. not_both b.entry.view g.view above (AtMost-along le refl written_date)))
 
     pub written_above : (e : Commit) (v : View) → Has new.journal e → Wrote e rec → Precedes c.date e.view → AgreedAs new e.view v → Has v.members j → ⊥
     written_above e v h also later agreed member = ⊎_elim old more (d.st.entered e h)

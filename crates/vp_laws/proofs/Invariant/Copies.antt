@@ -11,7 +11,7 @@ use Rattle.vp_laws.proofs.Lists.Views.{Precedes}
 use Rattle.vp_laws.proofs.Worlds.Scenes.{Scene, plain_at, kept_at}
 use Rattle.vp_laws.proofs.Invariant.Shares.{InDoubt}
 use Rattle.vp_laws.proofs.Invariant.Entered.{AgreedAs}
-use Rattle.vp_laws.proofs.Journal.ValuesAfter.{Wrote, value_after, without_entry}
+use Rattle.vp_laws.proofs.Journal.ValuesAfter.{content_of, Wrote, value_after, without_entry}
 use Rattle.vp_laws.proofs.Invariant.Closed.{Open}
 
 -- the site holds the record in the date's view, or the record is closed for a later view of the site
@@ -25,9 +25,9 @@ DoubtOn w s rec date d = Has (kept_at w s).doubts d × Has (keys d.writes) rec �
 
 pub record InvCopies (catalogue : Catalogue) (w : Scene) : Type 0 where
   -- a copy has the value after the entries of views up to its date, but for the entry of a doubt of that view
-  pub value : (s rec : ℕ) (c : Stored) → value_at rec (kept_at w s).copies ≡ Some c → ((d : Doubt) → DoubtOn w s rec c.date d → ⊥) → value_after catalogue w.journal c.date rec ≡ Some c.value
+  pub value : (s rec : ℕ) (c : Stored) → value_at rec (kept_at w s).copies ≡ Some c → ((d : Doubt) → DoubtOn w s rec c.date d → ⊥) → value_after catalogue w.journal c.date rec ≡ Some (content_of c)
   -- with such a doubt it has the value without its entry
-  pub value_in_doubt : (s rec : ℕ) (c : Stored) (d : Doubt) → value_at rec (kept_at w s).copies ≡ Some c → DoubtOn w s rec c.date d → value_after catalogue (without_entry d.txn w.journal) c.date rec ≡ Some c.value
+  pub value_in_doubt : (s rec : ℕ) (c : Stored) (d : Doubt) → value_at rec (kept_at w s).copies ≡ Some c → DoubtOn w s rec c.date d → value_after catalogue (without_entry d.txn w.journal) c.date rec ≡ Some (content_of c)
   -- and no later entry of that view than the doubt's own wrote the record
   pub last : (s rec : ℕ) (c : Stored) (d : Doubt) (front back : List Commit) (e f : Commit) → value_at rec (kept_at w s).copies ≡ Some c → DoubtOn w s rec c.date d → w.journal ≡ front ++ e ∷ back → e.txn ≡ d.txn → Has back f → Wrote f rec → f.view ≢ e.view
   -- each entry that wrote the record in a later view of the site is in doubt there

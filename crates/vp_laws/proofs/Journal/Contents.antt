@@ -50,7 +50,7 @@ module _ (start : Values) (journal : List Commit) (e : Commit) where
   pub plays_above : (d : ViewId) (a b m n : Values) (ops : List Op) → Precedes e.view d → content start journal e.view ≡ Some a → play a e.ops ≡ Some b → content start journal d ≡ Some m → play m ops ≡ Some n → ((f : Commit) → Has journal f → Precedes e.view f.view → WritesNone e f.ops) → WritesNone e ops → (p : Values) × (r : Values) × (content start (journal ++ e ∷ []) d ≡ Some p) × (play p ops ≡ Some r)
   plays_above d a b m n ops below f g c h none_above none =
       let behind = upto d s.behind in
-      let last : Commit = record { txn = e.txn; view = d; ops = ops } in
+      let last : Commit = record { txn = e.txn; view = d; ops = ops; tables = [] } in
       let low : serial start s.before ≡ Some a = ap (serial start) (sym (up_to_own start journal e)) ∙ f in
       let first : upto d s.before ≡ s.before = upto_all d s.before (λ c q. AtMost-trans c.view e.view d (s.low c q) (Precedes-at_most e.view d below)) in
       let then : serial a behind ≡ Some m = sym (serial-append start s.before behind ∙ ap (option_and_then (λ (m : Values). serial m behind)) low) ∙ ap (serial start) (sym (ap (upto d) s.was ∙ upto_append d s.before s.behind ∙ ap (λ (l : List Commit). l ++ behind) first)) ∙ c in

@@ -1,11 +1,11 @@
 -- The place of an entry in the journal, and the values that it wrote.
-use Rattle.std.proofs.Common.{◌≡◌, ◌⊎◌, ◌∙◌, ap, sym, ℕ, ◌<◌, ◌++◌, arith, inl, inr, ⊎_elim, ◌≢◌, List, [], ◌∷◌}
+use Rattle.std.proofs.Common.{Option, ◌≡◌, ◌⊎◌, ◌∙◌, ap, sym, ℕ, ◌<◌, ◌++◌, arith, inl, inr, ⊎_elim, ◌≢◌, List, [], ◌∷◌}
 use Rattle.std.specs.Prelude.{Some}
 use Rattle.std.specs.List.{AllByRecursion}
 use Rattle.vp_model.specs.Types.{Op, Commit}
 use Rattle.vp_model.specs.Words.{keys, value_at}
 use Rattle.vp_model.specs.Transactions.{last_writes}
-use Rattle.vp_laws.proofs.Journal.Play.{Write, Ascending, last_ascending}
+use Rattle.vp_laws.proofs.Journal.Play.{Ascending, last_ascending}
 use Rattle.vp_laws.proofs.Lists.Members.{has_none, has_first, has_more, has_right, has_cons, Has}
 use Rattle.vp_laws.proofs.Lists.Pairs.{Differ, pair_value}
 
@@ -52,16 +52,16 @@ once_later [] back e f h k = h.0 f k
 once_later (c ∷ front) back e f h k = once_later front back e f h.1 k
 
 -- what is among the last values is the last value
-above_differ : (n : ℕ) (ws : List Write) → AllByRecursion (λ (x : Write). n < x.0) ws → Has (keys ws) n → ⊥
-above_differ n [] h k = has_none n k
-above_differ n (w ∷ ws) h k = ⊎_elim (λ (one : w.0 ≡ n). not_above n w.0 h.0 one) (λ more. above_differ n ws h.1 more) (has_cons w.0 (keys ws) n k)
+above_differ : {V : Type 0} (n : ℕ) (ws : List (ℕ × V)) → AllByRecursion (λ (x : ℕ × V). n < x.0) ws → Has (keys ws) n → ⊥
+above_differ {V} n [] h k = has_none n k
+above_differ {V} n (w ∷ ws) h k = ⊎_elim (λ (one : w.0 ≡ n). not_above n w.0 h.0 one) (λ more. above_differ n ws h.1 more) (has_cons w.0 (keys ws) n k)
   where
     not_above : (a b : ℕ) → a < b → b ≡ a → ⊥
     not_above a b l e = omega arith
 
-ascending_differ : (ws : List Write) → Ascending ws → Differ (keys ws)
-ascending_differ [] h = tt
-ascending_differ (w ∷ ws) h = (above_differ w.0 ws h.0, ascending_differ ws h.1)
+pub ascending_differ : {V : Type 0} (ws : List (ℕ × V)) → Ascending ws → Differ (keys ws)
+ascending_differ {V} [] h = tt
+ascending_differ {V} (w ∷ ws) h = (above_differ w.0 ws h.0, ascending_differ ws h.1)
 
-pub last_value : (ops : List Op) (w : ℕ × List ℕ) → Has (last_writes ops) w → value_at w.0 (last_writes ops) ≡ Some w.1
+pub last_value : (ops : List Op) (w : ℕ × Option (List ℕ)) → Has (last_writes ops) w → value_at w.0 (last_writes ops) ≡ Some w.1
 last_value ops w h = pair_value (last_writes ops) w.0 w.1 (ascending_differ (last_writes ops) (last_ascending ops)) h

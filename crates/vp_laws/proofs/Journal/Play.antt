@@ -3,79 +3,78 @@ use Rattle.std.proofs.Common.{◌≡◌, ◌<◌, ℕ, zero, suc, ◌∙◌, ap,
 use Rattle.std.specs.Prelude.{Option, Some, None, is_some, ◌==◌, nat_lt, slice_get, slice_set, option_map, option_and_then, find, fold}
 use Rattle.std.specs.Option.{option_map_or}
 use Rattle.std.specs.List.{AllByRecursion}
-use Rattle.std.specs.Str.{bytes_eq}
 use Rattle.std.proofs.lemmas.Bool.Decides.{nat_tests}
 use Rattle.std.proofs.lemmas.Bool.{cases_eq, eqb-true, eqb-false, ltb-true}
 use Rattle.std.proofs.lemmas.Slice.Eq.{bytes_eq-Decides}
 use Rattle.vp_model.specs.Types.{Op}
 use Rattle.vp_model.specs.Types.op
-use Rattle.vp_model.specs.Words.{put_at, value_at}
+use Rattle.vp_model.specs.Words.{put_at, value_at, same_content}
 use Rattle.vp_model.specs.Transactions.{with_op, last_writes}
 use Rattle.vp_model.specs.OneCopy.{Values, play_one, play}
 use Rattle.vp_laws.specs.Entries.{record_in}
 
 -- a map after one write
-pub get_set : (m : Values) (r : ℕ) (v : List ℕ) → slice_get (slice_set m r v) r ≡ option_map (λ (old : List ℕ). v) (slice_get m r)
+pub get_set : (m : Values) (r : ℕ) (v : Option (List ℕ)) → slice_get (slice_set m r v) r ≡ option_map (λ (old : Option (List ℕ)). v) (slice_get m r)
 get_set [] r v = refl
 get_set (x ∷ m) zero v = refl
 get_set (x ∷ m) (suc r) v = get_set m r v
 
-pub get_other : (m : Values) (r k : ℕ) (v : List ℕ) → (r ≡ k → ⊥) → slice_get (slice_set m r v) k ≡ slice_get m k
+pub get_other : (m : Values) (r k : ℕ) (v : Option (List ℕ)) → (r ≡ k → ⊥) → slice_get (slice_set m r v) k ≡ slice_get m k
 get_other [] r k v n = refl
 get_other (x ∷ m) zero zero v n = absurd (n refl)
 get_other (x ∷ m) zero (suc k) v n = refl
 get_other (x ∷ m) (suc r) zero v n = refl
 get_other (x ∷ m) (suc r) (suc k) v n = get_other m r k v (λ e. n (ap suc e))
 
-pub set_again : (m : Values) (r : ℕ) (u v : List ℕ) → slice_set (slice_set m r u) r v ≡ slice_set m r v
+pub set_again : (m : Values) (r : ℕ) (u v : Option (List ℕ)) → slice_set (slice_set m r u) r v ≡ slice_set m r v
 set_again [] r u v = refl
 set_again (x ∷ m) zero u v = refl
 set_again (x ∷ m) (suc r) u v = ap (λ z. x ∷ z) (set_again m r u v)
 
-pub set_swap : (m : Values) (r k : ℕ) (u v : List ℕ) → (r ≡ k → ⊥) → slice_set (slice_set m r u) k v ≡ slice_set (slice_set m k v) r u
+pub set_swap : (m : Values) (r k : ℕ) (u v : Option (List ℕ)) → (r ≡ k → ⊥) → slice_set (slice_set m r u) k v ≡ slice_set (slice_set m k v) r u
 set_swap [] r k u v n = refl
 set_swap (x ∷ m) zero zero u v n = absurd (n refl)
 set_swap (x ∷ m) zero (suc k) u v n = refl
 set_swap (x ∷ m) (suc r) zero u v n = refl
 set_swap (x ∷ m) (suc r) (suc k) u v n = ap (λ z. x ∷ z) (set_swap m r k u v (λ e. n (ap suc e)))
 
-pub get_there : (m : Values) (r k : ℕ) (v : List ℕ) → r ≡ k → is_some (slice_get m k) ≡ true → slice_get (slice_set m r v) k ≡ Some v
+pub get_there : (m : Values) (r k : ℕ) (v : Option (List ℕ)) → r ≡ k → is_some (slice_get m k) ≡ true → slice_get (slice_set m r v) k ≡ Some v
 get_there m r k v e s = rw e (get_set m k v ∙ go (slice_get m k) s)
   where
-    go : (o : Option (List ℕ)) → is_some o ≡ true → option_map (λ (old : List ℕ). v) o ≡ Some v
+    go : (o : Option (Option (List ℕ))) → is_some o ≡ true → option_map (λ (old : Option (List ℕ)). v) o ≡ Some v
     go None q = cc
     go (Some u) q = refl
 
 -- lists of written values by record
 abbrev pub Write : Type 0
-Write = ℕ × List ℕ
+Write = ℕ × Option (List ℕ)
 
 -- each written value replaces the one in the map
 abbrev pub set_all : List Write → Values → Values
 set_all [] m = m
 set_all (w ∷ ws) m = set_all ws (slice_set m w.0 w.1)
 
--- no record is written twice
-abbrev pub Ascending : List Write → Type 0
-Ascending [] = Unit {0}
-Ascending (w ∷ ws) = AllByRecursion (λ (x : Write). w.0 < x.0) ws × Ascending ws
+-- no record is there twice
+abbrev pub Ascending : {V : Type 0} → List (ℕ × V) → Type 0
+Ascending {V} [] = Unit {0}
+Ascending {V} (w ∷ ws) = AllByRecursion (λ (x : ℕ × V). w.0 < x.0) ws × Ascending ws
 
-put_above : (n k : ℕ) (v : List ℕ) (ws : List Write) → n < k → AllByRecursion (λ (x : Write). n < x.0) ws → AllByRecursion (λ (x : Write). n < x.0) (put_at k v ws)
-put_above n k v [] l h = (l, tt)
-put_above n k v (y ∷ ws) l h = go (k == y.0) (nat_lt k y.0) (put_above n k v ws l h.1)
+put_above : {V : Type 0} (n k : ℕ) (v : V) (ws : List (ℕ × V)) → n < k → AllByRecursion (λ (x : ℕ × V). n < x.0) ws → AllByRecursion (λ (x : ℕ × V). n < x.0) (put_at k v ws)
+put_above {V} n k v [] l h = (l, tt)
+put_above {V} n k v (y ∷ ws) l h = go (k == y.0) (nat_lt k y.0) (put_above n k v ws l h.1)
   where
-    go : (a b : Bool) → AllByRecursion (λ (x : Write). n < x.0) (put_at k v ws) → AllByRecursion (λ (x : Write). n < x.0) (cond a ((k, v) ∷ ws) (cond b ((k, v) ∷ y ∷ ws) (y ∷ put_at k v ws)))
+    go : (a b : Bool) → AllByRecursion (λ (x : ℕ × V). n < x.0) (put_at k v ws) → AllByRecursion (λ (x : ℕ × V). n < x.0) (cond a ((k, v) ∷ ws) (cond b ((k, v) ∷ y ∷ ws) (y ∷ put_at k v ws)))
     go true b i = (l, h.1)
     go false true i = (l, (h.0, h.1))
     go false false i = (h.0, i)
 
-all_above : (n k : ℕ) (ws : List Write) → n < k → AllByRecursion (λ (x : Write). k < x.0) ws → AllByRecursion (λ (x : Write). n < x.0) ws
-all_above n k [] l h = tt
-all_above n k (w ∷ ws) l h = let q = h.0 in (omega arith, all_above n k ws l h.1)
+all_above : {V : Type 0} (n k : ℕ) (ws : List (ℕ × V)) → n < k → AllByRecursion (λ (x : ℕ × V). k < x.0) ws → AllByRecursion (λ (x : ℕ × V). n < x.0) ws
+all_above {V} n k [] l h = tt
+all_above {V} n k (w ∷ ws) l h = let q = h.0 in (omega arith, all_above n k ws l h.1)
 
-pub put_ascending : (k : ℕ) (v : List ℕ) (ws : List Write) → Ascending ws → Ascending (put_at k v ws)
-put_ascending k v [] h = (tt, tt)
-put_ascending k v (y ∷ ws) h = go (k == y.0) (nat_lt k y.0) refl refl (put_ascending k v ws h.1)
+pub put_ascending : {V : Type 0} (k : ℕ) (v : V) (ws : List (ℕ × V)) → Ascending ws → Ascending (put_at k v ws)
+put_ascending {V} k v [] h = (tt, tt)
+put_ascending {V} k v (y ∷ ws) h = go (k == y.0) (nat_lt k y.0) refl refl (put_ascending k v ws h.1)
   where
     go : (a b : Bool) → (k == y.0) ≡ a → nat_lt k y.0 ≡ b → Ascending (put_at k v ws) → Ascending (cond a ((k, v) ∷ ws) (cond b ((k, v) ∷ y ∷ ws) (y ∷ put_at k v ws)))
     go true b e f i = (rw (eqb-true k y.0 e) h.0, h.1)
@@ -83,13 +82,13 @@ put_ascending k v (y ∷ ws) h = go (k == y.0) (nat_lt k y.0) refl refl (put_asc
     go false false e f i = (put_above y.0 k v ws (grind (arith, nat_tests)) h.0, i)
 
 -- a record that is above all written ones
-set_all-swap : (n : ℕ) (v : List ℕ) (ws : List Write) (m : Values) → AllByRecursion (λ (x : Write). n < x.0) ws → slice_set (set_all ws m) n v ≡ set_all ws (slice_set m n v)
+set_all-swap : (n : ℕ) (v : Option (List ℕ)) (ws : List Write) (m : Values) → AllByRecursion (λ (x : Write). n < x.0) ws → slice_set (set_all ws m) n v ≡ set_all ws (slice_set m n v)
 set_all-swap n v [] m h = refl
 set_all-swap n v (w ∷ ws) m h =
     let l = h.0 in
     set_all-swap n v ws (slice_set m w.0 w.1) h.1 ∙ ap (set_all ws) (set_swap m w.0 n w.1 v (λ e. omega arith))
 
-pub set_all-put : (n : ℕ) (v : List ℕ) (ws : List Write) (m : Values) → Ascending ws → set_all (put_at n v ws) m ≡ slice_set (set_all ws m) n v
+pub set_all-put : (n : ℕ) (v : Option (List ℕ)) (ws : List Write) (m : Values) → Ascending ws → set_all (put_at n v ws) m ≡ slice_set (set_all ws m) n v
 set_all-put n v [] m h = refl
 set_all-put n v (y ∷ ws) m h = go (n == y.0) (nat_lt n y.0) refl refl (set_all-put n v ws (slice_set m y.0 y.1) h.1)
   where
@@ -148,7 +147,7 @@ get_all-other n (w ∷ ws) m e = go (w.0 == n) refl (value_cons n w ws) (get_all
     go false q c i = let z : cond (w.0 == n) (Some w.1) (value_at n ws) ≡ None = sym c ∙ e in i (rw q at z) ∙ get_other m w.0 n w.1 (eqb-false w.0 n q)
 
 -- what is written is there
-pub get_all : (n : ℕ) (v : List ℕ) (ws : List Write) (m : Values) → Ascending ws → value_at n ws ≡ Some v → is_some (slice_get m n) ≡ true → slice_get (set_all ws m) n ≡ Some v
+pub get_all : (n : ℕ) (v : Option (List ℕ)) (ws : List Write) (m : Values) → Ascending ws → value_at n ws ≡ Some v → is_some (slice_get m n) ≡ true → slice_get (set_all ws m) n ≡ Some v
 get_all n v [] m h e s = cc
 get_all n v (w ∷ ws) m h e s = go (w.0 == n) refl (value_cons n w ws) (get_all n v ws (slice_set m w.0 w.1) h.1)
   where
@@ -165,7 +164,7 @@ get_all n v (w ∷ ws) m h e s = go (w.0 == n) refl (value_cons n w ws) (get_all
 
 -- the value of each record after operations, and where they play
 play_one-sets : (m n : Values) (operation : Op) (ws : List Write) (m0 : Values) → Ascending ws → m ≡ set_all ws m0 → play_one m operation ≡ Some n → n ≡ set_all (with_op ws operation) m0
-play_one-sets m n (op.Read rec value) ws m0 h e p = go (option_map_or (bytes_eq value) (slice_get m rec) false) p
+play_one-sets m n (op.Read rec value) ws m0 h e p = go (option_map_or (same_content value) (slice_get m rec) false) p
   where
     go : (a : Bool) → cond a (Some m) None ≡ Some n → n ≡ set_all ws m0
     go true q = let same : m ≡ n = cc in rw (← same) e
@@ -196,26 +195,30 @@ last_ascending-from (operation ∷ ops) ws h = last_ascending-from ops (with_op 
 pub last_ascending : (ops : List Op) → Ascending (last_writes ops)
 last_ascending ops = last_ascending-from ops [] tt
 
+pub same_content-self : (c : Option (List ℕ)) → same_content c c ≡ true
+same_content-self None = refl
+same_content-self (Some v) = (bytes_eq-Decides v v).1 refl
+
 -- a read plays where the map has its value
-pub read_plays : (m : Values) (rec : ℕ) (value : List ℕ) → slice_get m rec ≡ Some value → play m (op.Read rec value ∷ []) ≡ Some m
-read_plays m rec value e = rw (e, (bytes_eq-Decides value value).1 refl) refl
+pub read_plays : (m : Values) (rec : ℕ) (value : Option (List ℕ)) → slice_get m rec ≡ Some value → play m (op.Read rec value ∷ []) ≡ Some m
+read_plays m rec value e = rw (e, same_content-self value) refl
 
 -- operations play in the same way in a map that agrees on their records
 abbrev pub AgreeOn : (ℕ → Type 0) → Values → Values → Type 0
 AgreeOn P m n = (r : ℕ) → P r → slice_get m r ≡ slice_get n r
 
-set_agrees : (P : ℕ → Type 0) (m n : Values) (r : ℕ) (v : List ℕ) → AgreeOn P m n → P r → AgreeOn P (slice_set m r v) (slice_set n r v)
+set_agrees : (P : ℕ → Type 0) (m n : Values) (r : ℕ) (v : Option (List ℕ)) → AgreeOn P m n → P r → AgreeOn P (slice_set m r v) (slice_set n r v)
 set_agrees P m n r v h q k p = go (cases_eq r k)
   where
     go : (r ≡ k) ⊎ (r ≡ k → ⊥) → slice_get (slice_set m r v) k ≡ slice_get (slice_set n r v) k
-    go (inl e) = rw (← e) (get_set m r v ∙ ap (option_map (λ (old : List ℕ). v)) (h r q) ∙ sym (get_set n r v))
+    go (inl e) = rw (← e) (get_set m r v ∙ ap (option_map (λ (old : Option (List ℕ)). v)) (h r q) ∙ sym (get_set n r v))
     go (inr e) = get_other m r k v e ∙ h k p ∙ sym (get_other n r k v e)
 
 play_one-agrees : (P : ℕ → Type 0) (m n : Values) (operation : Op) (m2 : Values) → P (record_in operation) → AgreeOn P m n → play_one m operation ≡ Some m2 → (n2 : Values) × (play_one n operation ≡ Some n2) × AgreeOn P m2 n2
-play_one-agrees P m n (op.Read rec value) m2 q h e = go (option_map_or (bytes_eq value) (slice_get m rec) false) refl e
+play_one-agrees P m n (op.Read rec value) m2 q h e = go (option_map_or (same_content value) (slice_get m rec) false) refl e
   where
-    go : (a : Bool) → option_map_or (bytes_eq value) (slice_get m rec) false ≡ a → cond a (Some m) None ≡ Some m2 → (n2 : Values) × (play_one n (op.Read rec value) ≡ Some n2) × AgreeOn P m2 n2
-    go true t s = let same : m ≡ m2 = cc in let there : option_map_or (bytes_eq value) (slice_get n rec) false ≡ true = (rw (h rec q) at t) in (n, rw there refl, rw (← same) h)
+    go : (a : Bool) → option_map_or (same_content value) (slice_get m rec) false ≡ a → cond a (Some m) None ≡ Some m2 → (n2 : Values) × (play_one n (op.Read rec value) ≡ Some n2) × AgreeOn P m2 n2
+    go true t s = let same : m ≡ m2 = cc in let there : option_map_or (same_content value) (slice_get n rec) false ≡ true = (rw (h rec q) at t) in (n, rw there refl, rw (← same) h)
     go false t s = cc
 play_one-agrees P m n (op.Write rec value) m2 q h e = let same : slice_set m rec value ≡ m2 = cc in (slice_set n rec value, refl, rw (← same) (set_agrees P m n rec value h q))
 

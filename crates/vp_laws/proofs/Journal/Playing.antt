@@ -6,7 +6,7 @@ use Rattle.std.specs.List.{AllByRecursion}
 use Rattle.vp_model.specs.Types.{ViewId, Op, Commit}
 use Rattle.vp_model.specs.Words.{value_at}
 use Rattle.vp_model.specs.Catalogue.{Catalogue, start_values}
-use Rattle.vp_model.specs.Transactions.{last_changes}
+use Rattle.vp_model.specs.Transactions.{last_writes, last_changes}
 use Rattle.vp_model.specs.OneCopy.{Values, play, serial, order, content}
 use Rattle.vp_model.proofs.PlayedInParts.{serial-append}
 use Rattle.vp_laws.specs.Entries.{record_in}
@@ -14,7 +14,8 @@ use Rattle.vp_laws.proofs.Journal.Play.{Write, set_all, get_set, get_other, get_
 use Rattle.vp_laws.proofs.Lists.Members.{Has, has_first, has_more, has_right, all_of}
 use Rattle.vp_laws.proofs.Lists.Views.{Precedes, AtMost-refl, same_site, not_before}
 use Rattle.vp_laws.proofs.Journal.Order.{Split, order_has, order_more}
-use Rattle.vp_laws.proofs.Journal.ValuesAfter.{Wrote, overwritten, value_in, value_after, unwritten_value}
+use Rattle.vp_laws.proofs.Journal.ValuesAfter.{Content, started, Wrote, writes_over, value_in, value_up_to, value_after, unwritten_value}
+use Rattle.vp_laws.proofs.Journal.LastChanges.{written_over, act_value, unchanged_unwritten}
 use Rattle.vp_laws.proofs.Journal.UpTo.{upto, test_above, upto_all, upto_none, upto_append}
 
 -- the map after a serial run has the value of each record that the entries leave
@@ -22,36 +23,38 @@ use Rattle.vp_laws.proofs.Journal.UpTo.{upto, test_above, upto_all, upto_none, u
 set_none : (ws : List Write) (m : Values) (rec : ℕ) → slice_get m rec ≡ None → slice_get (set_all ws m) rec ≡ None
 set_none [] m rec e = e
 set_none (w ∷ ws) m rec e = set_none ws (slice_set m w.0 w.1) rec (⊎_elim
-    (λ (one : w.0 ≡ rec). subst (λ (n : ℕ). slice_get (slice_set m n w.1) rec ≡ None) (sym one) (get_set m rec w.1 ∙ ap (option_map (λ (old : List ℕ). w.1)) e))
+    (λ (one : w.0 ≡ rec). subst (λ (n : ℕ). slice_get (slice_set m n w.1) rec ≡ None) (sym one) (get_set m rec w.1 ∙ ap (option_map (λ (old : Option (List ℕ)). w.1)) e))
     (λ other. get_other m w.0 rec w.1 other ∙ e)
     (same_site w.0 rec))
 
-set_value : (ws : List Write) (m : Values) (rec : ℕ) → ((v : List ℕ) → value_at rec ws ≡ Some v → is_some (slice_get m rec) ≡ true → slice_get (set_all ws m) rec ≡ Some v) → slice_get (set_all ws m) rec ≡ option_map (overwritten ws rec) (slice_get m rec)
-set_value ws m rec all = go (slice_get m rec) (value_at rec ws) refl refl
+set_value : (ws : List Write) (m : Values) (rec : ℕ) (old : Option (List ℕ)) → ((v : Option (List ℕ)) → value_at rec ws ≡ Some v → is_some (slice_get m rec) ≡ true → slice_get (set_all ws m) rec ≡ Some v) → slice_get m rec ≡ Some old → slice_get (set_all ws m) rec ≡ Some (written_over ws rec old)
+set_value ws m rec old all there = go (value_at rec ws) refl
   where
-    go : (o : Option (List ℕ)) (w : Option (List ℕ)) → slice_get m rec ≡ o → value_at rec ws ≡ w → slice_get (set_all ws m) rec ≡ option_map (λ (old : List ℕ). option_map_or (λ value. value) w old) o
-    go None w e f = set_none ws m rec e
-    go (Some v) None e f = get_all-other rec ws m f ∙ e
-    go (Some v) (Some u) e f = all u f (rw e refl)
+    go : (w : Option (Option (List ℕ))) → value_at rec ws ≡ w → slice_get (set_all ws m) rec ≡ Some (option_map_or (λ value. value) w old)
+    go None f = get_all-other rec ws m f ∙ there
+    go (Some u) f = all u f (rw there refl)
 
-pub serial_value : (rec : ℕ) (es : List Commit) (m n : Values) → serial m es ≡ Some n → slice_get n rec ≡ option_map (λ start. value_in rec start es) (slice_get m rec)
-serial_value rec [] m n h = let same : m ≡ n = cc in rw (← same) (as_it_is (slice_get m rec))
-  where
-    as_it_is : (o : Option (List ℕ)) → o ≡ option_map (λ start. start) o
-    as_it_is None = refl
-    as_it_is (Some v) = refl
-serial_value rec (e ∷ es) m n h =
+serial_none : (rec : ℕ) (es : List Commit) (m n : Values) → serial m es ≡ Some n → slice_get m rec ≡ None → slice_get n rec ≡ None
+serial_none rec [] m n h none = let same : m ≡ n = cc in rw (← same) none
+serial_none rec (e ∷ es) m n h none =
     let t = and_then (play m e.ops) (λ (k : Values). serial k es) n h in
-    let rest = serial_value rec es t.0 n t.2 in
-    let now : slice_get t.0 rec ≡ option_map (overwritten (last_changes e) rec) (slice_get m rec) = ap (λ (k : Values). slice_get k rec) (play_sets e.ops m t.0 t.1) ∙ set_value (last_changes e) m rec (λ v w s. get_all rec v (last_changes e) m (last_ascending e.ops) w s) in
-    rest ∙ ap (option_map (λ start. value_in rec start es)) now ∙ twice (slice_get m rec)
-  where
-    twice : (o : Option (List ℕ)) → option_map (λ start. value_in rec start es) (option_map (overwritten (last_changes e) rec) o) ≡ option_map (λ start. value_in rec start (e ∷ es)) o
-    twice None = refl
-    twice (Some v) = refl
+    serial_none rec es t.0 n t.2 (ap (λ (k : Values). slice_get k rec) (play_sets e.ops m t.0 t.1) ∙ set_none (last_writes e.ops) m rec none)
 
-pub content_value : (catalogue : Catalogue) (journal : List Commit) (view : ViewId) (m : Values) (rec : ℕ) → content (start_values catalogue) journal view ≡ Some m → slice_get m rec ≡ value_after catalogue journal view rec
-content_value catalogue journal view m rec h = serial_value rec (upto view (order journal)) (start_values catalogue) m h
+pub serial_value : (rec : ℕ) (es : List Commit) (m n : Values) (c : Content) → serial m es ≡ Some n → slice_get m rec ≡ Some c.value → slice_get n rec ≡ Some (value_in rec c es).value
+serial_value rec [] m n c h there = let same : m ≡ n = cc in rw (← same) there
+serial_value rec (e ∷ es) m n c h there =
+    let t = and_then (play m e.ops) (λ (k : Values). serial k es) n h in
+    serial_value rec es t.0 n (writes_over rec e c) t.2
+    (ap (λ (k : Values). slice_get k rec) (play_sets e.ops m t.0 t.1)
+    ∙ set_value (last_writes e.ops) m rec c.value (λ v w s. get_all rec v (last_writes e.ops) m (last_ascending e.ops) w s) there
+    ∙ ap (λ (v : Option (List ℕ)). Some v) (sym (act_value e rec c)))
+
+pub content_value : (catalogue : Catalogue) (journal : List Commit) (view : ViewId) (m : Values) (rec : ℕ) → content (start_values catalogue) journal view ≡ Some m → slice_get m rec ≡ option_map (λ (c : Content). c.value) (value_after catalogue journal view rec)
+content_value catalogue journal view m rec h = go (slice_get (start_values catalogue) rec) refl
+  where
+    go : (o : Option (Option (List ℕ))) → slice_get (start_values catalogue) rec ≡ o → slice_get m rec ≡ option_map (λ (c : Content). c.value) (option_map (λ start. value_up_to rec (started start) journal view) o)
+    go None e = serial_none rec (upto view (order journal)) (start_values catalogue) m h e
+    go (Some start) e = serial_value rec (upto view (order journal)) (start_values catalogue) m (started start) h e
 
 -- operations that use nothing that an entry wrote
 
@@ -62,7 +65,7 @@ abbrev unwritten : Commit → ℕ → Type 0
 unwritten e rec = value_at rec (last_changes e) ≡ None
 
 pub agrees_behind : (e : Commit) (m n : Values) → play m e.ops ≡ Some n → AgreeOn (unwritten e) m n
-agrees_behind e m n h rec none = sym (ap (λ (k : Values). slice_get k rec) (play_sets e.ops m n h) ∙ get_all-other rec (last_changes e) m none)
+agrees_behind e m n h rec none = sym (ap (λ (k : Values). slice_get k rec) (play_sets e.ops m n h) ∙ get_all-other rec (last_writes e.ops) m (unchanged_unwritten e rec none))
 
 all_unwritten : (e : Commit) (ops : List Op) → WritesNone e ops → AllByRecursion (λ (operation : Op). unwritten e (record_in operation)) ops
 all_unwritten e ops h = all_of (λ (operation : Op). unwritten e (record_in operation)) ops (λ operation q. unwritten_value e (record_in operation) (h operation q))

@@ -8,25 +8,25 @@ use Rattle.vp_model.specs.Words.{has, keys, same_view}
 use Rattle.vp_model.specs.Catalogue.{Catalogue, RecordEntry, holders, start_values}
 use Rattle.vp_laws.proofs.Lists.Members.{Has, has_none, any_true, any_false, both_true, has_from_test, has_test}
 use Rattle.vp_laws.proofs.Lists.Views.{AtMost, same_is, same_from}
-use Rattle.vp_laws.proofs.Journal.ValuesAfter.{Wrote, value_up_to, value_after, value_more}
+use Rattle.vp_laws.proofs.Journal.ValuesAfter.{Content, started, Wrote, value_up_to, value_after, value_more}
 
 -- an entry of a view above, or one that has not written the record, leaves its value
 pub after_more : (catalogue : Catalogue) (journal : List Commit) (e : Commit) (date : ViewId) (rec : ℕ) → (Wrote e rec → AtMost e.view date → ⊥) → value_after catalogue (journal ++ e ∷ []) date rec ≡ value_after catalogue journal date rec
 after_more catalogue journal e date rec none = go (slice_get (start_values catalogue) rec)
   where
-    go : (o : Option (List ℕ)) → option_map (λ start. value_up_to rec start (journal ++ e ∷ []) date) o ≡ option_map (λ start. value_up_to rec start journal date) o
+    go : (o : Option (Option (List ℕ))) → option_map (λ start. value_up_to rec (started start) (journal ++ e ∷ []) date) o ≡ option_map (λ start. value_up_to rec (started start) journal date) o
     go None = refl
-    go (Some start) = ap (λ (v : List ℕ). Some v) (value_more rec start journal e date none)
+    go (Some start) = ap (λ (v : Content). Some v) (value_more rec (started start) journal e date none)
 
 -- a record that has a holder has a value
-pub after_is : (catalogue : Catalogue) (journal : List Commit) (date : ViewId) (rec q : ℕ) (value : List ℕ) → Has (holders catalogue rec) q → ((start : List ℕ) → value_up_to rec start journal date ≡ value) → value_after catalogue journal date rec ≡ Some value
+pub after_is : (catalogue : Catalogue) (journal : List Commit) (date : ViewId) (rec q : ℕ) (value : Content) → Has (holders catalogue rec) q → ((start : Content) → value_up_to rec start journal date ≡ value) → value_after catalogue journal date rec ≡ Some value
 after_is catalogue journal date rec q value h all = go (slice_get catalogue.records rec) refl
   where
     go : (o : Option RecordEntry) → slice_get catalogue.records rec ≡ o → value_after catalogue journal date rec ≡ Some value
     go None e = absurd (has_none q (rw e at h))
     go (Some entry) e =
-        let is : slice_get (start_values catalogue) rec ≡ Some entry.start = slice_get-map (λ (r : RecordEntry). r.start) catalogue.records rec ∙ ap (option_map (λ (r : RecordEntry). r.start)) e in
-        ap (option_map (λ start. value_up_to rec start journal date)) is ∙ ap (λ (v : List ℕ). Some v) (all entry.start)
+        let is : slice_get (start_values catalogue) rec ≡ Some (Some entry.start) = slice_get-map (λ (r : RecordEntry). Some r.start) catalogue.records rec ∙ ap (option_map (λ (r : RecordEntry). Some r.start)) e in
+        ap (option_map (λ start. value_up_to rec (started start) journal date)) is ∙ ap (λ (v : Content). Some v) (all (started (Some entry.start)))
 
 -- some doubt of the view writes the record, or none does
 pub doubt_or_none : (doubts : List Doubt) (rec : ℕ) (date : ViewId) → ((u : Doubt) × Has doubts u × Has (keys u.writes) rec × (u.view ≡ date)) ⊎ ((u : Doubt) → Has doubts u → Has (keys u.writes) rec → u.view ≡ date → ⊥)
@@ -45,11 +45,11 @@ doubt_or_none doubts rec date = go (list_any (λ (u : Doubt). has (keys u.writes
         not_both_tests true b e f g = cc
         not_both_tests false b e f g = cc
 
-pub after_some : (catalogue : Catalogue) (journal : List Commit) (date : ViewId) (rec q : ℕ) → Has (holders catalogue rec) q → (value : List ℕ) × (value_after catalogue journal date rec ≡ Some value)
+pub after_some : (catalogue : Catalogue) (journal : List Commit) (date : ViewId) (rec q : ℕ) → Has (holders catalogue rec) q → (value : Content) × (value_after catalogue journal date rec ≡ Some value)
 after_some catalogue journal date rec q h = go (slice_get catalogue.records rec) refl
   where
-    go : (o : Option RecordEntry) → slice_get catalogue.records rec ≡ o → (value : List ℕ) × (value_after catalogue journal date rec ≡ Some value)
+    go : (o : Option RecordEntry) → slice_get catalogue.records rec ≡ o → (value : Content) × (value_after catalogue journal date rec ≡ Some value)
     go None e = absurd (has_none q (rw e at h))
     go (Some entry) e =
-        let is : slice_get (start_values catalogue) rec ≡ Some entry.start = slice_get-map (λ (r : RecordEntry). r.start) catalogue.records rec ∙ ap (option_map (λ (r : RecordEntry). r.start)) e in
-        (value_up_to rec entry.start journal date, ap (option_map (λ start. value_up_to rec start journal date)) is)
+        let is : slice_get (start_values catalogue) rec ≡ Some (Some entry.start) = slice_get-map (λ (r : RecordEntry). Some r.start) catalogue.records rec ∙ ap (option_map (λ (r : RecordEntry). Some r.start)) e in
+        (value_up_to rec (started (Some entry.start)) journal date, ap (option_map (λ start. value_up_to rec (started start) journal date)) is)

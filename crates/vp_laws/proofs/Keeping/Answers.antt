@@ -1,25 +1,25 @@
 -- What was asked for a live transaction stays current, and what it has done was answered.
 use Rattle.std.proofs.Common.{◌≡◌, ◌≢◌, ◌∙◌, ap, sym, subst, ℕ, ◌+◌, ◌≤◌, true, List, [], ◌∷◌, ◌++◌, refl, arith, inl, inr, ⊎_elim, length}
 use Rattle.std.specs.Prelude.{Option, Some, not, ◌==◌}
-use Rattle.vp_model.specs.Types.{TxnId, View, Sent, Message, Input, Op, Answer, Pending, Live}
+use Rattle.vp_laws.proofs.Journal.Changed.{read_alters_none, change_there, changed_by, alters, HasChanged}
+use Rattle.vp_model.specs.Types.{Commit, TxnId, View, Sent, Message, Input, Pending, Live}
 use Rattle.vp_model.specs.Types.message
-use Rattle.vp_model.specs.Types.op
-use Rattle.vp_model.specs.Words.{is_empty}
+use Rattle.vp_model.specs.Words.{keys, is_empty}
 use Rattle.vp_model.specs.Catalogue.{Catalogue}
 use Rattle.vp_model.specs.Site.{SiteState, Stepped, Lent}
-use Rattle.vp_model.specs.Transactions.{last_writes}
+use Rattle.vp_model.specs.Transactions.{last_changes, entry_of, deed_answer, Deed}
 use Rattle.vp_model.specs.Refresh.{other_holders_in, other_holders}
 use Rattle.vp_model.specs.Step.{mark}
 use Rattle.vp_laws.proofs.Lists.Members.{Has, has_none, has_one, has_one_is, has_cases, filter_keeps}
 use Rattle.vp_laws.proofs.Lists.Views.{same_site}
 use Rattle.vp_laws.proofs.Moves.LocalViews.{letter}
-use Rattle.vp_laws.proofs.Moves.Table.{Comes, next_name, IsNext, Reads, Writes, Counts, remaining, Completes}
+use Rattle.vp_laws.proofs.Moves.Table.{record_of, Comes, next_name, IsNext, Reads, Changes, Counts, remaining, Completes}
 use Rattle.vp_laws.proofs.Table.Votes.{some_not}
 use Rattle.vp_laws.proofs.Table.Steps.{LiveNow, Only, SentFor, Steps}
 use Rattle.vp_laws.proofs.Moves.OnlyCoordinator.{is_aside}
 use Rattle.vp_laws.proofs.Invariant.Names.{UsedTxn, InvNames}
 use Rattle.vp_laws.proofs.Invariant.Shares.{InvShares}
-use Rattle.vp_laws.proofs.Invariant.Ops.{HasWritten, LiveOk}
+use Rattle.vp_laws.proofs.Invariant.Ops.{LiveOk}
 use Rattle.vp_laws.proofs.Worlds.Scenes.{Scene, plain_at, Acted, scene_of}
 use Rattle.vp_laws.proofs.Worlds.Events.{Arrives, came_in}
 use Rattle.vp_laws.proofs.Worlds.Sites.{NowIs, now_is, Quiet, QuietIs, quiet_is, start_sent, started_idle, live_still}
@@ -28,7 +28,6 @@ use Rattle.vp_laws.proofs.Lists.Changes.{longer, is_none, empty_not}
 use Rattle.vp_laws.proofs.Moves.Calls.{waiting, done, reading, writing, read_not_write, reads_same, writes_same, unmarked, no_commit_reads, no_commit_writes, same_writes}
 use Rattle.vp_laws.proofs.Invariant.Answers.{Current, Asks, HasRead, AnswersOk, InvAnswers, WritesTo, HasWrote, AskSays}
 use Rattle.vp_laws.proofs.Keeping.Endings.{fresh}
-use Rattle.vp_laws.proofs.Lists.Pairs.{last_written, value_key, read_no_write, write_of_one}
 use Rattle.vp_model.specs.World.{start_world}
 
 up_to_next : (a b c : ℕ) → a ≡ b + 1 → c ≡ b + 1 → a ≤ c
@@ -63,9 +62,9 @@ module _ (catalogue : Catalogue) (w new : Scene) (s : ℕ) (x : SiteState) (give
         let same : q.0 ≡ p = (let a = q.1 in cc) in
         inr (record p { missing = remaining from p }, refl, ap (λ (p : Pending). p.number) (sym same) ∙ q.2, stable q.0 (record p { missing = remaining from p }) (ap (λ (p : Pending). p.call) same) q.3))
         (was u h (ap (λ (t : Live). t.txn) e)))
-    current_now number t was n (LiveNow.completed u p operation words l h k e) = subst (Current Asked number) e (⊎_elim
-        (λ old. inl (at_most_next number (length u.answers) (length (u.answers ++ words ∷ [])) old (longer u.answers words)))
-        (λ (q : (p : Pending) × (u.pending ≡ Some p) × (p.number ≡ number) × Asked p). inl (up_to_next number (length u.answers) (length (u.answers ++ words ∷ [])) (sym q.2 ∙ (ops u h).next q.0 q.1) (longer u.answers words)))
+    current_now number t was n (LiveNow.completed u p deed l h k e) = subst (Current Asked number) e (⊎_elim
+        (λ old. inl (at_most_next number (length u.answers) (length (u.answers ++ deed_answer u.txn p.number deed ∷ [])) old (longer u.answers (deed_answer u.txn p.number deed))))
+        (λ (q : (p : Pending) × (u.pending ≡ Some p) × (p.number ≡ number) × Asked p). inl (up_to_next number (length u.answers) (length (u.answers ++ deed_answer u.txn p.number deed ∷ [])) (sym q.2 ∙ (ops u h).next q.0 q.1) (longer u.answers (deed_answer u.txn p.number deed))))
         (was u h (ap (λ (t : Live). t.txn) e)))
     current_now number t was n (LiveNow.reads u p rec q h a e) = subst (Current Asked number) e (⊎_elim (λ old. inl old) (λ (q : (p : Pending) × (u.pending ≡ Some p) × (p.number ≡ number) × Asked p). absurd (some_not u.pending q.0 q.1 a.next.idle)) (was u h (ap (λ (t : Live). t.txn) e)))
     current_now number t was n (LiveNow.writes u p rec value h a e) = subst (Current Asked number) e (⊎_elim (λ old. inl old) (λ (q : (p : Pending) × (u.pending ≡ Some p) × (p.number ≡ number) × Asked p). absurd (some_not u.pending q.0 q.1 a.next.idle)) (was u h (ap (λ (t : Live). t.txn) e)))
@@ -113,7 +112,7 @@ module _ (catalogue : Catalogue) (w new : Scene) (s : ℕ) (x : SiteState) (give
   asks_sent m (SentFor.prepares u p q h a k only e) = subst (λ (m : Sent). Asks catalogue new m.message) e tt
 
   -- the site that answers the pending call has answered for the record
-  wrote_now : (u : Live) (p : Pending) (from rec : ℕ) (value : List ℕ) → Has x.live u → u.pending ≡ Some p → Writes catalogue p rec value → Comes given from (message.WriteAnswer u.txn p.number) → HasWrote new from u.txn rec
+  wrote_now : (u : Live) (p : Pending) (from rec : ℕ) (deed : Deed) → Has x.live u → u.pending ≡ Some p → Changes catalogue p rec deed → Comes given from (message.WriteAnswer u.txn p.number) → HasWrote new from u.txn rec
   wrote_now u p from rec value h e r g =
       let sent = came_in w s given arrives from (message.WriteAnswer u.txn p.number) g in
       let q = shares.says _ sent in
@@ -124,7 +123,7 @@ module _ (catalogue : Catalogue) (w new : Scene) (s : ℕ) (x : SiteState) (give
       let is : q.1 ≡ rec = writes_same catalogue p q.1 rec z.3.0 value (same_writes catalogue p z.0 q.1 z.3.0 (ap (λ (p : Pending). p.call) (sym same)) z.3.1) r in
       subst (HasWrote new from u.txn) is (s, p.number, q.0, stays _ sent, stays _ q.2)) k
 
-  read_now : (u : Live) (p : Pending) (from rec : ℕ) (value : List ℕ) → Has x.live u → u.pending ≡ Some p → Reads catalogue p rec → Comes given from (message.ReadAnswer u.txn p.number value) → HasRead new from u.txn rec
+  read_now : (u : Live) (p : Pending) (from rec : ℕ) (value : Option (List ℕ)) → Has x.live u → u.pending ≡ Some p → Reads catalogue p rec → Comes given from (message.ReadAnswer u.txn p.number value) → HasRead new from u.txn rec
   read_now u p from rec value h e r g =
       let sent = came_in w s given arrives from (message.ReadAnswer u.txn p.number value) g in
       let q = shares.says _ sent in
@@ -158,14 +157,14 @@ module _ (catalogue : Catalogue) (w new : Scene) (s : ℕ) (x : SiteState) (give
   before u h = lasts x.id x.held u (inv.live s x u up h)
 
   -- the answer counts for a pending write, or for a pending read
-  counted_write : (u : Live) (p : Pending) (from rec : ℕ) (value : List ℕ) → Has x.live u → u.pending ≡ Some p → Counts catalogue given u p from → Writes catalogue p rec value → HasWrote new from u.txn rec
+  counted_write : (u : Live) (p : Pending) (from rec : ℕ) (deed : Deed) → Has x.live u → u.pending ≡ Some p → Counts catalogue given u p from → Changes catalogue p rec deed → HasWrote new from u.txn rec
   counted_write u p from rec value h e (Counts.read other v g r) w = read_not_write catalogue p other rec value r w
-  counted_write u p from rec value h e (Counts.written other v g r) w = wrote_now u p from rec value h e w g
+  counted_write u p from rec value h e (Counts.changed other v g r) w = wrote_now u p from rec value h e w g
   counted_write u p from rec value h e (Counts.voted g k) w = no_commit_writes catalogue p rec value k w
 
   counted_read : (u : Live) (p : Pending) (from rec : ℕ) → Has x.live u → u.pending ≡ Some p → Counts catalogue given u p from → Reads catalogue p rec → HasRead new from u.txn rec
   counted_read u p from rec h e (Counts.read other v g r) w = read_now u p from rec v h e w g
-  counted_read u p from rec h e (Counts.written other v g r) w = read_not_write catalogue p rec other v w r
+  counted_read u p from rec h e (Counts.changed other v g r) w = read_not_write catalogue p rec other v w r
   counted_read u p from rec h e (Counts.voted g k) w = no_commit_reads catalogue p rec k w
 
   waits_fine : (u : Live) (p : Pending) (from : ℕ) → Has x.live u → u.pending ≡ Some p → Counts catalogue given u p from → Fine (waiting u p (remaining from p))
@@ -189,9 +188,9 @@ module _ (catalogue : Catalogue) (w new : Scene) (s : ℕ) (x : SiteState) (give
   }
 
   -- an operation is done: what was pending has been answered
-  done_fine : (u : Live) (operation : Op) (words : Answer) → Has x.live u → ((rec : ℕ) (value : List ℕ) → operation ≡ op.Write rec value → (q : ℕ) → Has (other_holders_in catalogue x.id x.held rec) q → HasWrote new q u.txn rec) → ((p : Pending) (r : ℕ × ℕ) → u.pending ≡ Some p → Reads catalogue p r.1 → Has p.missing r.0 → HasRead new r.0 u.txn r.1) → Fine (done u operation words)
-  done_fine u operation words h wrote read = let b = before u h in record {
-    wrote = λ rec k q z. ⊎_elim (λ old. b.wrote rec (k.0, old) q z) (λ more. wrote rec k.0 (has_one_is operation (op.Write rec k.0) more) q z) (has_cases u.ops (operation ∷ []) (op.Write rec k.0) k.1);
+  done_fine : (u : Live) (p : Pending) (deed : Deed) → Has x.live u → ((rec : ℕ) → (alters deed rec ≡ true) × (record_of deed ≡ rec) → (q : ℕ) → Has (other_holders_in catalogue x.id x.held rec) q → HasWrote new q u.txn rec) → ((p : Pending) (r : ℕ × ℕ) → u.pending ≡ Some p → Reads catalogue p r.1 → Has p.missing r.0 → HasRead new r.0 u.txn r.1) → Fine (done u p deed)
+  done_fine u p deed h wrote read = let b = before u h in record {
+    wrote = λ rec k q z. ⊎_elim (λ old. b.wrote rec old q z) (λ more. wrote rec more q z) (changed_by u p deed rec k);
     writing = λ p rec value e r q z. cc;
     remote = λ r z. ⊎_elim (λ g. inl g) (λ (a : (a : Pending) × (u.pending ≡ Some a) × Reads catalogue a r.1 × Has a.missing r.0). inl (read a.0 r a.1 a.2 a.3)) (b.remote r z);
   }
@@ -199,31 +198,28 @@ module _ (catalogue : Catalogue) (w new : Scene) (s : ℕ) (x : SiteState) (give
   idle_reads : (u : Live) (p : Pending) → IsNext given u p → (a : Pending) (r : ℕ × ℕ) → u.pending ≡ Some a → Reads catalogue a r.1 → Has a.missing r.0 → HasRead new r.0 u.txn r.1
   idle_reads u p next a r e k m = absurd (some_not u.pending a e next.idle)
 
-  completed_fine : (u : Live) (p : Pending) (operation : Op) (words : Answer) (l : Lent) → Has x.live u → Completes catalogue x given u p operation words l → Fine (done u operation words)
-  completed_fine u p operation words l h (Completes.own_write rec value next r a v o z e) = done_fine u operation words h (λ n b f. read_no_write operation rec n value b o f) (idle_reads u p next)
-  completed_fine u p operation words l h (Completes.own_copy rec stored next r a v k f o z e) = done_fine u operation words h (λ n b g. read_no_write operation rec n stored.value b o g) (idle_reads u p next)
-  completed_fine u p operation words l h (Completes.write_again rec value v next r a wrote o z e) = done_fine u operation words h
-      (λ n b f q k.
-      let first = value_key rec (last_writes u.ops) value wrote in
-      let was = last_written u.ops first.0 first.1 in
-      (before u h).wrote n (was.0, subst (λ (m : ℕ). Has u.ops (op.Write m was.0)) (first.2 ∙ write_of_one operation rec n v b o f) was.1) q k) (idle_reads u p next)
-  completed_fine u p operation words l h (Completes.write_alone rec value next r a v none o z e) = done_fine u operation words h
-      (λ n b f q k. absurd (empty_not (other_holders_in catalogue x.id x.held n) q (rw (← (write_of_one operation rec n value b o f)) none) k)) (idle_reads u p next)
-  completed_fine u p operation words l h (Completes.read_answered from rec value g last r o z e) = done_fine u operation words h (λ n b f. read_no_write operation rec n value b o f)
+  completed_fine : (u : Live) (p : Pending) (deed : Deed) (l : Lent) → Has x.live u → Completes catalogue x given u p deed l → Fine (done u p deed)
+  completed_fine u p deed l h (Completes.own_write rec value next r a v o e) = done_fine u p deed h (λ n f. read_alters_none deed rec n value o f.0) (idle_reads u p next)
+  completed_fine u p deed l h (Completes.own_copy rec stored next r a v k f o e) = done_fine u p deed h (λ n g. read_alters_none deed rec n stored.value o g.0) (idle_reads u p next)
+  completed_fine u p deed l h (Completes.change_again rec value next r a wrote e) = done_fine u p deed h
+      (λ n f q k. (before u h).wrote n (subst (HasChanged u) (sym r.on ∙ f.1) (change_there (last_changes (entry_of u)) rec value wrote)) q k) (idle_reads u p next)
+  completed_fine u p deed l h (Completes.change_alone rec next r a v none e) = done_fine u p deed h
+      (λ n f q k. absurd (empty_not (other_holders_in catalogue x.id x.held n) q (rw (← (sym r.on ∙ f.1)) none) k)) (idle_reads u p next)
+  completed_fine u p deed l h (Completes.read_answered from rec value g last r o e) = done_fine u p deed h (λ n f. read_alters_none deed rec n value o f.0)
       (λ a k f reads m.
       let same : a ≡ p = (let b = last.pending in cc) in
       let it : k.0 ≡ from = only_from p from k.0 last.last (rw (ap (λ (p : Pending). p.missing) (sym same)) m) in
       rw it (read_now u p from k.1 value h last.pending (same_reads catalogue p a k.1 (ap (λ (p : Pending). p.call) (sym same)) reads) g))
-  completed_fine u p operation words l h (Completes.write_answered from rec value g last r o z e) = done_fine u operation words h
-      (λ n b f q k.
-      let is : rec ≡ n = write_of_one operation rec n value b o f in
+  completed_fine u p deed l h (Completes.change_answered from rec g last r e) = done_fine u p deed h
+      (λ n f q k.
+      let is : rec ≡ n = sym r.on ∙ f.1 in
       subst (HasWrote new q u.txn) is (⊎_elim
-      (λ still. rw (only_from p from q last.last still) (wrote_now u p from rec value h last.pending r g))
-      (λ done. done) ((before u h).writing p rec value last.pending r q (rw is k))))
-      (λ a k f reads m. let same : a ≡ p = (let b = last.pending in cc) in read_not_write catalogue p k.1 rec value (same_reads catalogue p a k.1 (ap (λ (p : Pending). p.call) (sym same)) reads) r)
+      (λ still. rw (only_from p from q last.last still) (wrote_now u p from rec deed h last.pending r g))
+      (λ done. done) ((before u h).writing p rec deed last.pending r q (rw is k))))
+      (λ a k f reads m. let same : a ≡ p = (let b = last.pending in cc) in read_not_write catalogue p k.1 rec deed (same_reads catalogue p a k.1 (ap (λ (p : Pending). p.call) (sym same)) reads) r)
 
-  asked_fine : (u now : Live) → Fine u → now.txn ≡ u.txn → now.ops ≡ u.ops → (rec : ℕ) → HasWritten now rec → (q : ℕ) → Has (other_holders_in catalogue x.id x.held rec) q → HasWrote new q now.txn rec
-  asked_fine u now b name same rec k q z = rw name (b.wrote rec (k.0, rw same at k.1) q z)
+  asked_fine : (u now : Live) → Fine u → now.txn ≡ u.txn → entry_of now ≡ entry_of u → (rec : ℕ) → HasChanged now rec → (q : ℕ) → Has (other_holders_in catalogue x.id x.held rec) q → HasWrote new q now.txn rec
+  asked_fine u now b name same rec k q z = rw name (b.wrote rec (subst (λ (e : Commit). Has (keys (last_changes e)) rec) same k) q z)
 
   old_read : (u : Live) (p : Pending) → Fine u → IsNext given u p → (r : ℕ × ℕ) → Has u.remote r → HasRead new r.0 u.txn r.1
   old_read u p b next r z = ⊎_elim (λ g. g) (λ (a : (a : Pending) × (u.pending ≡ Some a) × Reads catalogue a r.1 × Has a.missing r.0). absurd (some_not u.pending a.0 a.1 next.idle)) (b.remote r z)
@@ -236,7 +232,7 @@ module _ (catalogue : Catalogue) (w new : Scene) (s : ℕ) (x : SiteState) (give
     remote = λ r z. ⊎_elim (λ g. inl g) (λ (a : (a : Pending) × (u.pending ≡ Some a) × Reads catalogue a r.1 × Has a.missing r.0). inr (record a.0 { marked = true }, rw a.1 refl, same_reads catalogue (record a.0 { marked = true }) a.0 r.1 refl a.2, a.3)) (b.remote r z);
   })
   live_fine t (LiveNow.waits u p from h f m l k e) = subst Fine e (waits_fine u p from h f k)
-  live_fine t (LiveNow.completed u p operation words l h k e) = subst Fine e (completed_fine u p operation words l h k)
+  live_fine t (LiveNow.completed u p deed l h k e) = subst Fine e (completed_fine u p deed l h k)
   live_fine t (LiveNow.reads u p rec q h a e) = subst Fine e (let b = before u h in record {
     wrote = asked_fine u (reading u p rec q) b refl refl;
     writing = λ n other value f r c z. let is : record p { missing = q ∷ [] } ≡ n = cc in read_not_write catalogue p rec other value a.reads (same_writes catalogue p n other value (ap (λ (p : Pending). p.call) is) r);
@@ -257,7 +253,7 @@ module _ (catalogue : Catalogue) (w new : Scene) (s : ℕ) (x : SiteState) (give
     writing = λ n rec value f r q z. let is : record p { missing = u.parts } ≡ n = cc in no_commit_writes catalogue p rec value a.commit (same_writes catalogue p n rec value (ap (λ (p : Pending). p.call) is) r);
     remote = λ r z. inl (old_read u p b a.next r z);
   })
-  live_fine t (LiveNow.begins view h e) = subst Fine e (record { wrote = λ rec k q z. absurd (has_none _ k.1); writing = λ p rec value f r q z. cc; remote = λ r z. absurd (has_none r z) })
+  live_fine t (LiveNow.begins view h e) = subst Fine e (record { wrote = λ rec k q z. absurd (has_none _ k); writing = λ p rec value f r q z. cc; remote = λ r z. absurd (has_none r z) })
 
   pub answers_keep : ((t : Live) → Has o.site.live t → x.held ≡ o.site.held) → o.site.id ≡ x.id → InvAnswers catalogue new
   answers_keep held same_id = record {

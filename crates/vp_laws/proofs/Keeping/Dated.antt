@@ -1,7 +1,7 @@
 -- Each date is still that of an entry, and each kept answer to a refresh was sent.
 use Rattle.std.proofs.Common.{◌≡◌, ◌∙◌, ap, sym, subst, ℕ, true, List, refl, inl, inr, ⊎_elim}
 use Rattle.std.specs.Prelude.{Option, Some, not, ◌==◌, ◌&&◌}
-use Rattle.vp_model.specs.Types.{ViewId, View, Sent, Commit, Input, Stored, Refreshing}
+use Rattle.vp_model.specs.Types.{Change, ViewId, View, Sent, Commit, Input, Stored, Refreshing}
 use Rattle.vp_model.specs.Types.message
 use Rattle.vp_model.specs.Words.{has, keys}
 use Rattle.vp_model.specs.Catalogue.{Catalogue, holders, start_copies}
@@ -42,17 +42,17 @@ module _ (catalogue : Catalogue) (w new : Scene) (s : ℕ) (x : SiteState) (give
   answer_dated rec k (AnswerNow.came from view r stored comes is held h e u) = subst (λ (k : ℕ × Stored). IsDated w rec k.1.date) is (inv.sent from s rec view stored (came_in w s given arrives from _ comes))
 
   -- the records that an entry wrote, among those that a site holds
-  wrote_held : (e : Commit) (k : ℕ) (a : ℕ × List ℕ) → Has (writes_held catalogue k (last_changes e)) a → Wrote e a.0
-  wrote_held e k a h = mapped_has (λ (p : ℕ × List ℕ). p.0) (last_changes e) a (filter_has (λ (w : ℕ × List ℕ). has (holders catalogue w.0) k) (last_changes e) a h).0
+  wrote_held : (e : Commit) (k : ℕ) (a : ℕ × Change) → Has (writes_held catalogue k (last_changes e)) a → Wrote e a.0
+  wrote_held e k a h = mapped_has (λ (p : ℕ × Change). p.0) (last_changes e) a (filter_has (λ (w : ℕ × Change). has (holders catalogue w.0) k) (last_changes e) a h).0
 
   copy_now : (a : ℕ × Stored) → CopyNow catalogue x given o.effects.commits a → IsDated new a.0 a.1.date
   copy_now a (CopyNow.still h) = dated_on a.0 a.1.date (copy_was a h)
-  copy_now a (CopyNow.outcome from d b comes h there is) =
+  copy_now a (CopyNow.outcome from d b comes h there old was is) =
       let e = (ends.told (letter from s (message.Outcome d.txn true)) (came_in w s given arrives from _ comes)).1 in
       let q = shares.doubts s d (subst (λ (k : DurableState). Has k.doubts d) was_kept h) in
       let says = shares.entry e.0 e.1 q.0.0 s d.view q.0.1 q.0.2 d.writes (rw e.2 q.0.3) in
       subst (λ (a : ℕ × Stored). IsDated new a.0 a.1.date) is (inr (e.0, st.moved.journal e.0 e.1, wrote_held e.0 s b (rw says.1 there), says.0))
-  copy_now a (CopyNow.entered e b h there is) = subst (λ (a : ℕ × Stored). IsDated new a.0 a.1.date) is (inr (e, st.enters e h, wrote_held e x.id b there, refl))
+  copy_now a (CopyNow.entered e b h there old was is) = subst (λ (a : ℕ × Stored). IsDated new a.0 a.1.date) is (inr (e, st.enters e h, wrote_held e x.id b there, refl))
   copy_now a (CopyNow.refreshed k now is) = dated_on a.0 a.1.date (subst (λ (c : Stored). IsDated w a.0 c.date) is (answer_dated a.0 k now))
 
   reply_dated : (m : Sent) → ReplyTo x given o.site.participant m → (view : ViewId) (rec : ℕ) (stored : Stored) → m.message ≡ message.RefreshAnswer view rec stored → IsDated w rec stored.date

@@ -24,6 +24,7 @@ use Rattle.vp_laws.proofs.Table.Waits.{Waits, waits-step}
 use Rattle.vp_laws.proofs.Table.Leaves.{Leaves, leaves-step}
 use Rattle.vp_laws.proofs.Table.Locks.{Guards, guards-step}
 use Rattle.vp_laws.proofs.Table.Copies.{Copies, copies-step}
+use Rattle.vp_laws.proofs.Keeping.Once.{once_each}
 use Rattle.vp_laws.proofs.Table.Unlisted.{IsUnlisted, Unlisting, unlisting-step}
 use Rattle.vp_laws.proofs.Table.Covered.{Quits, quits}
 use Rattle.vp_laws.proofs.Worlds.Scenes.{Scene, plain_at, Acted, acted, stepping}
@@ -103,6 +104,7 @@ does catalogue w s x given up r k =
     (awaited catalogue w s x given up r k.views led k.led below k.ends k.shares k.entered)
     (invited catalogue w s x given up r k.views led k.led below k.ends k.shares k.entered) in
     let st = stepping catalogue w s x given up ok.kept (local-step catalogue x given ok.tidy) in
+    let once = once_each catalogue w s x given ok.kept k.ends k.shares (came_in w s given r) in
     record {
       up = up;
       arrives = r;
@@ -124,9 +126,9 @@ does catalogue w s x given up r k =
       waits = (waits-step catalogue x given settled.decisions).kept;
       leaves = leaves-step catalogue x given;
       guards = locks_now;
-      copies = copies-step catalogue x given ok.tidy (λ r h. let q = locks.lower r h in (q.0, q.1));
-      unlisting = unlisting-step catalogue x given ok.tidy (λ r h. let q = locks.lower r h in (q.0, q.1));
-      quits = quits catalogue x given (λ e. (led.idle e).1) ok.tidy (unlisting-step catalogue x given ok.tidy (λ r h. let q = locks.lower r h in (q.0, q.1)));
+      copies = copies-step catalogue x given ok.tidy (λ r h. let q = locks.lower r h in (q.0, q.1)) once;
+      unlisting = unlisting-step catalogue x given ok.tidy (λ r h. let q = locks.lower r h in (q.0, q.1)) once;
+      quits = quits catalogue x given (λ e. (led.idle e).1) ok.tidy (unlisting-step catalogue x given ok.tidy (λ r h. let q = locks.lower r h in (q.0, q.1)) once);
       was = was catalogue w (acted w s x o) s x given up r ok.id (ap (λ (d : DurableState). d.promise) ok.kept) k.views k.led (owned catalogue w k.views k.led) k.names k.ends k.shares k.answers k.used (steps-step catalogue x given led apart).kept (shares-step catalogue x given) (leaves-step catalogue x given) locks_now st;
       split = split catalogue w (acted w s x o) s x given up r ok.id (ap (λ (d : DurableState). d.promise) ok.kept) k.views k.led (owned catalogue w k.views k.led) k.names k.ends k.shares k.answers k.used (steps-step catalogue x given led apart).kept (shares-step catalogue x given) (leaves-step catalogue x given) locks_now st;
       st = st;

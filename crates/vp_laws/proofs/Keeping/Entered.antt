@@ -2,6 +2,8 @@
 use Rattle.std.proofs.Common.{◌≡◌, ◌≢◌, ◌∙◌, ap, sym, subst, ℕ, Bool, true, false, refl, arith, ⊎_elim}
 use Rattle.std.specs.Prelude.{Option, Some, None, option_map, ◌&&◌, ◌==◌, not}
 use Rattle.std.proofs.lemmas.Bool.Decides.{nat_tests}
+use Rattle.vp_laws.proofs.Journal.ValuesAfter.{Wrote}
+use Rattle.vp_model.specs.Transactions.{entry_of}
 use Rattle.vp_model.specs.Types.{ViewId, TxnId, View, Commit, Input, Live, Doubt}
 use Rattle.vp_model.specs.Types.message
 use Rattle.vp_model.specs.Words.{has, is_view}
@@ -27,7 +29,6 @@ use Rattle.vp_laws.proofs.Worlds.Sites.{NowIs, now_is, QuietIs, quiet_is, starte
 use Rattle.vp_laws.proofs.Lists.Numbers.{not_same}
 use Rattle.vp_laws.proofs.Lists.Changes.{is_none}
 use Rattle.vp_laws.proofs.Invariant.Entered.{InvEntered, Affected, AgreedAs}
-use Rattle.vp_laws.proofs.Lists.Pairs.{written_op}
 use Rattle.vp_model.specs.World.{start_world}
 
 -- a holder that is another member of the held view
@@ -76,12 +77,12 @@ module _ (catalogue : Catalogue) (w new : Scene) (s : ℕ) (x : SiteState) (give
   voted_new e k f a n =
       let u = f.handled.was in
       let named : f.was.txn ≡ e.txn = ap (λ (e : Commit). e.txn) f.is in
-      let done : u.ops ≡ e.ops = sym (ap (λ (t : Live). t.ops) f.handled.same) ∙ ap (λ (e : Commit). e.ops) f.is in
-      let wrote = written_op e.ops a.rec a.wrote in
+      let done : entry_of u ≡ e = sym (ap entry_of f.handled.same) ∙ f.is in
+      let wrote = subst (λ (e : Commit). Wrote e a.rec) (sym done) a.wrote in
       let held = held_is e f a.view a.agreed in
       let site : x.id ≡ e.txn.site = sym (led.names u f.handled.live).0 ∙ ap (λ (t : TxnId). t.site) (sym (ap (λ (t : Live). t.txn) f.handled.same) ∙ named) in
       let other : Has (other_holders_in catalogue x.id (Some a.view) a.rec) k = other_holder catalogue x.id a.rec k a.view a.holder a.member (λ g. n (g ∙ site)) in
-      let part : Has u.parts k = (ops u f.handled.live).written a.rec (wrote.0, rw done wrote.1) k (subst (λ (held : Option View). Has (other_holders_in catalogue x.id held a.rec) k) (sym held) other) in
+      let part : Has u.parts k = (ops u f.handled.live).written a.rec wrote k (subst (λ (held : Option View). Has (other_holders_in catalogue x.id held a.rec) k) (sym held) other) in
       subst (HasVote new k) named (part_voted f.was f.decides k (rw (ap (λ (t : Live). t.parts) f.handled.same) part))
 
   affected_was : (e : Commit) (k : ℕ) → Has w.journal e → Affected catalogue new e k → Affected catalogue w e k

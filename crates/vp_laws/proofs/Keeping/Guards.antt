@@ -2,7 +2,7 @@
 use Rattle.std.proofs.Common.{◌≡◌, ◌≢◌, ◌∙◌, ap, sym, subst, ℕ, Bool, true, false, List, refl, arith, inr}
 use Rattle.std.specs.Prelude.{Some}
 use Rattle.std.proofs.lemmas.Bool.Decides.{nat_tests}
-use Rattle.vp_model.specs.Types.{ViewId, TxnId, Input, Lock, Doubt}
+use Rattle.vp_model.specs.Types.{Change, ViewId, TxnId, Input, Lock, Doubt}
 use Rattle.vp_model.specs.Types.message
 use Rattle.vp_model.specs.Types.owner
 use Rattle.vp_model.specs.Words.{same_view, keys, opening}
@@ -43,8 +43,8 @@ txn_same t u e = cc
 
 doubt_lock : (d : Doubt) (l : Lock) → Has (locks_in_doubt d) l → Has (keys d.writes) l.rec × (l.owner ≡ owner.Txn d.txn) × (l.exclusive ≡ true)
 doubt_lock d l h =
-    let r = map_has (λ (w : ℕ × List ℕ). record { rec = w.0; exclusive = true; owner = owner.Txn d.txn }) d.writes l h in
-    (subst (Has (keys d.writes)) (ap (λ (l : Lock). l.rec) r.2) (mapped_has (λ (w : ℕ × List ℕ). w.0) d.writes r.0 r.1), sym (ap (λ (l : Lock). l.owner) r.2), sym (ap (λ (l : Lock). l.exclusive) r.2))
+    let r = map_has (λ (w : ℕ × Change). record { rec = w.0; exclusive = true; owner = owner.Txn d.txn }) d.writes l h in
+    (subst (Has (keys d.writes)) (ap (λ (l : Lock). l.rec) r.2) (mapped_has (λ (w : ℕ × Change). w.0) d.writes r.0 r.1), sym (ap (λ (l : Lock). l.owner) r.2), sym (ap (λ (l : Lock). l.exclusive) r.2))
 
 -- the locks of a site that starts are those of its doubts
 start_locks : (catalogue : Catalogue) (s : ℕ) (k : DurableState) → ((c d : Doubt) (rec : ℕ) → Has k.doubts c → Has k.doubts d → Has (keys c.writes) rec → Has (keys d.writes) rec → c.txn ≡ d.txn) → LocksAt catalogue (start catalogue s k)
@@ -60,10 +60,10 @@ start_locks catalogue s k writes = record {
       let p = flat_has locks_in_doubt k.doubts l h in
       let c = doubt_lock p.0 l p.2 in inr (inr (p.0, p.1, txn_same p.0.txn txn (sym c.1 ∙ e)));
   doubted = λ d rec h z.
-      let r = map_has (λ (w : ℕ × List ℕ). w.0) d.writes rec z in
+      let r = map_has (λ (w : ℕ × Change). w.0) d.writes rec z in
       record {
         lock = record { rec = r.0.0; exclusive = true; owner = owner.Txn d.txn };
-        has = has_flat locks_in_doubt k.doubts d _ h (mapped_has (λ (w : ℕ × List ℕ). record { rec = w.0; exclusive = true; owner = owner.Txn d.txn }) d.writes r.0 r.1);
+        has = has_flat locks_in_doubt k.doubts d _ h (mapped_has (λ (w : ℕ × Change). record { rec = w.0; exclusive = true; owner = owner.Txn d.txn }) d.writes r.0 r.1);
         on = r.2;
         by = refl;
         strong = λ e. refl;

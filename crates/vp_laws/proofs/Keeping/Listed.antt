@@ -6,7 +6,7 @@ use Rattle.vp_model.specs.Types.message
 use Rattle.vp_model.specs.Words.{is_empty, has, has_txn, keys}
 use Rattle.vp_model.specs.Catalogue.{Catalogue, holders, start_copies}
 use Rattle.vp_model.specs.Durable.{DurableState, empty_durable}
-use Rattle.vp_model.specs.Transactions.{last_changes, writes_held}
+use Rattle.vp_model.specs.Transactions.{entry_of, last_changes, writes_held}
 use Rattle.vp_model.specs.Site.{SiteState, Stepped}
 use Rattle.vp_laws.proofs.Lists.Members.{Has, map_has, filter_keeps, has_test}
 use Rattle.vp_laws.proofs.Lists.Changes.{mapped_has, some_not_empty}
@@ -28,16 +28,15 @@ use Rattle.vp_laws.proofs.Invariant.HasLeft.{HasLeft}
 use Rattle.vp_laws.proofs.Invariant.Held.{InvHeld, copy_held}
 use Rattle.vp_laws.proofs.Worlds.Sites.{NowIs, now_is, quiet_is, started, start_entered, no_refresh, Quiet, refresh_still}
 use Rattle.vp_laws.proofs.Invariant.Listed.{InvListed}
-use Rattle.vp_laws.proofs.Lists.Pairs.{written_op}
 use Rattle.vp_model.specs.World.{start_world}
 use Rattle.vp_laws.proofs.Journal.ValuesAfter.{Wrote}
 
 -- what an entry wrote, among what a holder of it holds
 pub wrote_here : (catalogue : Catalogue) (e : Commit) (q rec : ℕ) → Has (holders catalogue rec) q → Wrote e rec → Has (keys (writes_held catalogue q (last_changes e))) rec
 wrote_here catalogue e q rec holder wrote =
-    let r = map_has (λ (p : ℕ × List ℕ). p.0) (last_changes e) rec wrote in
-    let k = filter_keeps (λ (w : ℕ × List ℕ). has (holders catalogue w.0) q) (last_changes e) r.0 r.1 (has_test (holders catalogue r.0.0) q (subst (λ (n : ℕ). Has (holders catalogue n) q) (sym r.2) holder)) in
-    subst (Has (keys (writes_held catalogue q (last_changes e)))) r.2 (mapped_has (λ (p : ℕ × List ℕ). p.0) _ r.0 k)
+    let r = map_has (λ (p : ℕ × Change). p.0) (last_changes e) rec wrote in
+    let k = filter_keeps (λ (w : ℕ × Change). has (holders catalogue w.0) q) (last_changes e) r.0 r.1 (has_test (holders catalogue r.0.0) q (subst (λ (n : ℕ). Has (holders catalogue n) q) (sym r.2) holder)) in
+    subst (Has (keys (writes_held catalogue q (last_changes e)))) r.2 (mapped_has (λ (p : ℕ × Change). p.0) _ r.0 k)
 
 pub not_below_itself : (a b : ViewId) → Precedes a b → a ≡ b → ⊥
 not_below_itself a b p e = grind arith
@@ -52,7 +51,7 @@ module _ (catalogue : Catalogue) (w new : Scene) (s : ℕ) (x : SiteState) (give
     live : Has x.live was
     named : was.txn ≡ e.txn
     viewed : was.view ≡ e.view
-    done : was.ops ≡ e.ops
+    done : entry_of was ≡ e
     site : e.txn.site ≡ s
 
   entering : (e : Commit) → Has o.effects.commits e → Entering e
@@ -64,7 +63,7 @@ module _ (catalogue : Catalogue) (w new : Scene) (s : ℕ) (x : SiteState) (give
         live = f.handled.live;
         named = named;
         viewed = sym (ap (λ (t : Live). t.view) f.handled.same) ∙ ap (λ (e : Commit). e.view) f.is;
-        done = sym (ap (λ (t : Live). t.ops) f.handled.same) ∙ ap (λ (e : Commit). e.ops) f.is;
+        done = sym (ap entry_of f.handled.same) ∙ f.is;
         site = ap (λ (t : TxnId). t.site) (sym named) ∙ (led.names f.handled.was f.handled.live).0 ∙ here.id;
       }
 
@@ -80,8 +79,7 @@ module _ (catalogue : Catalogue) (w new : Scene) (s : ℕ) (x : SiteState) (give
   entered_here e r h listed wrote =
       let f = entering e h in
       let locks = guards.site s x up in
-      let op = written_op e.ops r.rec wrote in
-      let lock = (locks.own f.was f.live).wrote r.rec op.0 (rw f.done op.1) (inv.listed s x r up listed).0 in
+      let lock = (locks.own f.was f.live).wrote r.rec (subst (λ (e : Commit). Wrote e r.rec) (sym f.done) wrote) (inv.listed s x r up listed).0 in
       let low = locks.lower r listed in
       let d = low.3 lock.lock f.was.txn lock.has lock.on lock.by in
       let says = doubt_says e h s d.0 (subst (λ (k : DurableState). Has k.doubts d.0) here.kept d.1) (d.2 ∙ f.named) in
@@ -113,12 +111,12 @@ module _ (catalogue : Catalogue) (w new : Scene) (s : ℕ) (x : SiteState) (give
     where
       in_doubt : (e : Commit) (k : ℕ) (f : Entering e) → k ≢ s → Has (keys (writes_held catalogue k (last_changes e))) r.rec → (to : ℕ) → Has new.sent (letter k to (message.Vote e.txn)) → InDoubt w k e.txn
       in_doubt e k f other writes to sent = ⊎_elim
-          (λ old. shares.says (letter k to (message.Vote e.txn)) old x f.was (rw f.site up) f.live f.named (rw f.done some))
+          (λ old. shares.says (letter k to (message.Vote e.txn)) old x f.was (rw f.site up) f.live f.named (subst (λ (e : Commit). is_empty (writes_held catalogue k (last_changes e)) ≡ false) (sym f.done) some))
           (λ more. absurd (other (p.from (letter k to (message.Vote e.txn)) more ∙ here.id)))
           (st.sent (letter k to (message.Vote e.txn)) sent)
         where
           some : is_empty (writes_held catalogue k (last_changes e)) ≡ false
-          some = let r = map_has (λ (p : ℕ × List ℕ). p.0) _ _ writes in some_not_empty _ r.0 r.1
+          some = let r = map_has (λ (p : ℕ × Change). p.0) _ _ writes in some_not_empty _ r.0 r.1
 
   -- an old entry of a view that is joined now
   joined_awaited : (e : Commit) (v : View) (rec : ℕ) → Has w.journal e → Affected catalogue w e s → Wrote e rec → x.waiting ≡ Some v.id → e.view ≡ v.id → ⊥

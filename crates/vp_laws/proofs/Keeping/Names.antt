@@ -2,7 +2,7 @@
 use Rattle.std.proofs.Common.{◌≡◌, ◌≢◌, ◌⊎◌, ◌∙◌, ap, sym, subst, ℕ, ◌≤◌, ◌<◌, true, List, ◌∷◌, [], arith, inl, inr, ⊎_elim}
 use Rattle.std.specs.Prelude.{Some, flat_map, ◌==◌, ◌&&◌}
 use Rattle.std.proofs.lemmas.Option.{cond_some}
-use Rattle.vp_model.specs.Types.{ViewId, TxnId, View, Owner, Message, Input, Lock, Live, Doubt}
+use Rattle.vp_model.specs.Types.{Change, ViewId, TxnId, View, Owner, Message, Input, Lock, Live, Doubt}
 use Rattle.vp_model.specs.Types.owner
 use Rattle.vp_model.specs.Words.{opening, same_view}
 use Rattle.vp_model.specs.Catalogue.{Catalogue, start_copies}
@@ -131,7 +131,7 @@ names_acts catalogue w s x given up a known asked inv =
 locks_of : (doubts : List Doubt) (l : Lock) → Has (flat_map locks_in_doubt doubts) l → (d : Doubt) × Has doubts d × (l.owner ≡ owner.Txn d.txn)
 locks_of [] l h = absurd (has_none l h)
 locks_of (d ∷ doubts) l h =
-    ⊎_elim (λ here. let r = map_has (λ (w : ℕ × List ℕ). record { rec = w.0; exclusive = true; owner = owner.Txn d.txn }) d.writes l here in (d, has_first d doubts, ap (λ (l : Lock). l.owner) (sym r.2)))
+    ⊎_elim (λ here. let r = map_has (λ (w : ℕ × Change). record { rec = w.0; exclusive = true; owner = owner.Txn d.txn }) d.writes l here in (d, has_first d doubts, ap (λ (l : Lock). l.owner) (sym r.2)))
     (λ later. let q = locks_of doubts l later in (q.0, has_more d doubts q.0 q.1, q.2))
     (has_cases (locks_in_doubt d) (flat_map locks_in_doubt doubts) l h)
 

@@ -7,7 +7,7 @@ use Rattle.vp_model.specs.Types.message
 use Rattle.vp_model.specs.Words.{is_empty, same_txn, keys}
 use Rattle.vp_model.specs.Catalogue.{Catalogue, holders, accessible}
 use Rattle.vp_model.specs.Durable.{DurableState}
-use Rattle.vp_model.specs.Transactions.{last_changes, writes_held}
+use Rattle.vp_model.specs.Transactions.{entry_of, last_changes, writes_held}
 use Rattle.vp_model.specs.Site.{SiteState, Stepped}
 use Rattle.vp_model.specs.Step.{durable_of}
 use Rattle.vp_model.proofs.SameTxn.{same_txn-not}
@@ -24,7 +24,6 @@ use Rattle.vp_laws.proofs.Invariant.Held.{holds_copy}
 use Rattle.vp_laws.proofs.Keeping.Stopping.{closed_stops}
 use Rattle.vp_laws.proofs.Worlds.Sites.{KeptIs, kept_is}
 use Rattle.vp_model.specs.Refresh.{is_usable_in}
-use Rattle.vp_laws.proofs.Invariant.Ops.{written_used}
 use Rattle.vp_laws.proofs.Keeping.Does.{Does}
 use Rattle.vp_laws.proofs.Invariant.Refresh.{InvRefresh}
 use Rattle.vp_laws.proofs.Keeping.Guards.{txn_same}
@@ -32,7 +31,6 @@ use Rattle.vp_laws.proofs.Keeping.Listed.{wrote_here, not_below_itself}
 use Rattle.vp_laws.proofs.Keeping.Settled.{doubt_was}
 use Rattle.vp_laws.proofs.Invariant.Known.{Known}
 use Rattle.vp_laws.proofs.Lists.Changes.{some_not_empty}
-use Rattle.vp_laws.proofs.Lists.Pairs.{written_op}
 use Rattle.vp_laws.proofs.Invariant.Closed.{Open}
 use Rattle.vp_laws.proofs.Journal.ValuesAfter.{Wrote}
 
@@ -85,7 +83,7 @@ module _ (catalogue : Catalogue) (w new : Scene) (s : ℕ) (x : SiteState) (give
     pub live : Has x.live was
     pub named : was.txn ≡ e.txn
     pub viewed : was.view ≡ e.view
-    pub done : was.ops ≡ e.ops
+    pub done : entry_of was ≡ e
     pub site : e.txn.site ≡ s
     -- the view that is held
     pub view : View
@@ -104,7 +102,7 @@ module _ (catalogue : Catalogue) (w new : Scene) (s : ℕ) (x : SiteState) (give
         live = f.handled.live;
         named = named;
         viewed = viewed;
-        done = sym (ap (λ (t : Live). t.ops) f.handled.same) ∙ ap (λ (e : Commit). e.ops) f.is;
+        done = sym (ap entry_of f.handled.same) ∙ f.is;
         site = ap (λ (t : TxnId). t.site) (sym named) ∙ (d.led.names u f.handled.live).0 ∙ d.here.id;
         view = of.0;
         held = of.1;
@@ -151,15 +149,14 @@ module _ (catalogue : Catalogue) (w new : Scene) (s : ℕ) (x : SiteState) (give
       }
     where
       some : Has (keys (writes_held catalogue j (last_changes e))) rec → is_empty (writes_held catalogue j (last_changes e)) ≡ false
-      some writes = let r = map_has (λ (p : ℕ × List ℕ). p.0) _ _ writes in some_not_empty _ r.0 r.1
+      some writes = let r = map_has (λ (p : ℕ × Change). p.0) _ _ writes in some_not_empty _ r.0 r.1
 
   -- here nothing is in doubt on what it wrote
   pub certain_was : (e : Commit) (rec : ℕ) → Has o.effects.commits e → Wrote e rec → Has (holders catalogue rec) s → (u : Doubt) → Has x.doubts u → Has (keys u.writes) rec → ⊥
   certain_was e rec h wrote holder u there on =
       let f = entering e h in
       let locks = k.guards.site s x d.up in
-      let op = written_op e.ops rec wrote in
-      let own = (locks.own f.was f.live).wrote rec op.0 (rw f.done op.1) (holds_copy catalogue w s x d.up d.here.kept k.held rec holder) in
+      let own = (locks.own f.was f.live).wrote rec (subst (λ (e : Commit). Wrote e rec) (sym f.done) wrote) (holds_copy catalogue w s x d.up d.here.kept k.held rec holder) in
       let its = locks.doubted u rec there on in
       let same : u.txn ≡ f.was.txn = txn_same u.txn f.was.txn (sym its.by ∙ locks.apart its.lock own.lock u.txn f.was.txn its.has own.has (its.on ∙ sym own.on) (its.strong refl) its.by own.by ∙ own.by) in
       (d.below.doubts u there).1 (ap (λ (t : TxnId). t.site) same ∙ (d.led.names f.was f.live).0)
@@ -176,8 +173,7 @@ module _ (catalogue : Catalogue) (w new : Scene) (s : ℕ) (x : SiteState) (give
   not_listed e r h listed wrote =
       let f = entering e h in
       let locks = k.guards.site s x d.up in
-      let op = written_op e.ops r.rec wrote in
-      let lock = (locks.own f.was f.live).wrote r.rec op.0 (rw f.done op.1) (k.listed.listed s x r d.up listed).0 in
+      let lock = (locks.own f.was f.live).wrote r.rec (subst (λ (e : Commit). Wrote e r.rec) (sym f.done) wrote) (k.listed.listed s x r d.up listed).0 in
       let low = locks.lower r listed in
       let u = low.3 lock.lock f.was.txn lock.has lock.on lock.by in
       let says = doubt_says e (d.st.enters e h) s u.0 (subst (λ (k : DurableState). Has k.doubts u.0) d.here.kept u.1) (u.2 ∙ f.named) in
@@ -194,16 +190,15 @@ module _ (catalogue : Catalogue) (w new : Scene) (s : ℕ) (x : SiteState) (give
   -- what it wrote is accessible in its view
   entering_wrote : (refresh : InvRefresh catalogue w) (e : Commit) (f : Entering e) (v : View) (rec : ℕ) → AgreedAs new e.view v → Wrote e rec → accessible catalogue rec v.members ≡ true
   entering_wrote refresh e f v rec agreed wrote =
-      let did = written_op e.ops rec wrote in
       let there = entering_agreed e f in
       let same : f.view ≡ v = n.views.unique f.view v (d.st.moved.agreed f.view there.0) agreed.0 (f.is ∙ sym agreed.1) in
       subst (λ (v : View). accessible catalogue rec v.members ≡ true) same
-      (subst (λ (held : Option View). is_usable_in catalogue held rec ≡ true) f.held ((refresh.live s x f.was d.up f.live).usable rec (written_used f.was.ops rec (did.0, rw f.done did.1))))
+      (subst (λ (held : Option View). is_usable_in catalogue held rec ≡ true) f.held ((refresh.live s x f.was d.up f.live).changed rec (subst (λ (e : Commit). Wrote e rec) (sym f.done) wrote)))
 
   -- and so is what an entry wrote that is there now
   pub wrote_in_force : (refresh : InvRefresh catalogue w) (e : Commit) (v : View) (rec : ℕ) → Has new.journal e → AgreedAs new e.view v → Wrote e rec → accessible catalogue rec v.members ≡ true
   wrote_in_force refresh e v rec there agreed wrote = ⊎_elim
-      (λ old. (refresh.entry e v rec old (agreed_was e v old agreed) (written_used e.ops rec (written_op e.ops rec wrote))).usable)
+      (λ old. (refresh.entry e v rec old (agreed_was e v old agreed) (inr wrote)).usable)
       (λ more. entering_wrote refresh e (entering e more) v rec agreed wrote)
       (d.st.entered e there)
 

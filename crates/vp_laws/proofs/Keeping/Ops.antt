@@ -1,19 +1,19 @@
 -- What live transactions have done and ask still fits their calls.
 use Rattle.std.proofs.Common.{◌≡◌, ◌∙◌, ap, sym, subst, ℕ, ◌+◌, true, List, [], ◌∷◌, refl, ⊎_elim, length}
 use Rattle.std.specs.Prelude.{Option, Some, ◌==◌, nat_lt, not, nat_eq}
-use Rattle.vp_model.specs.Types.{ViewId, TxnId, View, Input, Op, Answer, Pending, Live}
-use Rattle.vp_model.specs.Types.op
-use Rattle.vp_model.specs.Words.{for_each, put_number}
+use Rattle.vp_laws.proofs.Journal.Changed.{read_alters_none, change_there, changed_by, alters, HasChanged}
+use Rattle.vp_model.specs.Types.{Commit, ViewId, TxnId, View, Input, Pending, Live}
+use Rattle.vp_model.specs.Words.{keys, for_each, put_number}
 use Rattle.vp_model.specs.Catalogue.{Catalogue}
 use Rattle.vp_model.specs.Site.{SiteState, Stepped, Lent}
-use Rattle.vp_model.specs.Transactions.{last_writes}
+use Rattle.vp_model.specs.Transactions.{entry_of, last_changes, Deed}
 use Rattle.vp_model.specs.Refresh.{other_holders_in, other_holders}
 use Rattle.vp_model.specs.Calls.{begun}
 use Rattle.vp_model.specs.Step.{mark}
 use Rattle.vp_laws.proofs.Lists.Members.{Has, has_none, has_one_is, has_cons, has_cases, filter_has}
-use Rattle.vp_laws.proofs.Lists.Changes.{put_new, empty_not, longer}
+use Rattle.vp_laws.proofs.Lists.Changes.{put_new, empty_not}
 use Rattle.vp_laws.proofs.Lists.Views.{put_keeps}
-use Rattle.vp_laws.proofs.Moves.Table.{Writes, remaining, Completes}
+use Rattle.vp_laws.proofs.Moves.Table.{record_of, Changes, remaining, Completes}
 use Rattle.vp_laws.proofs.Table.Steps.{AskingRead, AskingWrite, LiveNow, Steps}
 use Rattle.vp_laws.proofs.Table.Led.{Led}
 use Rattle.vp_laws.proofs.Moves.OnlyCoordinator.{OnCoordinator}
@@ -21,9 +21,8 @@ use Rattle.vp_laws.proofs.Invariant.Views.{InvViews}
 use Rattle.vp_laws.proofs.Invariant.Led.{InvLed}
 use Rattle.vp_laws.proofs.Worlds.Scenes.{Scene, plain_at, Acted, scene_of}
 use Rattle.vp_laws.proofs.Worlds.Sites.{NowIs, now_is, quiet_is, started_idle, Quiet, live_still}
-use Rattle.vp_laws.proofs.Moves.Calls.{waiting, done, reading, writing, read_not_write, writes_same, no_commit_writes, unmarked}
-use Rattle.vp_laws.proofs.Invariant.Ops.{HasWritten, LiveOk, InvOps}
-use Rattle.vp_laws.proofs.Lists.Pairs.{last_written, value_key, read_no_write, write_of_one}
+use Rattle.vp_laws.proofs.Moves.Calls.{same_writes, waiting, done, reading, writing, read_not_write, writes_same, no_commit_writes, unmarked}
+use Rattle.vp_laws.proofs.Invariant.Ops.{LiveOk, InvOps}
 use Rattle.vp_model.specs.World.{start_world}
 
 -- parts
@@ -38,7 +37,6 @@ put_all_new (n ∷ ns) ms a h = ⊎_elim (λ (one : n ≡ a). put_all_keeps ns (
 module _ (catalogue : Catalogue) (x : SiteState) (given : Input) (all : (u : Live) → Has x.live u → LiveOk catalogue x.id x.held u) where
   marked_ok : (u : Live) → LiveOk catalogue x.id x.held u → LiveOk catalogue x.id x.held (mark u)
   marked_ok u h = record {
-    numbers = h.numbers;
     next = λ p e. let q = unmarked u.pending p e in numbered q.0 p (h.next q.0 q.1) q.2;
     written = h.written;
     remote = h.remote;
@@ -49,77 +47,69 @@ module _ (catalogue : Catalogue) (x : SiteState) (given : Input) (all : (u : Liv
       numbered : (a p : Pending) → a.number ≡ length u.answers + 1 → record a { marked = true } ≡ p → p.number ≡ length u.answers + 1
       numbered a p n e = ap (λ (p : Pending). p.number) (sym e) ∙ n
 
-      called_writes : (a p : Pending) (rec : ℕ) (value : List ℕ) → record a { marked = true } ≡ p → Writes catalogue p rec value → Writes catalogue a rec value
-      called_writes a p rec value e r = record { txn = r.txn; number = r.number; name = r.name; words = ap (λ (p : Pending). p.call) e ∙ r.words; found = r.found }
+      called_writes : (a p : Pending) (rec : ℕ) (deed : Deed) → record a { marked = true } ≡ p → Changes catalogue p rec deed → Changes catalogue a rec deed
+      called_writes a p rec value e r = same_writes catalogue a p rec value (ap (λ (p : Pending). p.call) e) r
 
-  waits_ok : (u : Live) (p : Pending) (sites : List ℕ) → LiveOk catalogue x.id x.held u → p.number ≡ length u.answers + 1 → ((q : ℕ) → Has sites q → Has u.parts q) → ((rec : ℕ) (value : List ℕ) → Writes catalogue p rec value → (q : ℕ) → Has (other_holders_in catalogue x.id x.held rec) q → Has u.parts q) → LiveOk catalogue x.id x.held (waiting u p sites)
+  waits_ok : (u : Live) (p : Pending) (sites : List ℕ) → LiveOk catalogue x.id x.held u → p.number ≡ length u.answers + 1 → ((q : ℕ) → Has sites q → Has u.parts q) → ((rec : ℕ) (deed : Deed) → Changes catalogue p rec deed → (q : ℕ) → Has (other_holders_in catalogue x.id x.held rec) q → Has u.parts q) → LiveOk catalogue x.id x.held (waiting u p sites)
   waits_ok u p sites h number sub writes = record {
-    numbers = h.numbers;
     next = λ a e. let is : record p { missing = sites } ≡ a = cc in ap (λ (p : Pending). p.number) (sym is) ∙ number;
     written = h.written;
     remote = h.remote;
     missing = λ a q e k. let is : record p { missing = sites } ≡ a = cc in sub q (rw (ap (λ (p : Pending). p.missing) is) k);
-    writing = λ a rec value e r. let is : record p { missing = sites } ≡ a = cc in writes rec value (record { txn = r.txn; number = r.number; name = r.name; words = ap (λ (p : Pending). p.call) is ∙ r.words; found = r.found });
+    writing = λ a rec value e r. let is : record p { missing = sites } ≡ a = cc in writes rec value (same_writes catalogue p a rec value (ap (λ (p : Pending). p.call) is) r);
   }
 
-  done_ok : (u : Live) (operation : Op) (words : Answer) → LiveOk catalogue x.id x.held u → ((rec : ℕ) (value : List ℕ) → operation ≡ op.Write rec value → (q : ℕ) → Has (other_holders_in catalogue x.id x.held rec) q → Has u.parts q) → LiveOk catalogue x.id x.held (done u operation words)
-  done_ok u operation words h parts = record {
-    numbers = longer u.ops operation ∙ ap (λ n. n + 1) h.numbers ∙ sym (longer u.answers words);
+  done_ok : (u : Live) (p : Pending) (deed : Deed) → LiveOk catalogue x.id x.held u → ((rec : ℕ) → (alters deed rec ≡ true) × (record_of deed ≡ rec) → (q : ℕ) → Has (other_holders_in catalogue x.id x.held rec) q → Has u.parts q) → LiveOk catalogue x.id x.held (done u p deed)
+  done_ok u p deed h parts = record {
     next = λ p e. cc;
-    written = λ rec k q z. ⊎_elim (λ old. h.written rec (k.0, old) q z) (λ new. parts rec k.0 (has_one_is operation (op.Write rec k.0) new) q z) (has_cases u.ops (operation ∷ []) (op.Write rec k.0) k.1);
+    written = λ rec k q z. ⊎_elim (λ old. h.written rec old q z) (λ new. parts rec new q z) (changed_by u p deed rec k);
     remote = h.remote;
     missing = λ p q e k. cc;
     writing = λ p rec value e r. cc;
   }
 
-  completed_ok : (u : Live) (p : Pending) (operation : Op) (words : Answer) (l : Lent) → LiveOk catalogue x.id x.held u → Completes catalogue x given u p operation words l → LiveOk catalogue x.id x.held (done u operation words)
-  completed_ok u p operation words l h (Completes.own_write rec value next r a v o w e) = done_ok u operation words h (λ r v f. read_no_write operation rec r value v o f)
-  completed_ok u p operation words l h (Completes.own_copy rec stored next r a v c f o w e) = done_ok u operation words h (λ r v f. read_no_write operation rec r stored.value v o f)
-  completed_ok u p operation words l h (Completes.write_again rec before value next r a v o w e) = done_ok u operation words h
-      (λ r z f q k.
-      let b = value_key rec (last_writes u.ops) before v in
-      let was = last_written u.ops b.0 b.1 in
-      h.written r (was.0, subst (λ (n : ℕ). Has u.ops (op.Write n was.0)) (b.2 ∙ write_of_one operation rec r value z o f) was.1) q k)
-  completed_ok u p operation words l h (Completes.write_alone rec value next r a v n o w e) = done_ok u operation words h
-      (λ r v f q k. absurd (empty_not (other_holders_in catalogue x.id x.held r) q (rw (← (write_of_one operation rec r value v o f)) n) k))
-  completed_ok u p operation words l h (Completes.read_answered from rec value c last r o w e) = done_ok u operation words h (λ r v f. read_no_write operation rec r value v o f)
-  completed_ok u p operation words l h (Completes.write_answered from rec value c last r o w e) =
-      done_ok u operation words h (λ z v f a k. h.writing p rec value last.pending r a (rw (write_of_one operation rec z value v o f) k))
+  completed_ok : (u : Live) (p : Pending) (deed : Deed) (l : Lent) → LiveOk catalogue x.id x.held u → Completes catalogue x given u p deed l → LiveOk catalogue x.id x.held (done u p deed)
+  completed_ok u p deed l h (Completes.own_write rec value next r a v o e) = done_ok u p deed h (λ n f. read_alters_none deed rec n value o f.0)
+  completed_ok u p deed l h (Completes.own_copy rec stored next r a v c f o e) = done_ok u p deed h (λ n f. read_alters_none deed rec n stored.value o f.0)
+  completed_ok u p deed l h (Completes.change_again rec before next r a v e) = done_ok u p deed h
+      (λ n f q k. h.written n (subst (HasChanged u) (sym r.on ∙ f.1) (change_there (last_changes (entry_of u)) rec before v)) q k)
+  completed_ok u p deed l h (Completes.change_alone rec next r a v n e) = done_ok u p deed h
+      (λ m f q k. absurd (empty_not (other_holders_in catalogue x.id x.held m) q (rw (← (sym r.on ∙ f.1)) n) k))
+  completed_ok u p deed l h (Completes.read_answered from rec value c last r o e) = done_ok u p deed h (λ n f. read_alters_none deed rec n value o f.0)
+  completed_ok u p deed l h (Completes.change_answered from rec c last r e) =
+      done_ok u p deed h (λ n f a k. h.writing p rec deed last.pending r a (subst (λ (m : ℕ). Has (other_holders_in catalogue x.id x.held m) a) (sym f.1 ∙ r.on) k))
 
   -- more parts
-  wider : (u now : Live) → LiveOk catalogue x.id x.held u → now.ops ≡ u.ops → ((q : ℕ) → Has u.parts q → Has now.parts q) → (rec : ℕ) → HasWritten now rec → (q : ℕ) → Has (other_holders_in catalogue x.id x.held rec) q → Has now.parts q
-  wider u now h same up rec k q z = up q (h.written rec (k.0, rw same at k.1) q z)
+  wider : (u now : Live) → LiveOk catalogue x.id x.held u → entry_of now ≡ entry_of u → ((q : ℕ) → Has u.parts q → Has now.parts q) → (rec : ℕ) → HasChanged now rec → (q : ℕ) → Has (other_holders_in catalogue x.id x.held rec) q → Has now.parts q
+  wider u now h same up rec k q z = up q (h.written rec (subst (λ (e : Commit). Has (keys (last_changes e)) rec) same k) q z)
 
   reads_ok : (u : Live) (p : Pending) (rec q : ℕ) → LiveOk catalogue x.id x.held u → AskingRead catalogue x given u p rec q → LiveOk catalogue x.id x.held (reading u p rec q)
   reads_ok u p rec q h a = record {
-    numbers = h.numbers;
     next = λ b e. let is : record p { missing = q ∷ [] } ≡ b = cc in ap (λ (p : Pending). p.number) (sym is) ∙ a.next.number;
     written = wider u (reading u p rec q) h refl (λ b k. put_keeps q u.parts b k);
     remote = λ r k. ⊎_elim (λ old. put_keeps q u.parts r.0 (h.remote r old)) (λ new. rw (← (ap (λ (r : ℕ × ℕ). r.0) (has_one_is (q, rec) r new))) (put_new nat_eq nat_lt q u.parts)) (has_cases u.remote ((q, rec) ∷ []) r k);
     missing = λ b c e k. let is : record p { missing = q ∷ [] } ≡ b = cc in let m : Has (q ∷ []) c = rw (ap (λ (p : Pending). p.missing) is) k in rw (← (has_one_is q c m)) (put_new nat_eq nat_lt q u.parts);
     writing = λ b other value e r.
         let is : record p { missing = q ∷ [] } ≡ b = cc in
-        read_not_write catalogue p rec other value a.reads (record { txn = r.txn; number = r.number; name = r.name; words = ap (λ (p : Pending). p.call) is ∙ r.words; found = r.found });
+        read_not_write catalogue p rec other value a.reads (same_writes catalogue p b other value (ap (λ (p : Pending). p.call) is) r);
   }
 
-  writes_ok : (u : Live) (p : Pending) (rec : ℕ) (value : List ℕ) → LiveOk catalogue x.id x.held u → AskingWrite catalogue x given u p rec value → LiveOk catalogue x.id x.held (writing u p (other_holders catalogue x rec))
+  writes_ok : (u : Live) (p : Pending) (rec : ℕ) (deed : Deed) → LiveOk catalogue x.id x.held u → AskingWrite catalogue x given u p rec deed → LiveOk catalogue x.id x.held (writing u p (other_holders catalogue x rec))
   writes_ok u p rec value h a = record {
-    numbers = h.numbers;
     next = λ b e. let is : record p { missing = other_holders catalogue x rec } ≡ b = cc in ap (λ (p : Pending). p.number) (sym is) ∙ a.next.number;
     written = wider u (writing u p (other_holders catalogue x rec)) h refl (λ b k. put_all_keeps (other_holders catalogue x rec) u.parts b k);
     remote = λ r k. put_all_keeps (other_holders catalogue x rec) u.parts r.0 (h.remote r k);
     missing = λ b c e k. let is : record p { missing = other_holders catalogue x rec } ≡ b = cc in put_all_new (other_holders catalogue x rec) u.parts c (rw (ap (λ (p : Pending). p.missing) is) k);
     writing = λ b other v e r.
         let is : record p { missing = other_holders catalogue x rec } ≡ b = cc in
-        let same = writes_same catalogue p rec other value v a.writes (record { txn = r.txn; number = r.number; name = r.name; words = ap (λ (p : Pending). p.call) is ∙ r.words; found = r.found }) in
+        let same = writes_same catalogue p rec other value v a.writes (same_writes catalogue p b other v (ap (λ (p : Pending). p.call) is) r) in
         (λ q k. put_all_new (other_holders catalogue x rec) u.parts q (rw same k));
   }
 
   begun_ok : (txn : TxnId) (view : ViewId) → LiveOk catalogue x.id x.held (begun txn view)
   begun_ok txn view = record {
-    numbers = refl;
     next = λ p e. cc;
-    written = λ rec k q z. absurd (has_none _ k.1);
+    written = λ rec k q z. absurd (has_none _ k);
     remote = λ r k. absurd (has_none r k);
     missing = λ p q e k. cc;
     writing = λ p rec value e r. cc;
@@ -131,7 +121,7 @@ module _ (catalogue : Catalogue) (x : SiteState) (given : Input) (all : (u : Liv
   live_ok t (LiveNow.waits u p from h f m l k e) =
       let a = all u h in
       subst (LiveOk catalogue x.id x.held) e (waits_ok u p (remaining from p) a (a.next p f) (λ q z. a.missing p q f (filter_has (λ (b : ℕ). not (b == from)) p.missing q z).0) (λ rec value r. a.writing p rec value f r))
-  live_ok t (LiveNow.completed u p operation words l h c e) = subst (LiveOk catalogue x.id x.held) e (completed_ok u p operation words l (all u h) c)
+  live_ok t (LiveNow.completed u p deed l h c e) = subst (LiveOk catalogue x.id x.held) e (completed_ok u p deed l (all u h) c)
   live_ok t (LiveNow.reads u p rec q h a e) = subst (LiveOk catalogue x.id x.held) e (reads_ok u p rec q (all u h) a)
   live_ok t (LiveNow.writes u p rec value h a e) = subst (LiveOk catalogue x.id x.held) e (writes_ok u p rec value (all u h) a)
   live_ok t (LiveNow.prepares u p h a e) = subst (LiveOk catalogue x.id x.held) e (waits_ok u p u.parts (all u h) a.next.number (λ q z. z) (λ rec value r. no_commit_writes catalogue p rec value a.commit r))
@@ -152,7 +142,7 @@ same_held catalogue w new s x given o t before after up now led led_now stays h 
     held_from (LiveNow.still k) = of t k refl
     held_from (LiveNow.marked u k tick e) = of u k (ap (λ (t : Live). t.view) e)
     held_from (LiveNow.waits u p sender k f m l c e) = of u k (ap (λ (t : Live). t.view) e)
-    held_from (LiveNow.completed u p operation words l k c e) = of u k (ap (λ (t : Live). t.view) e)
+    held_from (LiveNow.completed u p deed l k c e) = of u k (ap (λ (t : Live). t.view) e)
     held_from (LiveNow.reads u p rec q k a e) = of u k (ap (λ (t : Live). t.view) e)
     held_from (LiveNow.writes u p rec value k a e) = of u k (ap (λ (t : Live). t.view) e)
     held_from (LiveNow.prepares u p k a e) = of u k (ap (λ (t : Live). t.view) e)

@@ -1,25 +1,24 @@
 -- What is read without a copy here was asked of another site.
-use Rattle.std.proofs.Common.{◌≡◌, ◌⊎◌, ◌∙◌, ap, sym, subst, ℕ, List, [], ◌∷◌, ◌++◌, inl, inr, ⊎_elim}
-use Rattle.vp_model.specs.Types.{Input, Op, Answer, Pending, Live, Stored}
+use Rattle.std.proofs.Common.{Option, ◌≡◌, ◌⊎◌, ◌∙◌, ap, sym, subst, ℕ, List, [], ◌∷◌, inl, inr, ⊎_elim}
+use Rattle.vp_laws.proofs.Journal.Changed.{changed_on, written_changed, HasChanged, operation_there}
+use Rattle.vp_model.specs.Types.{Input, Pending, Live, Stored}
 use Rattle.vp_model.specs.Types.op
 use Rattle.vp_model.specs.Words.{keys}
 use Rattle.vp_model.specs.Catalogue.{Catalogue}
-use Rattle.vp_model.specs.Transactions.{last_writes}
+use Rattle.vp_model.specs.Transactions.{Deed}
 use Rattle.vp_model.specs.Refresh.{other_holders}
 use Rattle.vp_model.specs.Site.{SiteState, Stepped, Lent}
 use Rattle.vp_laws.specs.Votes.{is_commit}
-use Rattle.vp_laws.proofs.Lists.Members.{Has, has_none, has_one, has_one_is, has_left, has_right, has_cases}
+use Rattle.vp_laws.proofs.Lists.Members.{Has, has_none, has_one, has_left, has_right}
 use Rattle.vp_laws.proofs.Moves.Table.{remaining, Completes}
 use Rattle.vp_laws.proofs.Table.Steps.{LiveNow, Steps}
 use Rattle.vp_laws.proofs.Table.Copies.{value_pair}
 use Rattle.vp_laws.proofs.Table.Locks.{Guards}
 use Rattle.vp_laws.proofs.Lists.Changes.{mapped_has}
 use Rattle.vp_laws.proofs.Worlds.Scenes.{Scene, Acted, acted, scene_of}
-use Rattle.vp_laws.proofs.Invariant.Ops.{HasWritten}
 use Rattle.vp_laws.proofs.Worlds.Sites.{NowIs, now_is, quiet_is, started_idle, Quiet, live_still}
-use Rattle.vp_laws.proofs.Moves.Calls.{reads_same, same_call, unmarked_call}
+use Rattle.vp_laws.proofs.Moves.Calls.{read_not_write, read_not_write_asked, reads_same, same_call, unmarked_call}
 use Rattle.vp_laws.proofs.Invariant.Reads.{HasAsked, ReadsOk, InvReads}
-use Rattle.vp_laws.proofs.Lists.Pairs.{last_written, value_key}
 use Rattle.vp_model.specs.World.{start_world}
 
 module _ (catalogue : Catalogue) (x : SiteState) (given : Input) (all : (u : Live) → Has x.live u → ReadsOk catalogue (keys x.copies) u) where
@@ -27,27 +26,22 @@ module _ (catalogue : Catalogue) (x : SiteState) (given : Input) (all : (u : Liv
   Ok t = ReadsOk catalogue (keys x.copies) t
 
   -- the operation that is done
-  new_read : (u : Live) (p : Pending) (operation : Op) (words : Answer) (l : Lent) → Has x.live u → Completes catalogue x given u p operation words l → (rec : ℕ) (value : List ℕ) → operation ≡ op.Read rec value → (Has (keys x.copies) rec → ⊥) → HasWritten u rec ⊎ HasAsked u rec
-  new_read u p operation words l h (Completes.own_write r v next reads a w e f g) rec value is none =
+  new_read : (u : Live) (p : Pending) (deed : Deed) (l : Lent) → Has x.live u → Completes catalogue x given u p deed l → (rec : ℕ) (value : Option (List ℕ)) → deed ≡ Deed.operates (op.Read rec value) → (Has (keys x.copies) rec → ⊥) → HasChanged u rec ⊎ HasAsked u rec
+  new_read u p deed l h (Completes.own_write r v next reads a w e g) rec value is none =
       let z = sym e ∙ is in
       let same : r ≡ rec = cc in
-      let q = value_key r (last_writes u.ops) v w in
-      let o = last_written u.ops q.0 q.1 in
-      inl (o.0, subst (λ (n : ℕ). Has u.ops (op.Write n o.0)) (q.2 ∙ same) o.1)
-  new_read u p operation words l h (Completes.own_copy r stored next reads a w copy free e f g) rec value is none =
+      inl (subst (HasChanged u) same (written_changed u r v w))
+  new_read u p deed l h (Completes.own_copy r stored next reads a w copy free e g) rec value is none =
       let z = sym e ∙ is in
       let same : r ≡ rec = cc in
       absurd (none (rw (← same) (mapped_has (λ (p : ℕ × Stored). p.0) x.copies (r, stored) (value_pair r x.copies stored copy))))
-  new_read u p operation words l h (Completes.write_again r before v next w a k e f g) rec value is none = absurd (let z = sym e ∙ is in cc)
-  new_read u p operation words l h (Completes.write_alone r v next w a k n e f g) rec value is none = absurd (let z = sym e ∙ is in cc)
-  new_read u p operation words l h (Completes.read_answered from r v c last reads e f g) rec value is none =
+  new_read u p deed l h (Completes.change_again r before next w a k g) rec value is none = read_not_write_asked catalogue p deed rec value is w
+  new_read u p deed l h (Completes.change_alone r next w a k n g) rec value is none = read_not_write_asked catalogue p deed rec value is w
+  new_read u p deed l h (Completes.read_answered from r v c last reads e g) rec value is none =
       let z = sym e ∙ is in
       let same : r ≡ rec = cc in
       inr (rw (← same) ((all u h).asked p r last.pending reads))
-  new_read u p operation words l h (Completes.write_answered from r v c last w e f g) rec value is none = absurd (let z = sym e ∙ is in cc)
-
-  more_written : (u : Live) (operation : Op) (rec : ℕ) → HasWritten u rec → (value : List ℕ) × Has (u.ops ++ operation ∷ []) (op.Write rec value)
-  more_written u operation rec q = (q.0, has_left u.ops (operation ∷ []) _ q.1)
+  new_read u p deed l h (Completes.change_answered from r c last w g) rec value is none = read_not_write_asked catalogue p deed rec value is w
 
   pub reads_now : (t : Live) → LiveNow catalogue x given t → Ok t
   reads_now t (LiveNow.still h) = all t h
@@ -59,11 +53,11 @@ module _ (catalogue : Catalogue) (x : SiteState) (given : Input) (all : (u : Liv
     done = b.done;
     asked = λ a rec g r. let is : record p { missing = remaining from p } ≡ a = cc in b.asked p rec f (same_call catalogue a p rec (ap (λ (p : Pending). p.call) is) r);
   })
-  reads_now t (LiveNow.completed u p operation words l h c e) = let b = all u h in subst Ok e (record {
+  reads_now t (LiveNow.completed u p deed l h c e) = let b = all u h in subst Ok e (record {
     done = λ rec value k none. ⊎_elim
-        (λ old. ⊎_elim (λ w. inl (more_written u operation rec w)) (λ a. inr a) (b.done rec value old none))
-        (λ new. ⊎_elim (λ w. inl (more_written u operation rec w)) (λ a. inr a) (new_read u p operation words l h c rec value (has_one_is operation _ new) none))
-        (has_cases u.ops (operation ∷ []) _ k);
+        (λ old. ⊎_elim (λ w. inl (changed_on u p deed rec w)) (λ a. inr a) (b.done rec value old none))
+        (λ new. ⊎_elim (λ w. inl (changed_on u p deed rec w)) (λ a. inr a) (new_read u p deed l h c rec value new none))
+        (operation_there u.ops deed _ k);
     asked = λ a rec g r. cc;
   })
   reads_now t (LiveNow.reads u p rec q h a e) = let b = all u h in subst Ok e (record {
@@ -75,7 +69,7 @@ module _ (catalogue : Catalogue) (x : SiteState) (given : Input) (all : (u : Liv
   })
   reads_now t (LiveNow.writes u p rec value h a e) = let b = all u h in subst Ok e (record {
     done = b.done;
-    asked = λ c r g s. absurd (let is : record p { missing = other_holders catalogue x rec } ≡ c = cc in let z = sym a.writes.words ∙ ap (λ (p : Pending). p.call) is ∙ s.words in cc);
+    asked = λ c r g s. let is : record p { missing = other_holders catalogue x rec } ≡ c = cc in read_not_write catalogue p r rec value (same_call catalogue c p r (ap (λ (p : Pending). p.call) is) s) a.writes;
   })
   reads_now t (LiveNow.prepares u p h a e) = let b = all u h in subst Ok e (record {
     done = b.done;

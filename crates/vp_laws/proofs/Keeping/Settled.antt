@@ -1,6 +1,7 @@
 -- A holder that an entry affects stays in doubt, and the decision waits for it, until it has applied the entry or left the view.
 use Rattle.std.proofs.Common.{◌≡◌, ◌≢◌, ◌⊎◌, ◌∙◌, ap, sym, subst, ℕ, Bool, true, false, List, refl, inl, inr, ⊎_elim}
 use Rattle.std.specs.Prelude.{Option, Some, None, option_map}
+use Rattle.vp_laws.proofs.Journal.ValuesAfter.{Wrote}
 use Rattle.vp_model.specs.Types.{Change, ViewId, TxnId, View, Sent, Commit, Input, Part, Live, Doubt, Decision}
 use Rattle.vp_model.specs.Types.message
 use Rattle.vp_model.specs.Words.{same_txn, has_txn, is_empty, is_view, has}
@@ -40,7 +41,6 @@ use Rattle.vp_laws.proofs.Invariant.Settled.{InvSettled, HasEnded}
 use Rattle.vp_laws.proofs.Keeping.Entered.{other_holder}
 use Rattle.vp_laws.proofs.Keeping.Views.{above}
 use Rattle.vp_laws.proofs.Keeping.Leaving.{left_lasts, left_here, left_quiet, left_by_quiet}
-use Rattle.vp_laws.proofs.Lists.Pairs.{written_op}
 use Rattle.vp_model.specs.World.{start_world}
 
 -- a doubt on the transaction is there or not
@@ -66,12 +66,12 @@ module _ (catalogue : Catalogue) (w : Scene) (asked : InvLed w) (shares : InvSha
       let q = shares.entry e there from k view number reads writes (rw (← named) sent) in
       let b = asked.asked _ sent in
       let p = some_first (writes_held catalogue k (last_changes e)) (rw q.1 some) in
-      let f = filter_has (λ (w : ℕ × List ℕ). has (holders catalogue w.0) k) (last_changes e) p.0 p.1 in (
+      let f = filter_has (λ (w : ℕ × Change). has (holders catalogue w.0) k) (last_changes e) p.0 p.1 in (
         record {
           view = b.0;
           agreed = (b.1, b.2 ∙ sym q.0);
           rec = p.0.0;
-          wrote = mapped_has (λ (p : ℕ × List ℕ). p.0) (last_changes e) p.0 f.0;
+          wrote = mapped_has (λ (p : ℕ × Change). p.0) (last_changes e) p.0 f.0;
           holder = has_from_test (holders catalogue p.0.0) k f.1;
           member = b.3;
         },
@@ -142,21 +142,20 @@ module _ (catalogue : Catalogue) (w new : Scene) (s : ℕ) (x : SiteState) (give
   -- an affected holder has writes of the entry
   affected_writes : (e : Commit) (k : ℕ) → Affected catalogue new e k → is_empty (writes_held catalogue k (last_changes e)) ≡ false
   affected_writes e k a =
-      let r = map_has (λ (p : ℕ × List ℕ). p.0) (last_changes e) a.rec a.wrote in
-      some_not_empty _ r.0 (filter_keeps (λ (w : ℕ × List ℕ). has (holders catalogue w.0) k) (last_changes e) r.0 r.1 (has_test (holders catalogue r.0.0) k (subst (λ (n : ℕ). Has (holders catalogue n) k) (sym r.2) a.holder)))
+      let r = map_has (λ (p : ℕ × Change). p.0) (last_changes e) a.rec a.wrote in
+      some_not_empty _ r.0 (filter_keeps (λ (w : ℕ × Change). has (holders catalogue w.0) k) (last_changes e) r.0 r.1 (has_test (holders catalogue r.0.0) k (subst (λ (n : ℕ). Has (holders catalogue n) k) (sym r.2) a.holder)))
 
   -- and is a part, if it is another site
-  affected_part : (e : Commit) (k : ℕ) (t : Live) → Handled x t → t.txn ≡ e.txn → t.view ≡ e.view → t.ops ≡ e.ops → Affected catalogue new e k → k ≢ e.txn.site → Has t.parts k
+  affected_part : (e : Commit) (k : ℕ) (t : Live) → Handled x t → t.txn ≡ e.txn → t.view ≡ e.view → entry_of t ≡ e → Affected catalogue new e k → k ≢ e.txn.site → Has t.parts k
   affected_part e k t n named viewed done a other =
       let u = n.was in
       let of : IsOf x u = led.live u n.live in
       let held_same : of.0 ≡ a.view = views_now.unique of.0 a.view (st.moved.agreed of.0 ((views.site s x up).held of.0 of.1)) a.agreed.0 (of.2 ∙ sym (ap (λ (t : Live). t.view) n.same) ∙ viewed ∙ sym a.agreed.1) in
       let held : x.held ≡ Some a.view = of.1 ∙ ap (λ (v : View). Some v) held_same in
-      let wrote = written_op e.ops a.rec a.wrote in
       let site : x.id ≡ e.txn.site = sym (led.names u n.live).0 ∙ ap (λ (t : TxnId). t.site) (sym (ap (λ (t : Live). t.txn) n.same) ∙ named) in
       let holder = other_holder catalogue x.id a.rec k a.view a.holder a.member (λ g. other (g ∙ site)) in
-      let ops_same : u.ops ≡ e.ops = sym (ap (λ (t : Live). t.ops) n.same) ∙ done in
-      rw (ap (λ (t : Live). t.parts) n.same) ((ops u n.live).written a.rec (wrote.0, rw ops_same wrote.1) k (subst (λ (held : Option View). Has (other_holders_in catalogue x.id held a.rec) k) (sym held) holder))
+      let whole : entry_of u ≡ e = sym (ap entry_of n.same) ∙ done in
+      rw (ap (λ (t : Live). t.parts) n.same) ((ops u n.live).written a.rec (subst (λ (e : Commit). Wrote e a.rec) (sym whole) a.wrote) k (subst (λ (held : Option View). Has (other_holders_in catalogue x.id held a.rec) k) (sym held) holder))
 
   not_own : (k : ℕ) (txn : TxnId) → InDoubt new k txn → k ≢ txn.site
   not_own k txn d e = ((below_now.kept k).doubts d.0 d.1).1 (ap (λ (t : TxnId). t.site) d.2 ∙ sym e)
@@ -175,11 +174,11 @@ module _ (catalogue : Catalogue) (w new : Scene) (s : ℕ) (x : SiteState) (give
       let q = c.entered e h in
       let t = q.0 in
       let named : t.txn ≡ e.txn = ap (λ (e : Commit). e.txn) q.2 in
-      let done : t.ops ≡ e.ops = ap (λ (e : Commit). e.ops) q.2 in
+      let done : entry_of t ≡ e = q.2 in
       let part = affected_part e k t q.1 named (ap (λ (e : Commit). e.view) q.2) done a (not_own k e.txn d) in
-      let some : is_empty (writes_held catalogue k (last_changes (entry_of t))) ≡ false = rw done (affected_writes e k a) in
-      let r = map_has (λ (p : ℕ × List ℕ). p.0) (last_changes e) a.rec a.wrote in
-      let writes : is_empty (last_changes (entry_of t)) ≡ false = rw done (some_not_empty (last_changes e) r.0 r.1) in
+      let some : is_empty (writes_held catalogue k (last_changes (entry_of t))) ≡ false = subst (λ (e : Commit). is_empty (writes_held catalogue k (last_changes e)) ≡ false) (sym done) (affected_writes e k a) in
+      let r = map_has (λ (p : ℕ × Change). p.0) (last_changes e) a.rec a.wrote in
+      let writes : is_empty (last_changes (entry_of t)) ≡ false = subst (λ (e : Commit). is_empty (last_changes e) ≡ false) (sym done) (some_not_empty (last_changes e) r.0 r.1) in
       let waits : IsWaited o.site.decisions t.txn k = q.3 k writes (filter_keeps _ t.parts k part (rw some refl)) in
       let here : kept_at new e.txn.site ≡ durable_of o.site = ap (kept_at new) (entered_site e (steps.entered e h)) ∙ st.kept_now in
       rw (here, ← named) waits
@@ -237,7 +236,7 @@ module _ (catalogue : Catalogue) (w new : Scene) (s : ℕ) (x : SiteState) (give
       let site = entered_site e f in
       let vote = entered_now.voted e k (st.enters e h) a n in
       ⊎_elim
-      (λ old. later site (shares.says (letter k vote.0 (message.Vote e.txn)) old x f.handled.was (rw site up) f.handled.live (entered_txn e f) (rw (entered_ops e f) (affected_writes e k a))))
+      (λ old. later site (shares.says (letter k vote.0 (message.Vote e.txn)) old x f.handled.was (rw site up) f.handled.live (entered_txn e f) (subst (λ (e : Commit). is_empty (writes_held catalogue k (last_changes e)) ≡ false) (sym (sym (ap entry_of f.handled.same) ∙ f.is)) (affected_writes e k a))))
       (λ more. absurd (n (p.from (letter k vote.0 (message.Vote e.txn)) more ∙ id ∙ sym site)))
       (st.sent (letter k vote.0 (message.Vote e.txn)) vote.1)
     where

@@ -7,7 +7,7 @@ use Rattle.vp_model.specs.Words.{is_empty, is_view}
 use Rattle.vp_model.specs.Catalogue.{Catalogue, start_copies}
 use Rattle.vp_model.specs.Durable.{DurableState, empty_durable}
 use Rattle.vp_model.specs.Site.{SiteState, Stepped}
-use Rattle.vp_model.specs.Transactions.{last_changes, entry_of, last_writes, writes_held}
+use Rattle.vp_model.specs.Transactions.{last_changes, entry_of, writes_held}
 use Rattle.vp_model.specs.Messages.{holds_view}
 use Rattle.vp_model.specs.Refresh.{other_holders}
 use Rattle.vp_model.specs.Step.{start, durable_of, mark, marked_call}
@@ -33,7 +33,7 @@ use Rattle.vp_laws.proofs.Lists.Changes.{is_none}
 use Rattle.vp_laws.proofs.Invariant.Shares.{Says, Awaits, HasVote, InDoubt, HasRequest, DoubtSays, InvShares, HasPrepare, PartSays, EntrySays, OneView, VoteSays, vote_more, request_more}
 use Rattle.vp_laws.proofs.Keeping.Endings.{fresh}
 use Rattle.vp_model.specs.World.{start_world}
-use Rattle.vp_laws.proofs.Moves.Calls.{waiting, reading, writing}
+use Rattle.vp_laws.proofs.Moves.Calls.{changes_no_commit, no_commit_writes, waiting, reading, writing}
 
 not_none : {X : Type 0} (xs ys : List X) → xs ≡ ys → is_empty xs ≡ false → is_empty ys ≡ true → ⊥
 not_none xs ys e f g = let z = ap is_empty e in cc
@@ -43,7 +43,7 @@ pub was_viewed : (catalogue : Catalogue) (x : SiteState) (given : Input) (t : Li
 was_viewed catalogue x given t (LiveNow.still h) = inl (t, h, refl, refl)
 was_viewed catalogue x given t (LiveNow.marked u h tick e) = inl (u, h, ap (λ (t : Live). t.txn) e, ap (λ (t : Live). t.view) e)
 was_viewed catalogue x given t (LiveNow.waits u p from h f m l c e) = inl (u, h, ap (λ (t : Live). t.txn) e, ap (λ (t : Live). t.view) e)
-was_viewed catalogue x given t (LiveNow.completed u p operation words l h c e) = inl (u, h, ap (λ (t : Live). t.txn) e, ap (λ (t : Live). t.view) e)
+was_viewed catalogue x given t (LiveNow.completed u p deed l h c e) = inl (u, h, ap (λ (t : Live). t.txn) e, ap (λ (t : Live). t.view) e)
 was_viewed catalogue x given t (LiveNow.reads u p rec q h a e) = inl (u, h, ap (λ (t : Live). t.txn) e, ap (λ (t : Live). t.view) e)
 was_viewed catalogue x given t (LiveNow.writes u p rec value h a e) = inl (u, h, ap (λ (t : Live). t.txn) e, ap (λ (t : Live). t.view) e)
 was_viewed catalogue x given t (LiveNow.prepares u p h a e) = inl (u, h, ap (λ (t : Live). t.txn) e, ap (λ (t : Live). t.view) e)
@@ -52,11 +52,11 @@ was_viewed catalogue x given t (LiveNow.begins view h e) = inr (ap (λ (t : Live
 committing_not : (u : Live) → IsOperating u → (p : Pending) → u.pending ≡ Some p → is_commit p.call ≡ true → ⊥
 committing_not u idle p e c = ⊎_elim (λ none. some_not u.pending p e none) (λ doing. operating_not u.pending p doing.0 e doing.1 c doing.2) idle
 
-was_doing : (catalogue : Catalogue) (x : SiteState) (given : Input) (t : Live) → LiveNow catalogue x given t → ((u : Live) → Has x.live u → u.txn ≡ t.txn → (p : Pending) × (u.pending ≡ Some p) × (is_commit p.call ≡ true)) → (t.txn ≢ next_name x) → (u : Live) × Has x.live u × (u.txn ≡ t.txn) × (u.ops ≡ t.ops)
+was_doing : (catalogue : Catalogue) (x : SiteState) (given : Input) (t : Live) → LiveNow catalogue x given t → ((u : Live) → Has x.live u → u.txn ≡ t.txn → (p : Pending) × (u.pending ≡ Some p) × (is_commit p.call ≡ true)) → (t.txn ≢ next_name x) → (u : Live) × Has x.live u × (u.txn ≡ t.txn) × (entry_of u ≡ entry_of t)
 was_doing catalogue x given t (LiveNow.still h) c n = (t, h, refl, refl)
-was_doing catalogue x given t (LiveNow.marked u h tick e) c n = (u, h, ap (λ (t : Live). t.txn) e, ap (λ (t : Live). t.ops) e)
-was_doing catalogue x given t (LiveNow.waits u p from h f m l k e) c n = (u, h, ap (λ (t : Live). t.txn) e, ap (λ (t : Live). t.ops) e)
-was_doing catalogue x given t (LiveNow.completed u p operation words l h k e) c n = let q = c u h (ap (λ (t : Live). t.txn) e) in absurd (committing_not u (completes_operating catalogue x given u p operation words l k) q.0 q.1 q.2)
+was_doing catalogue x given t (LiveNow.marked u h tick e) c n = (u, h, ap (λ (t : Live). t.txn) e, ap entry_of e)
+was_doing catalogue x given t (LiveNow.waits u p from h f m l k e) c n = (u, h, ap (λ (t : Live). t.txn) e, ap entry_of e)
+was_doing catalogue x given t (LiveNow.completed u p deed l h k e) c n = let q = c u h (ap (λ (t : Live). t.txn) e) in absurd (committing_not u (completes_operating catalogue x given u p deed l k) q.0 q.1 q.2)
 was_doing catalogue x given t (LiveNow.reads u p rec k h a e) c n = let q = c u h (ap (λ (t : Live). t.txn) e) in absurd (some_not u.pending q.0 q.1 a.next.idle)
 was_doing catalogue x given t (LiveNow.writes u p rec value h a e) c n = let q = c u h (ap (λ (t : Live). t.txn) e) in absurd (some_not u.pending q.0 q.1 a.next.idle)
 was_doing catalogue x given t (LiveNow.prepares u p h a e) c n = let q = c u h (ap (λ (t : Live). t.txn) e) in absurd (some_not u.pending q.0 q.1 a.next.idle)
@@ -165,7 +165,7 @@ module _ (catalogue : Catalogue) (w new : Scene) (s : ℕ) (x : SiteState) (give
           let was = was_doing catalogue x given t (c.live t (subst (λ (y : SiteState). Has y.live t) (sym same) k))
           (λ u q f. voted_pending catalogue w votes from to txn sent x u (rw z up) q (f ∙ e))
           (λ n. fresh w s x up id txn used (sym e ∙ n)) in
-          doubt_lasts from txn x was.0 (rw z up) was.1 (was.2 ∙ e) (h x was.0 (rw z up) was.1 (was.2 ∙ e) (rw was.3 writes))
+          doubt_lasts from txn x was.0 (rw z up) was.1 (was.2 ∙ e) (h x was.0 (rw z up) was.1 (was.2 ∙ e) (subst (λ (e : Commit). is_empty (writes_held catalogue from (last_changes e)) ≡ false) (sym was.3) writes))
 
   doubt_here : (txn : TxnId) (d : Doubt) → Has o.site.doubts d → d.txn ≡ txn → InDoubt new s txn
   doubt_here txn d h e = (d, subst (λ (k : DurableState). Has k.doubts d) (sym st.kept_now) h, e)
@@ -279,11 +279,11 @@ module _ (catalogue : Catalogue) (w new : Scene) (s : ℕ) (x : SiteState) (give
     where
       counted : (u : Live) (p : Pending) (from : ℕ) → Counts catalogue given u p from → is_commit p.call ≡ true → (q : ℕ) → q ≡ from → HasVote new q u.txn
       counted u p from (Counts.read rec value g r) commit q it = absurd (let a = ap is_commit r.words in cc)
-      counted u p from (Counts.written rec value g r) commit q it = absurd (let a = ap is_commit r.words in cc)
+      counted u p from (Counts.changed rec deed g r) commit q it = no_commit_writes catalogue p rec deed commit r
       counted u p from (Counts.voted g k) commit q it = (s, rw it (stays _ (came_in w s given arrives from (message.Vote u.txn) g)))
-  awaits_now t (LiveNow.completed u p operation words l h g e) = subst (Awaits new) e (λ a f commit q part. cc)
+  awaits_now t (LiveNow.completed u p deed l h g e) = subst (Awaits new) e (λ a f commit q part. cc)
   awaits_now t (LiveNow.reads u p rec k h g e) = subst (Awaits new) e (λ a f commit q part. absurd (let is : record p { missing = k ∷ [] } ≡ a = cc in let z = ap (λ (p : Pending). is_commit p.call) is in let r = ap is_commit g.reads.words in cc))
-  awaits_now t (LiveNow.writes u p rec value h g e) = subst (Awaits new) e (λ a f commit q part. absurd (let is : record p { missing = other_holders catalogue x rec } ≡ a = cc in let z = ap (λ (p : Pending). is_commit p.call) is in let r = ap is_commit g.writes.words in cc))
+  awaits_now t (LiveNow.writes u p rec value h g e) = subst (Awaits new) e (λ a f commit q part. absurd (let is : record p { missing = other_holders catalogue x rec } ≡ a = cc in let z = ap (λ (p : Pending). is_commit p.call) is in let r = changes_no_commit catalogue p rec _ g.writes in cc))
   awaits_now t (LiveNow.prepares u p h g e) = subst (Awaits new) e (λ a f commit q part. inl (let is : record p { missing = u.parts } ≡ a = cc in rw (← (ap (λ (p : Pending). p.missing) is)) part))
   awaits_now t (LiveNow.begins view h e) = subst (Awaits new) e (λ a f commit q part. cc)
 
@@ -306,7 +306,7 @@ module _ (catalogue : Catalogue) (w new : Scene) (s : ℕ) (x : SiteState) (give
 
   entry_new : (e : Commit) → EnteredFor catalogue x given e → EntrySays catalogue new e
   entry_new e f from to view number readings writings sent = ⊎_elim
-      (λ old. decided f.was f.decides e.txn e.view (last_changes e) (ap (λ (e : Commit). e.txn) f.is) (ap (λ (e : Commit). e.view) f.is) (ap (λ (e : Commit). last_writes e.ops) f.is) old)
+      (λ old. decided f.was f.decides e.txn e.view (last_changes e) (ap (λ (e : Commit). e.txn) f.is) (ap (λ (e : Commit). e.view) f.is) (ap last_changes f.is) old)
       (λ more. absurd (none f.was f.decides (ap (λ (e : Commit). e.txn) f.is) _ (c.sent _ more) refl))
       (st.sent _ sent)
     where
@@ -327,7 +327,7 @@ module _ (catalogue : Catalogue) (w new : Scene) (s : ℕ) (x : SiteState) (give
           let it : u ≡ t = apart_unique x.live apart u t h here (name ∙ sym named) in
           some_not t.pending p last.pending (ap (λ (t : Live). is_some t.pending) (sym it) ∙ a.next.idle)
 
-      decided : (t : Live) → Decides catalogue x given t → (txn : TxnId) (in_view : ViewId) (last : List (ℕ × Change)) → t.txn ≡ txn → t.view ≡ in_view → last_writes t.ops ≡ last → Has w.sent (letter from to (message.Prepare txn view number readings writings)) → (in_view ≡ view) × (writes_held catalogue to last ≡ writings) × HasVote new to txn
+      decided : (t : Live) → Decides catalogue x given t → (txn : TxnId) (in_view : ViewId) (last : List (ℕ × Change)) → t.txn ≡ txn → t.view ≡ in_view → last_changes (entry_of t) ≡ last → Has w.sent (letter from to (message.Prepare txn view number readings writings)) → (in_view ≡ view) × (writes_held catalogue to last ≡ writings) × HasVote new to txn
       decided t (Decides.alone was p here next commit alone same) txn in_view last named viewed wrote old =
           let name : was.txn ≡ txn = ap (λ (t : Live). t.txn) (sym same) ∙ named in
           let q = votes.prepared _ old x was (rw (← name, owned was here ∙ id) up) here name in

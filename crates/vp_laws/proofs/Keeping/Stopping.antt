@@ -5,7 +5,7 @@ use Rattle.vp_model.specs.Types.{Change, ViewId, TxnId, View, Commit, Input, Liv
 use Rattle.vp_model.specs.Types.message
 use Rattle.vp_model.specs.Words.{is_empty, has, keys}
 use Rattle.vp_model.specs.Catalogue.{Catalogue, holders, weights_of, accessible}
-use Rattle.vp_model.specs.Transactions.{last_changes, writes_held}
+use Rattle.vp_model.specs.Transactions.{entry_of, last_changes, writes_held}
 use Rattle.vp_model.specs.Site.{SiteState, Stepped}
 use Rattle.vp_catalog.proofs.Majorities.{accessible_share}
 use Rattle.vp_laws.proofs.Lists.Members.{Has, has_from_test, map_has, filter_keeps, has_of, has_test}
@@ -60,18 +60,21 @@ module _ (catalogue : Catalogue) (w new : Scene) (s : ℕ) (x : SiteState) (give
 
       writes : Has (keys (writes_held catalogue q (last_changes e))) rec
       writes =
-          let r = map_has (λ (p : ℕ × List ℕ). p.0) (last_changes e) rec wrote in
-          let k = filter_keeps (λ (w : ℕ × List ℕ). has (holders catalogue w.0) q) (last_changes e) r.0 r.1 (has_test (holders catalogue r.0.0) q (subst (λ (n : ℕ). Has (holders catalogue n) q) (sym r.2) holder)) in
-          subst (Has (keys (writes_held catalogue q (last_changes e)))) r.2 (mapped_has (λ (p : ℕ × List ℕ). p.0) _ r.0 k)
+          let r = map_has (λ (p : ℕ × Change). p.0) (last_changes e) rec wrote in
+          let k = filter_keeps (λ (w : ℕ × Change). has (holders catalogue w.0) q) (last_changes e) r.0 r.1 (has_test (holders catalogue r.0.0) q (subst (λ (n : ℕ). Has (holders catalogue n) q) (sym r.2) holder)) in
+          subst (Has (keys (writes_held catalogue q (last_changes e)))) r.2 (mapped_has (λ (p : ℕ × Change). p.0) _ r.0 k)
 
       some : is_empty (writes_held catalogue q (last_changes e)) ≡ false
-      some = let r = map_has (λ (p : ℕ × List ℕ). p.0) _ rec writes in some_not_empty _ r.0 r.1
+      some = let r = map_has (λ (p : ℕ × Change). p.0) _ rec writes in some_not_empty _ r.0 r.1
+
+      whole : entry_of f.handled.was ≡ e
+      whole = sym (ap entry_of f.handled.same) ∙ f.is
 
       doubted : q ≢ e.txn.site → InDoubt w q e.txn
       doubted other =
           let vote = entered_now.voted e q (st.enters e h) (record { view = v; agreed = agreed; rec = rec; wrote = wrote; holder = holder; member = member }) other in
           ⊎_elim
-          (λ old. shares.says (letter q vote.0 (message.Vote e.txn)) old x f.handled.was (rw site up) f.handled.live named (rw done some))
+          (λ old. shares.says (letter q vote.0 (message.Vote e.txn)) old x f.handled.was (rw site up) f.handled.live named (subst (λ (e : Commit). is_empty (writes_held catalogue q (last_changes e)) ≡ false) (sym whole) some))
           (λ more. absurd (other (p.from (letter q vote.0 (message.Vote e.txn)) more ∙ id ∙ sym site)))
           (st.sent (letter q vote.0 (message.Vote e.txn)) vote.1)
 

@@ -1,6 +1,7 @@
 -- What other sites have answered for live transactions stays locked there until they leave the view.
 use Rattle.std.proofs.Common.{◌≡◌, ◌≢◌, ◌⊎◌, ◌∙◌, ap, sym, subst, ℕ, Bool, true, false, List, [], ◌∷◌, refl, inl, inr, ⊎_elim, length}
-use Rattle.std.specs.Prelude.{Some, None}
+use Rattle.std.specs.Prelude.{Option, Some, None}
+use Rattle.vp_model.specs.Transactions.{Deed}
 use Rattle.vp_model.specs.Types.{ViewId, TxnId, Sent, Input, Stored, Pending, Live}
 use Rattle.vp_model.specs.Types.message
 use Rattle.vp_model.specs.Types.owner
@@ -32,7 +33,7 @@ use Rattle.vp_laws.proofs.Invariant.HasLeft.{HasLeft}
 use Rattle.vp_laws.proofs.Worlds.Events.{Arrives, came_in}
 use Rattle.vp_laws.proofs.Worlds.Sites.{NowIs, now_is, Quiet, quiet_is, started_idle, live_still}
 use Rattle.vp_laws.proofs.Lists.Numbers.{one_above}
-use Rattle.vp_laws.proofs.Moves.Calls.{reading, writing, reads_same, writes_same}
+use Rattle.vp_laws.proofs.Moves.Calls.{same_writes, reading, writing, reads_same, writes_same}
 use Rattle.vp_laws.proofs.Invariant.Used.{HasAnswered, LockedAt, InvUsed}
 use Rattle.vp_laws.proofs.Keeping.Endings.{fresh}
 use Rattle.vp_laws.proofs.Keeping.Guards.{txn_same}
@@ -88,10 +89,10 @@ record NewRead (catalogue : Catalogue) (x : SiteState) (given : Input) (live : L
 record NewWrite (catalogue : Catalogue) (x : SiteState) (given : Input) (live : List Live) (txn : TxnId) (number rec : ℕ) : Type 0 where
   u : Live
   p : Pending
-  value : List ℕ
+  deed : Deed
   sites : List ℕ
   here : Has x.live u
-  asks : AskingWrite catalogue x given u p rec value
+  asks : AskingWrite catalogue x given u p rec deed
   only : Only live (writing u p sites)
   named : u.txn ≡ txn
   numbered : p.number ≡ number
@@ -113,7 +114,7 @@ new_write catalogue x given live m (SentFor.reads u p r q h k only e) a b txn vi
 new_write catalogue x given live m (SentFor.writes u p r value q h k j only e) a b txn view number rec is =
     let z = ap (λ (m : Sent). m.message) (e ∙ is) in
     let same : r ≡ rec = cc in
-    subst (NewWrite catalogue x given live txn number) same (record { u = u; p = p; value = value; sites = _; here = h; asks = k; only = only; named = cc; numbered = cc })
+    subst (NewWrite catalogue x given live txn number) same (record { u = u; p = p; deed = value; sites = _; here = h; asks = k; only = only; named = cc; numbered = cc })
 new_write catalogue x given live m (SentFor.prepares u p q h k j only e) a b txn view number rec is = absurd (let z = ap (λ (m : Sent). m.message) (e ∙ is) in cc)
 
 pending_same : (t : Live) (a b : Live) (p q : Pending) → t ≡ a → t ≡ b → a.pending ≡ Some p → b.pending ≡ Some q → p ≡ q
@@ -176,7 +177,7 @@ module _ (catalogue : Catalogue) (w new : Scene) (s : ℕ) (x : SiteState) (give
   both_write t number rec other h m n =
       let z = pending_same t (writing m.u m.p m.sites) (writing n.u n.p n.sites) (record m.p { missing = m.sites }) (record n.p { missing = n.sites }) (m.only t h (sym m.named)) (n.only t h (sym n.named)) refl refl in
       let call = ap (λ (p : Pending). p.call) z in
-      writes_same catalogue m.p rec other m.value n.value m.asks.writes (let r = n.asks.writes in record { txn = r.txn; number = r.number; name = r.name; words = call ∙ r.words; found = r.found })
+      writes_same catalogue m.p rec other m.deed n.deed m.asks.writes (same_writes catalogue m.p n.p other n.deed call n.asks.writes)
 
   -- where a new request is of a live transaction, it is of this site
   here_if : (k : ℕ) (y : SiteState) (t u : Live) → NowIs w s o.site k y → Has y.live t → Has x.live u → u.txn ≡ t.txn → Has o.site.live t
@@ -247,7 +248,7 @@ module _ (catalogue : Catalogue) (w new : Scene) (s : ℕ) (x : SiteState) (give
     stored : Stored
     granted : Granted x given to txn number rec exclusive stored
 
-  read_answered : (m : Sent) → ReplyTo x given o.site.participant m → (q : ℕ) (txn : TxnId) (number : ℕ) (value : List ℕ) → m.message ≡ message.ReadAnswer txn number value → NewAnswer q m.to txn number false
+  read_answered : (m : Sent) → ReplyTo x given o.site.participant m → (q : ℕ) (txn : TxnId) (number : ℕ) (value : Option (List ℕ)) → m.message ≡ message.ReadAnswer txn number value → NewAnswer q m.to txn number false
   read_answered m (ReplyTo.other quiet) q txn number value is = absurd (let z = ap is_reply is in cc)
   read_answered m (ReplyTo.doubt_again d a b i f) q txn number value is = absurd (let z = f ∙ is in cc)
   read_answered m (ReplyTo.vote_again part a b i z f) q txn number value is = absurd (let z = f ∙ is in cc)

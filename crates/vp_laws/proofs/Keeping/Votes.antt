@@ -1,7 +1,8 @@
 -- Prepares still belong to pending commits, and each vote has its prepare.
 use Rattle.std.proofs.Common.{◌≡◌, ◌≢◌, ◌∙◌, ap, sym, subst, ℕ, List, ⊎_elim}
 use Rattle.std.specs.Prelude.{Some}
-use Rattle.vp_model.specs.Types.{Change, ViewId, TxnId, Message, Input, Live}
+use Rattle.vp_model.specs.Transactions.{writes_held, last_changes, entry_of}
+use Rattle.vp_model.specs.Types.{Commit, Change, ViewId, TxnId, Message, Input, Live}
 use Rattle.vp_model.specs.Types.message
 use Rattle.vp_model.specs.Catalogue.{Catalogue, start_copies}
 use Rattle.vp_model.specs.Durable.{DurableState, empty_durable}
@@ -22,7 +23,7 @@ use Rattle.vp_laws.proofs.Lists.Numbers.{one_above}
 use Rattle.vp_laws.proofs.Invariant.Votes.{InvVotes, Voted, Prepared}
 use Rattle.vp_laws.proofs.Worlds.Sites.{Quiet, QuietIs, live_still, quiet_is, start_sent, started}
 
-prepared_same : (catalogue : Catalogue) (t u : Live) (to : ℕ) (view : ViewId) (number : ℕ) (reads : List ℕ) (writes : List (ℕ × Change)) → t.view ≡ u.view → t.ops ≡ u.ops → t.remote ≡ u.remote → t.parts ≡ u.parts → SameCall u.pending t.pending → IsPrepared catalogue u to view number reads writes → IsPrepared catalogue t to view number reads writes
+prepared_same : (catalogue : Catalogue) (t u : Live) (to : ℕ) (view : ViewId) (number : ℕ) (reads : List ℕ) (writes : List (ℕ × Change)) → t.view ≡ u.view → entry_of t ≡ entry_of u → t.remote ≡ u.remote → t.parts ≡ u.parts → SameCall u.pending t.pending → IsPrepared catalogue u to view number reads writes → IsPrepared catalogue t to view number reads writes
 prepared_same catalogue t u to view number reads writes v o r p c q =
     let n = c q.pending q.waits in
     record {
@@ -33,7 +34,7 @@ prepared_same catalogue t u to view number reads writes v o r p c q =
       part = rw p q.part;
       in_view = v ∙ q.in_view;
       has_read = rw r q.has_read;
-      has_written = rw o q.has_written;
+      has_written = ap (λ (e : Commit). writes_held catalogue to (last_changes e)) o ∙ q.has_written;
     }
 
 module _ (catalogue : Catalogue) (w new : Scene) (s : ℕ) (x : SiteState) (given : Input) (o : Stepped) (was : plain_at w s ≡ Some x) (id : x.id ≡ s) (arrives : Arrives w s given) (names : InvNames w) (inv : InvVotes catalogue w) (leads : Leads x o) (l : Votes catalogue x given o) (st : Acted w new s x o) where

@@ -3,8 +3,8 @@ use Rattle.std.proofs.Common.{◌≡◌, ◌⊎◌, ap, sym, ℕ, Bool, true, fa
 use Rattle.std.specs.Prelude.{Option, Some, None, ◌==◌, ◌&&◌, find, option_map, nat_lt, drop}
 use Rattle.std.specs.List.{list_all}
 use Rattle.vp_model.specs.Types.{Change, ViewId, Stored}
-use Rattle.vp_model.specs.Words.{without_first, change_first, put, replace_at, value_at, view_before, at_most, is_empty}
-use Rattle.vp_model.specs.Durable.{with_writes}
+use Rattle.vp_model.specs.Words.{without_first, change_first, put, change_at, replace_at, value_at, view_before, at_most, is_empty}
+use Rattle.vp_model.specs.Durable.{changed, with_writes}
 use Rattle.vp_model.specs.Refresh.{newer, newest}
 use Rattle.vp_laws.proofs.Lists.Members.{Has, has_none, has_one_is, has_first, has_more, has_cons, find_has, map_has}
 use Rattle.vp_laws.proofs.Lists.Views.{AtMost}
@@ -25,11 +25,19 @@ replaced {K} false n v p a pairs h e = inr (rw (← e) h)
 pub replace_has : {K : Type 0} (n : ℕ) (v : K) (pairs : List (ℕ × K)) (a : ℕ × K) → Has (replace_at n v pairs) a → (a.1 ≡ v) ⊎ Has pairs a
 replace_has {K} n v pairs a h = let r = map_has (λ (p : ℕ × K). cond (p.0 == n) (n, v) p) pairs a h in replaced (r.0.0 == n) n v r.0 a pairs r.1 r.2
 
+-- what stands after a change of the value at a number is changed, or was there
+pub change_has : {K : Type 0} (n : ℕ) (f : K → K) (pairs : List (ℕ × K)) (a : ℕ × K) → Has (change_at n f pairs) a → ((v : K) × (a.1 ≡ f v)) ⊎ Has pairs a
+change_has {K} n f pairs a h = let r = map_has (λ (p : ℕ × K). cond (p.0 == n) (n, f p.1) p) pairs a h in go (r.0.0 == n) r.0 r.1 r.2
+  where
+    go : (b : Bool) (p : ℕ × K) → Has pairs p → cond b (n, f p.1) p ≡ a → ((v : K) × (a.1 ≡ f v)) ⊎ Has pairs a
+    go true p q e = inl (p.1, ap (λ (z : ℕ × K). z.1) (sym e))
+    go false p q e = inr (rw (← e) q)
+
 pub writes_has : (date : ViewId) (writes : List (ℕ × Change)) (copies : List (ℕ × Stored)) (a : ℕ × Stored) → Has (with_writes date writes copies) a → (a.1.date ≡ date) ⊎ Has copies a
 writes_has date [] copies a h = inr h
 writes_has date (w ∷ writes) copies a h =
-    ⊎_elim (λ q. inl q) (λ old. ⊎_elim (λ (e : a.1 ≡ record { value = w.1; date = date }). inl (ap (λ (s : Stored). s.date) e)) (λ q. inr q) (replace_has w.0 (record { value = w.1; date = date }) copies a old))
-    (writes_has date writes (replace_at w.0 (record { value = w.1; date = date }) copies) a h)
+    ⊎_elim (λ q. inl q) (λ old. ⊎_elim (λ (q : (v : Stored) × (a.1 ≡ changed date w.1 v)). inl (ap (λ (s : Stored). s.date) q.1)) (λ q. inr q) (change_has w.0 (changed date w.1) copies a old))
+    (writes_has date writes (change_at w.0 (changed date w.1) copies) a h)
 
 pub value_has : {K : Type 0} (n : ℕ) (pairs : List (ℕ × K)) (v : K) → value_at n pairs ≡ Some v → (p : ℕ × K) × Has pairs p × (p.1 ≡ v)
 value_has {K} n pairs v e = go (find (λ (p : ℕ × K). p.0 == n) pairs) refl e

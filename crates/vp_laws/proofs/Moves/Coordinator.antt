@@ -1,6 +1,6 @@
 -- The rows of the coordinator consist of its small moves, so they keep a property of its part that survives these.
 use Rattle.std.proofs.Common.{◌≡◌, ◌∙◌, ℕ, zero, suc, ◌+◌, ◌-◌, ◌^◌, Bool, true, false, List, [], ◌∷◌, refl, arith, length, ap, sym, ⊎_elim}
-use Rattle.std.specs.Prelude.{Some, None, is_some, filter, slice_get, ◌==◌, nat_le, nat_lt}
+use Rattle.std.specs.Prelude.{Option, Some, None, is_some, filter, slice_get, if◌then◌else◌, ◌==◌, ◌||◌, nat_le, nat_lt}
 use Rattle.std.specs.List.{AllByRecursion}
 use Rattle.std.proofs.lemmas.Bool.Decides.{nat_tests}
 use Rattle.std.proofs.lemmas.Bool.{eqb-true}
@@ -11,14 +11,15 @@ use Rattle.vp_model.specs.Types.call
 use Rattle.vp_model.specs.Types.input
 use Rattle.vp_model.specs.Types.message
 use Rattle.vp_model.specs.Types.obstacle
-use Rattle.vp_model.specs.Words.{same_txn, has, first, value_at, is_empty}
+use Rattle.vp_model.specs.Types.op
+use Rattle.vp_model.specs.Words.{same_txn, has, first, first_some, value_at, is_empty}
 use Rattle.vp_model.specs.Catalogue.{Catalogue, find_record}
 use Rattle.vp_model.specs.Locks.{conflict}
 use Rattle.vp_model.specs.Site.{SiteState, Lent, surroundings, lent_reply, CoordinatorState, letters, lent_send}
-use Rattle.vp_model.specs.Transactions.{last_changes, entry_of, live_of, finished_of, close, close_all, decide}
+use Rattle.vp_model.specs.Transactions.{Deed, last_changes, entry_of, live_of, finished_of, close, close_all, complete, decide}
 use Rattle.vp_model.specs.Refresh.{is_open, other_holders}
 use Rattle.vp_model.specs.Views.{abandon}
-use Rattle.vp_model.specs.Calls.{handling, begin_in, on_begin, with_record, take_lock, lock_here, answer_read, answer_write, read, read_at, write_elsewhere, write, commit, new_call, live_call, finished_call, handled, on_txn_call, own_call}
+use Rattle.vp_model.specs.Calls.{handling, begin_in, on_begin, with_record, take_lock, lock_here, answer_read, read, read_at, change_elsewhere, change, new_change, is_bad_table, is_too_large, short, short_here, change_asked, commit, new_call, live_call, finished_call, handled, on_txn_call, own_call}
 use Rattle.vp_model.specs.Answers.{with_missing, count_in, read_answered, on_read_answer, write_answered, on_write_answer, refused_by, on_refuse, voted, on_vote, on_ack, on_inquire, on_answer, is_live}
 use Rattle.vp_model.specs.Step.{is_marked_call, least_missing, time_out_calls}
 use Rattle.vp_laws.proofs.Lists.Members.{Has, find_has, find_true, filter_has, has_first, has_more, has_none, has_cases, map_has}
@@ -26,7 +27,7 @@ use Rattle.vp_laws.proofs.Moves.Frames.{close-commits, close-ends}
 use Rattle.vp_laws.proofs.Lists.Changes.{without_first_has}
 use Rattle.vp_laws.proofs.Moves.LocalViews.{letter}
 use Rattle.vp_laws.specs.Votes.{is_commit}
-use Rattle.vp_laws.proofs.Moves.Table.{Closed, Comes, Handled, IsNext, Reads, Writes, Counts, remaining, IsLast, Locked, Completes, Decides, Replies, IsCallOf, Names, Says, Closes, is_abort, lent_at, OfCoordinator, SendsBack}
+use Rattle.vp_laws.proofs.Moves.Table.{Closed, Comes, Handled, IsNext, Reads, Changes, May, Tries, record_of, Counts, remaining, IsLast, Locked, Completes, Decides, Replies, IsCallOf, Names, Says, Closes, is_abort, lent_at, OfCoordinator, SendsBack}
 use Rattle.vp_laws.proofs.Lists.Keeps.{by_option, by_some, by_test}
 use Rattle.vp_model.proofs.SameTxn.{same_txn-is}
 
@@ -49,6 +50,27 @@ slice_has (y ∷ ys) (suc i) a e = has_more y ys a (slice_has ys i a e)
 -- neither below nor above the next number
 pub next_number : (n m : ℕ) → nat_le n m ≡ false → nat_lt (m + 1) n ≡ false → n ≡ m + 1
 next_number n m a b = grind (arith, nat_tests, a, b)
+
+-- neither test holds
+pub neither : (a b : Bool) → (a || b) ≡ false → a ≡ false
+neither true b e = e
+neither false b e = refl
+
+pub nor : (a b : Bool) → (a || b) ≡ false → b ≡ false
+nor true b e = cc
+nor false b e = e
+
+-- not short by the record's own table
+none_first : {X : Type 0} (a b : Option X) → first_some a b ≡ None → b ≡ None
+none_first (Some y) b e = cc
+none_first None b e = e
+
+pub open_here : (catalogue : Catalogue) (x : SiteState) (rec : ℕ) (deed : Deed) → short catalogue x.held rec deed ≡ None → is_open catalogue x rec ≡ true
+open_here catalogue x rec deed e = usable (is_open catalogue x rec) _ (none_first _ (short_here catalogue x.held rec) e)
+  where
+    usable : (b : Bool) (w : ℕ × ℕ) → (if b then None else Some w) ≡ None → b ≡ true
+    usable true w e = refl
+    usable false w e = cc
 
 module _ (catalogue : Catalogue) (x : SiteState) (given : Input) (Q : Lent → Type 0) (k : OfCoordinator catalogue x given Q) (h : Q (lent_at x)) where
   abbrev Closing : (Live → Ending) → Live → Type 0
@@ -118,33 +140,40 @@ module _ (catalogue : Catalogue) (x : SiteState) (given : Input) (Q : Lent → T
     lock_here-kept name rec exclusive stored rest m a e n =
         by_option Q _ _ _ (λ holder f. closing-kept (LockHeld name x.id holder) refl (Closes.held_here t p name rec exclusive holder here next refl m f)) (λ c. n c (k.take_lock t rec exclusive stored here next.idle a e c))
 
-    read-kept : (name : List ℕ) (rec : ℕ) → nat_le 64 (length t.ops) ≡ false → Names p.call name → Reads catalogue p rec → is_open catalogue x rec ≡ true → Q (read catalogue x.id x.held t p name rec (lent_at x))
+    read-kept : (name : List ℕ) (rec : ℕ) → nat_le 64 (length t.answers) ≡ false → Names p.call name → Reads catalogue p rec → is_open catalogue x rec ≡ true → Q (read catalogue x.id x.held t p name rec (lent_at x))
     unfolding read take_lock
     read-kept name rec few m r a =
-        by_option Q _ _ _ (λ value e. k.complete t p _ _ (lent_at x) here (Completes.own_write rec value next r a e refl refl refl) (λ i. few) refl h)
+        by_option Q _ _ _ (λ value e. k.complete t p _ (lent_at x) here (Completes.own_write rec value next r a e refl refl) (λ i. few) refl h)
         (λ n. by_option Q _ _ _
-        (λ stored e. lock_here-kept name rec false stored (answer_read t p rec stored.value) m a e (λ c q. k.complete t p _ _ (take_lock t.txn rec false (lent_at x)) here (Completes.own_copy rec stored next r a n e c refl refl refl) (λ i. few) refl q))
+        (λ stored e. lock_here-kept name rec false stored (answer_read t p rec stored.value) m a e (λ c q. k.complete t p _ (take_lock t.txn rec false (lent_at x)) here (Completes.own_copy rec stored next r a n e c refl refl) (λ i. few) refl q))
         (λ none. by_some Q (first (other_holders catalogue x rec)) (read_at x.id t p rec) (lent_at x) (λ q e. k.read_at t p rec q here next r a n none (first_has _ q e) few) h))
 
-    write_elsewhere-kept : (rec : ℕ) (value : List ℕ) (l : Lent) → nat_le 64 (length t.ops) ≡ false → Writes catalogue p rec value → is_open catalogue x rec ≡ true → value_at rec (last_changes (entry_of t)) ≡ None → Locked x t rec l → l.live ≡ x.live → Q l → Q (write_elsewhere catalogue x.id x.held t p rec value l)
-    unfolding write_elsewhere
-    write_elsewhere-kept rec value l few w a n taken live q =
-        by_test Q (is_empty (other_holders catalogue x rec)) _ _ (λ e. k.complete t p _ _ l here (Completes.write_alone rec value next w a n e refl refl taken) (λ i. few) live q)
-        (λ e. k.write_at t p rec value l here next w a n e taken few live q)
+    change_elsewhere-kept : (rec : ℕ) (deed : Deed) (l : Lent) → nat_le 64 (length t.answers) ≡ false → Changes catalogue p rec deed → May catalogue x t rec deed → value_at rec (last_changes (entry_of t)) ≡ None → Locked x t rec l → l.live ≡ x.live → Q l → Q (change_elsewhere catalogue x.id x.held t p rec deed l)
+    unfolding change_elsewhere
+    change_elsewhere-kept rec deed l few w a n taken live q =
+        by_test Q (is_empty (other_holders catalogue x rec)) _ _ (λ e. k.complete t p deed l here (Completes.change_alone rec next w a n e taken) (λ i. few) live q)
+        (λ e. k.write_at t p rec deed l here next w a n e taken few live q)
 
-    write-kept : (name value : List ℕ) (rec : ℕ) → nat_le 64 (length t.ops) ≡ false → Names p.call name → Writes catalogue p rec value → is_open catalogue x rec ≡ true → Q (write catalogue x.id x.held t p name value rec (lent_at x))
-    unfolding write take_lock
-    write-kept name value rec few m w a =
-        by_option Q _ _ _ (λ before e. k.complete t p _ _ (lent_at x) here (Completes.write_again rec before value next w a e refl refl refl) (λ i. few) refl h)
+    change-kept : (name : List ℕ) (asked : ℕ → Deed) (rec : ℕ) → nat_le 64 (length t.answers) ≡ false → Names p.call name → Changes catalogue p rec (asked rec) → May catalogue x t rec (asked rec) → Q (change catalogue x.id x.held t p name asked rec (lent_at x))
+    unfolding change take_lock
+    change-kept name asked rec few m w a =
+        by_option Q _ _ _ (λ before e. k.complete t p _ (lent_at x) here (Completes.change_again rec before next w a e refl) (λ i. few) refl h)
         (λ n. by_option Q _ _ _
-        (λ stored e. lock_here-kept name rec true stored (write_elsewhere catalogue x.id x.held t p rec value) m a e (λ c q. write_elsewhere-kept rec value (take_lock t.txn rec true (lent_at x)) few w a n (Locked.locked stored e c refl) refl q))
-        (λ none. write_elsewhere-kept rec value (lent_at x) few w a n (Locked.no_copy none refl) refl h))
+        (λ stored e. lock_here-kept name rec true stored (change_elsewhere catalogue x.id x.held t p rec (asked rec)) m a.usable e (λ c q. change_elsewhere-kept rec (asked rec) (take_lock t.txn rec true (lent_at x)) few w a n (Locked.locked stored e c refl) refl q))
+        (λ none. change_elsewhere-kept rec (asked rec) (lent_at x) few w a n (Locked.no_copy none refl) refl h))
 
-    with_record-kept : (name : List ℕ) (use_record : ℕ → Lent → Lent) → Names p.call name → ((rec : ℕ) → find_record catalogue name ≡ Some rec → nat_le 64 (length t.ops) ≡ false → is_open catalogue x rec ≡ true → Q (use_record rec (lent_at x))) → Q (with_record catalogue x.held t p name use_record (lent_at x))
+    with_record-kept : (name : List ℕ) (asked : ℕ → Deed) (use_record : ℕ → Lent → Lent) → Names p.call name → ((rec : ℕ) → Tries p.call rec (asked rec)) → ((rec : ℕ) → find_record catalogue name ≡ Some rec → nat_le 64 (length t.answers) ≡ false → May catalogue x t rec (asked rec) → Q (use_record rec (lent_at x))) → Q (with_record catalogue x.held t p name asked use_record (lent_at x))
     unfolding with_record
-    with_record-kept name use_record m used = by_option Q _ _ _
-        (λ rec e. by_test Q (nat_le 64 (length t.ops)) _ _ (λ many. k.answers _ _ (Replies.other refl) (Says.many t p.call p.number next.comes here next.number)) (λ few. by_test Q (is_open catalogue x rec) _ _ (λ a. used rec e few a) (λ not_usable. k.answers _ _ (Replies.other refl) (Says.inaccessible t p.call p.number name rec next.comes here next.number m e))))
+    with_record-kept name asked use_record m tries used = by_option Q _ _ _
+        (λ rec e. by_test Q (is_bad_table catalogue (asked rec)) _ _ (λ bad. k.answers _ _ (Replies.other refl) (Says.bad_table t p.call p.number next.comes here next.number))
+        (λ table. by_test Q (nat_le 64 (length t.answers) || is_too_large t (asked rec)) _ _ (λ many. k.answers _ _ (Replies.other refl) (Says.many t p.call p.number next.comes here next.number))
+        (λ fits. by_option Q _ (short catalogue x.held rec (asked rec)) _ (λ weights s. k.answers _ _ (Replies.other refl) (Says.inaccessible t p.call p.number name rec (asked rec) weights next.comes here next.number m e (tries rec) s))
+        (λ enough. used rec e (neither _ _ fits) (record { table = table; fits = nor (nat_le 64 (length t.answers)) _ fits; enough = enough; usable = open_here catalogue x rec (asked rec) enough })))))
         (λ none. k.answers _ _ (Replies.other refl) (Says.no_record t p.call p.number next.comes here next.number))
+
+    new_change-kept : (name : List ℕ) (asked : ℕ → Deed) → Names p.call name → ((rec : ℕ) → Tries p.call rec (asked rec)) → ((rec : ℕ) → find_record catalogue name ≡ Some rec → Changes catalogue p rec (asked rec)) → Q (new_change catalogue x.id x.held t p name asked (lent_at x))
+    unfolding new_change
+    new_change-kept name asked m tries changes = with_record-kept name asked _ m tries (λ rec f few a. change-kept name asked rec few m (changes rec f) a)
 
     commit-kept : is_commit p.call ≡ true → Q (commit catalogue x.id t p (lent_at x))
     unfolding commit
@@ -152,8 +181,12 @@ module _ (catalogue : Catalogue) (x : SiteState) (given : Input) (Q : Lent → T
 
     new_call-kept : (words : Call) → p.call ≡ words → Q (new_call catalogue x.id x.held t p words (lent_at x))
     unfolding new_call
-    new_call-kept (call.Read txn number name) e = let m : Names p.call name = Names.reads txn number e in with_record-kept name _ m (λ rec f few. read-kept name rec few m (record { txn = txn; number = number; name = name; words = e; found = f }))
-    new_call-kept (call.Write txn number name value) e = let m : Names p.call name = Names.writes txn number value e in with_record-kept name _ m (λ rec f few. write-kept name value rec few m (record { txn = txn; number = number; name = name; words = e; found = f }))
+    new_call-kept (call.Read txn number name) e =
+        let m : Names p.call name = Names.reads txn number e in
+        with_record-kept name (λ rec. Deed.operates (op.Read rec None)) _ m (λ rec. Tries.reads txn number name e) (λ rec f few a. read-kept name rec few m (record { txn = txn; number = number; name = name; words = e; found = f }) a.usable)
+    new_call-kept (call.Write txn number name value) e = new_change-kept name (λ rec. Deed.operates (op.Write rec (Some value))) (Names.writes txn number value e) (λ rec. Tries.writes txn number name value e) (λ rec f. record { asked = rw (e, f) refl; on = refl })
+    new_call-kept (call.Delete txn number name) e = new_change-kept name (λ rec. Deed.operates (op.Write rec None)) (Names.deletes txn number e) (λ rec. Tries.deletes txn number name e) (λ rec f. record { asked = rw (e, f) refl; on = refl })
+    new_call-kept (call.Weigh txn number name table) e = new_change-kept name (λ rec. Deed.weighs rec table) (Names.weighs txn number table e) (λ rec. Tries.weighs txn number name table e) (λ rec f. record { asked = rw (e, f) refl; on = refl })
     new_call-kept (call.Commit txn number) e = commit-kept (rw e refl)
     new_call-kept (call.Abort txn number) e = closing-kept Aborted refl (Closes.aborted t p here next refl)
     new_call-kept call.Begin e = h
@@ -183,6 +216,8 @@ module _ (catalogue : Catalogue) (x : SiteState) (given : Input) (Q : Lent → T
   own_call-kept port call.Regroup comes = h
   own_call-kept port (call.Read txn number name) comes = on_txn_call-kept port txn number (call.Read txn number name) comes (IsCallOf.reads txn number name)
   own_call-kept port (call.Write txn number name value) comes = on_txn_call-kept port txn number (call.Write txn number name value) comes (IsCallOf.writes txn number name value)
+  own_call-kept port (call.Delete txn number name) comes = on_txn_call-kept port txn number (call.Delete txn number name) comes (IsCallOf.deletes txn number name)
+  own_call-kept port (call.Weigh txn number name table) comes = on_txn_call-kept port txn number (call.Weigh txn number name table) comes (IsCallOf.weighs txn number name table)
   own_call-kept port (call.Commit txn number) comes = on_txn_call-kept port txn number (call.Commit txn number) comes (IsCallOf.commits txn number)
   own_call-kept port (call.Abort txn number) comes = on_txn_call-kept port txn number (call.Abort txn number) comes (IsCallOf.aborts txn number)
 
@@ -199,7 +234,7 @@ module _ (catalogue : Catalogue) (x : SiteState) (given : Input) (Q : Lent → T
   is_pending : {A : Type 0} (t : Live) (p : Pending) → t.pending ≡ Some p → is_some t.pending ≡ false → A
   is_pending t p f i = let z : is_some t.pending ≡ true = rw f refl in cc
 
-  read_came : (from : ℕ) (t u : TxnId) (n m : ℕ) (value : List ℕ) → Comes given from (message.ReadAnswer t n value) → u ≡ t → m ≡ n → Comes given from (message.ReadAnswer u m value)
+  read_came : (from : ℕ) (t u : TxnId) (n m : ℕ) (value : Option (List ℕ)) → Comes given from (message.ReadAnswer t n value) → u ≡ t → m ≡ n → Comes given from (message.ReadAnswer u m value)
   read_came from t u n m value c e f = rw (e, f) c
 
   write_came : (from : ℕ) (t u : TxnId) (n m : ℕ) → Comes given from (message.WriteAnswer t n) → u ≡ t → m ≡ n → Comes given from (message.WriteAnswer u m)
@@ -208,49 +243,49 @@ module _ (catalogue : Catalogue) (x : SiteState) (given : Input) (Q : Lent → T
   vote_came : (from : ℕ) (t u : TxnId) → Comes given from (message.Vote t) → u ≡ t → Comes given from (message.Vote u)
   vote_came from t u c e = rw e c
 
-  read_answered-kept : (from : ℕ) (txn : TxnId) (number : ℕ) (value : List ℕ) (t : Live) (p : Pending) (words : Call) → p.call ≡ words → Comes given from (message.ReadAnswer txn number value) → Has x.live t → t.txn ≡ txn → t.pending ≡ Some p → has p.missing from ≡ true → Q (read_answered catalogue from number value t p words (lent_at x))
+  read_answered-kept : (from : ℕ) (txn : TxnId) (number : ℕ) (value : Option (List ℕ)) (t : Live) (p : Pending) (words : Call) → p.call ≡ words → Comes given from (message.ReadAnswer txn number value) → Has x.live t → t.txn ≡ txn → t.pending ≡ Some p → has p.missing from ≡ true → Q (read_answered catalogue from number value t p words (lent_at x))
   read_answered-kept from txn number value t p (call.Read called n name) e c here same f m =
       by_test Q (p.number == number) _ _ (λ numbered.
       let came : Comes given from (message.ReadAnswer t.txn p.number value) = read_came from txn t.txn number p.number value c same (eqb-true p.number number numbered) in
       by_some Q (find_record catalogue name) _ (lent_at x) (λ rec found.
       let reads : Reads catalogue p rec = record { txn = called; number = n; name = name; words = e; found = found } in
-      count_in-kept from t p (answer_read t p rec value) here f m (Counts.read rec value came reads) (λ last. k.complete t p _ _ (lent_at x) here (Completes.read_answered from rec value came last reads refl refl refl) (is_pending t p f) refl h)) h)
+      count_in-kept from t p (answer_read t p rec value) here f m (Counts.read rec value came reads) (λ last. k.complete t p _ (lent_at x) here (Completes.read_answered from rec value came last reads refl refl) (is_pending t p f) refl h)) h)
       (λ other. h)
   read_answered-kept from txn number value t p (call.Write called n name v) e c here same f m = h
+  read_answered-kept from txn number value t p (call.Delete called n name) e c here same f m = h
+  read_answered-kept from txn number value t p (call.Weigh called n name table) e c here same f m = h
   read_answered-kept from txn number value t p (call.Commit called n) e c here same f m = h
   read_answered-kept from txn number value t p (call.Abort called n) e c here same f m = h
   read_answered-kept from txn number value t p call.Begin e c here same f m = h
   read_answered-kept from txn number value t p call.Regroup e c here same f m = h
 
-  on_read_answer-kept : (from : ℕ) (txn : TxnId) (number : ℕ) (value : List ℕ) → Comes given from (message.ReadAnswer txn number value) → Q (on_read_answer catalogue from txn number value (lent_at x))
+  on_read_answer-kept : (from : ℕ) (txn : TxnId) (number : ℕ) (value : Option (List ℕ)) → Comes given from (message.ReadAnswer txn number value) → Q (on_read_answer catalogue from txn number value (lent_at x))
   unfolding on_read_answer
   on_read_answer-kept from txn number value c = with_missing-kept txn from _ (λ t p here same f m. read_answered-kept from txn number value t p p.call refl c here same f m)
 
-  write_answered-kept : (from : ℕ) (txn : TxnId) (number : ℕ) (t : Live) (p : Pending) (words : Call) → p.call ≡ words → Comes given from (message.WriteAnswer txn number) → Has x.live t → t.txn ≡ txn → t.pending ≡ Some p → has p.missing from ≡ true → Q (write_answered catalogue from number t p words (lent_at x))
-  write_answered-kept from txn number t p (call.Write called n name value) e c here same f m =
+  write_answered-kept : (from : ℕ) (txn : TxnId) (number : ℕ) (t : Live) (p : Pending) → Comes given from (message.WriteAnswer txn number) → Has x.live t → t.txn ≡ txn → t.pending ≡ Some p → has p.missing from ≡ true → Q (write_answered catalogue from number t p (lent_at x))
+  write_answered-kept from txn number t p c here same f m =
       by_test Q (p.number == number) _ _ (λ numbered.
       let came : Comes given from (message.WriteAnswer t.txn p.number) = write_came from txn t.txn number p.number c same (eqb-true p.number number numbered) in
-      by_some Q (find_record catalogue name) _ (lent_at x) (λ rec found.
-      let writes : Writes catalogue p rec value = record { txn = called; number = n; name = name; words = e; found = found } in
-      count_in-kept from t p (answer_write t p rec value) here f m (Counts.written rec value came writes) (λ last. k.complete t p _ _ (lent_at x) here (Completes.write_answered from rec value came last writes refl refl refl) (is_pending t p f) refl h)) h)
+      by_some Q (change_asked catalogue p.call) _ (lent_at x) (λ deed asked.
+      let changes : Changes catalogue p (record_of deed) deed = record { asked = asked; on = refl } in
+      count_in-kept from t p (complete t p deed) here f m (Counts.changed (record_of deed) deed came changes) (λ last. k.complete t p deed (lent_at x) here (Completes.change_answered from (record_of deed) came last changes refl) (is_pending t p f) refl h)) h)
       (λ other. h)
-  write_answered-kept from txn number t p (call.Read called n name) e c here same f m = h
-  write_answered-kept from txn number t p (call.Commit called n) e c here same f m = h
-  write_answered-kept from txn number t p (call.Abort called n) e c here same f m = h
-  write_answered-kept from txn number t p call.Begin e c here same f m = h
-  write_answered-kept from txn number t p call.Regroup e c here same f m = h
 
   on_write_answer-kept : (from : ℕ) (txn : TxnId) (number : ℕ) → Comes given from (message.WriteAnswer txn number) → Q (on_write_answer catalogue from txn number (lent_at x))
   unfolding on_write_answer
-  on_write_answer-kept from txn number c = with_missing-kept txn from _ (λ t p here same f m. write_answered-kept from txn number t p p.call refl c here same f m)
+  on_write_answer-kept from txn number c = with_missing-kept txn from _ (λ t p here same f m. write_answered-kept from txn number t p c here same f m)
 
   refused_by-kept : (why : Obstacle) (words : Call) (from : ℕ) (t : Live) (p : Pending) (txn : TxnId) (number : ℕ) → t.pending ≡ Some p → p.call ≡ words → Comes given from (message.Refuse txn number why) → Has x.live t → Q (refused_by x.id why words from t (lent_at x))
   refused_by-kept (obstacle.Held holder) (call.Read txn number name) from t p u n f e c here = k.close t (LockHeld name from holder) (lent_at x) (handled_as t here) refl refl (Closes.held_there p u n from name holder here f (Names.reads txn number e) c) h
   refused_by-kept (obstacle.Held holder) (call.Write txn number name value) from t p u n f e c here = k.close t (LockHeld name from holder) (lent_at x) (handled_as t here) refl refl (Closes.held_there p u n from name holder here f (Names.writes txn number value e) c) h
+  refused_by-kept (obstacle.Held holder) (call.Delete txn number name) from t p u n f e c here = k.close t (LockHeld name from holder) (lent_at x) (handled_as t here) refl refl (Closes.held_there p u n from name holder here f (Names.deletes txn number e) c) h
+  refused_by-kept (obstacle.Held holder) (call.Weigh txn number name table) from t p u n f e c here = k.close t (LockHeld name from holder) (lent_at x) (handled_as t here) refl refl (Closes.held_there p u n from name holder here f (Names.weighs txn number table e) c) h
   refused_by-kept (obstacle.Held holder) (call.Commit txn number) from t p u n f e c here = h
   refused_by-kept (obstacle.Held holder) (call.Abort txn number) from t p u n f e c here = h
   refused_by-kept (obstacle.Held holder) call.Begin from t p u n f e c here = h
   refused_by-kept (obstacle.Held holder) call.Regroup from t p u n f e c here = h
+  refused_by-kept (obstacle.Barred inside total) words from t p u n f e c here = h
   refused_by-kept (obstacle.OtherView now) words from t p u n f e c here = k.close t (ViewChanged from t.view now) (lent_at x) (handled_as t here) refl refl (Closes.other_view u n from now here c) h
 
   on_refuse-kept : (from : ℕ) (txn : TxnId) (number : ℕ) (why : Obstacle) → Comes given from (message.Refuse txn number why) → Q (on_refuse x.id from txn number why (lent_at x))
@@ -264,6 +299,8 @@ module _ (catalogue : Catalogue) (x : SiteState) (given : Input) (Q : Lent → T
       count_in-kept from t p (decide catalogue x.id t) here f m (Counts.voted came commit) (λ last. k.decide t (handled_as t here) (Decides.voted p from here last came commit))
   voted-kept from txn t p (call.Read called n name) e c here same f m = h
   voted-kept from txn t p (call.Write called n name value) e c here same f m = h
+  voted-kept from txn t p (call.Delete called n name) e c here same f m = h
+  voted-kept from txn t p (call.Weigh called n name table) e c here same f m = h
   voted-kept from txn t p (call.Abort called n) e c here same f m = h
   voted-kept from txn t p call.Begin e c here same f m = h
   voted-kept from txn t p call.Regroup e c here same f m = h

@@ -1,23 +1,24 @@
 -- A property of the coordinator's state and of the replies that survives the small moves is kept by a whole step.
 use Rattle.std.proofs.Common.{◌≡◌, ◌∙◌, ◌++◌, sym, ℕ, ◌+◌, Bool, true, false, List, [], ◌∷◌, refl, arith, length, append-nil}
-use Rattle.std.specs.Prelude.{Option, Some, None, is_some, filter, ◌==◌, nat_le, nat_lt, ◌&&◌}
+use Rattle.std.specs.Prelude.{Option, Some, None, is_some, filter, ◌==◌, nat_le, nat_lt, ◌&&◌, ◌||◌}
 use Rattle.std.proofs.lemmas.Bool.{eqb-true}
 use Rattle.std.proofs.lemmas.Bool.Decides.{nat_tests}
-use Rattle.vp_model.specs.Types.{TxnId, Op, Commit, Reply, Call, Answer, Message, Obstacle, Input, Pending, Live, Ending, Finished, Effects}
+use Rattle.vp_model.specs.Types.{TxnId, Commit, Reply, Call, Answer, Message, Obstacle, Input, Pending, Live, Ending, Finished, Effects}
 use Rattle.vp_base.specs.declared.site.Ending.TheVariants.{Committed, LockHeld, ViewChanged, TimedOut, Aborted}
 use Rattle.vp_model.specs.Types.answer
 use Rattle.vp_model.specs.Types.call
 use Rattle.vp_model.specs.Types.input
 use Rattle.vp_model.specs.Types.message
 use Rattle.vp_model.specs.Types.obstacle
+use Rattle.vp_model.specs.Types.op
 use Rattle.vp_model.specs.Words.{same_txn, has, first, value_at, is_empty}
 use Rattle.vp_model.specs.Catalogue.{Catalogue, find_record}
 use Rattle.vp_model.specs.Locks.{conflict}
 use Rattle.vp_model.specs.Site.{CoordinatorState, SiteState, Lent, surroundings, lent_reply}
-use Rattle.vp_model.specs.Transactions.{last_changes, entry_of, with_finished, with_pending_reply, live_of, finished_of, finish, close, close_all, keep_writes, decided, decide, complete}
+use Rattle.vp_model.specs.Transactions.{Deed, last_changes, entry_of, with_finished, with_pending_reply, live_of, finished_of, finish, close, close_all, keep_writes, decided, decide, complete}
 use Rattle.vp_model.specs.Refresh.{is_open, other_holders}
 use Rattle.vp_model.specs.Views.{abandon}
-use Rattle.vp_model.specs.Calls.{handling, start_txn, begin_in, on_begin, with_record, take_lock, lock_here, answer_read, answer_write, read, read_at, write_elsewhere, write, write_at, commit, prepare_parts, new_call, live_call, finished_call, handled, on_txn_call, own_call}
+use Rattle.vp_model.specs.Calls.{handling, start_txn, begin_in, on_begin, with_record, take_lock, lock_here, answer_read, read, read_at, change_elsewhere, change, new_change, is_bad_table, is_too_large, short, change_asked, write_at, commit, prepare_parts, new_call, live_call, finished_call, handled, on_txn_call, own_call}
 use Rattle.vp_model.specs.Answers.{with_missing, count_in, read_answered, on_read_answer, write_answered, on_write_answer, refused_by, on_refuse, voted, on_vote, on_ack, on_inquire, on_answer}
 use Rattle.vp_model.specs.Told.{is_call}
 use Rattle.vp_model.specs.Step.{is_marked_call, least_missing, time_out_calls, mark_calls}
@@ -26,8 +27,8 @@ use Rattle.vp_laws.specs.Votes.{is_commit}
 use Rattle.vp_laws.proofs.Lists.Members.{Has, filter_has, has_first, has_more, find_has, find_true}
 use Rattle.vp_laws.proofs.Moves.Frames.{close-commits, decided-ends, decided-commits, decide-cases}
 use Rattle.vp_model.proofs.SameTxn.{same_txn-is}
-use Rattle.vp_laws.proofs.Moves.Coordinator.{live_of-has, live_of-is, next_number}
-use Rattle.vp_laws.proofs.Moves.Table.{Comes, Handled, Reads, Writes, remaining, IsLast, Locked, Completes, Decides, lent_at}
+use Rattle.vp_laws.proofs.Moves.Coordinator.{live_of-has, live_of-is, next_number, nor, open_here}
+use Rattle.vp_laws.proofs.Moves.Table.{Comes, Handled, Reads, Changes, May, Tries, record_of, remaining, IsLast, Locked, Completes, Decides, lent_at}
 use Rattle.vp_laws.proofs.Moves.Reasons.{Called, IsCallOf, Operates, Takes, Awaits, Why, is_plain, Tells, last_reply, IsDone, IsDecided, Goes, Front}
 use Rattle.vp_laws.proofs.Moves.Numbered.{Numbers, fits, turned, turned_txn}
 use Rattle.vp_laws.proofs.Lists.Keeps.{by_option, by_some, by_test}
@@ -123,37 +124,44 @@ module _ (catalogue : Catalogue) (x : SiteState) (given : Input) (after : SiteSt
     lock_here-front name rec exclusive rest o f n =
         by_option Q _ _ _ (λ holder e. closing-now (LockHeld name x.id holder) (Why.held_here t p name rec exclusive holder at refl o f e)) n
 
-    completes : (operation : Op) (words : Answer) (l : Lent) → l.coordinator ≡ x.coordinator → l.effects.replies ≡ [] → l.effects.commits ≡ [] → Completes catalogue x given t p operation words l → Q (complete t p operation words l)
+    completes : (deed : Deed) (l : Lent) → l.coordinator ≡ x.coordinator → l.effects.replies ≡ [] → l.effects.commits ≡ [] → Completes catalogue x given t p deed l → Q (complete t p deed l)
     unfolding complete
-    completes operation words l c rs cs done = rw (c, rs, cs) (k.complete t p operation words l at.live (IsDone.at_once at) done)
+    completes deed l c rs cs done = rw (c, rs, cs) (k.complete t p deed l at.live (IsDone.at_once at) done)
 
     read-front : (name : List ℕ) (rec : ℕ) → Operates p.call name false → find_record catalogue name ≡ Some rec → Reads catalogue p rec → is_open catalogue x rec ≡ true → Q (read catalogue x.id x.held t p name rec (lent_at x))
     unfolding read take_lock read_at
     read-front name rec o f r a =
-        by_option Q _ _ _ (λ value e. completes _ _ (lent_at x) refl refl refl (Completes.own_write rec value at.next r a e refl refl refl))
+        by_option Q _ _ _ (λ value e. completes _ (lent_at x) refl refl refl (Completes.own_write rec value at.next r a e refl refl))
         (λ n. by_option Q _ _ _
-        (λ stored e. lock_here-front name rec false (answer_read t p rec stored.value) o f (λ c. completes _ _ (take_lock t.txn rec false (lent_at x)) refl refl refl (Completes.own_copy rec stored at.next r a n e c refl refl refl)))
+        (λ stored e. lock_here-front name rec false (answer_read t p rec stored.value) o f (λ c. completes _ (take_lock t.txn rec false (lent_at x)) refl refl refl (Completes.own_copy rec stored at.next r a n e c refl refl)))
         (λ none. by_some Q (first (other_holders catalogue x rec)) (read_at x.id t p rec) (lent_at x) (λ q e. k.goes t (reading t p rec q) p at (Goes.reads rec q)) h))
 
-    write_elsewhere-front : (rec : ℕ) (value : List ℕ) (l : Lent) → l.coordinator ≡ x.coordinator → l.effects.replies ≡ [] → l.effects.commits ≡ [] → Writes catalogue p rec value → is_open catalogue x rec ≡ true → value_at rec (last_changes (entry_of t)) ≡ None → Locked x t rec l → Q (write_elsewhere catalogue x.id x.held t p rec value l)
-    unfolding write_elsewhere write_at
-    write_elsewhere-front rec value l c rs cs w a n taken =
-        by_test Q (is_empty (other_holders catalogue x rec)) _ _ (λ e. completes _ _ l c rs cs (Completes.write_alone rec value at.next w a n e refl refl taken))
+    change_elsewhere-front : (rec : ℕ) (deed : Deed) (l : Lent) → l.coordinator ≡ x.coordinator → l.effects.replies ≡ [] → l.effects.commits ≡ [] → Changes catalogue p rec deed → May catalogue x t rec deed → value_at rec (last_changes (entry_of t)) ≡ None → Locked x t rec l → Q (change_elsewhere catalogue x.id x.held t p rec deed l)
+    unfolding change_elsewhere write_at
+    change_elsewhere-front rec deed l c rs cs w a n taken =
+        by_test Q (is_empty (other_holders catalogue x rec)) _ _ (λ e. completes deed l c rs cs (Completes.change_alone rec at.next w a n e taken))
         (λ e. rw (c, rs, cs) (k.goes t (writing t p (other_holders catalogue x rec)) p at (Goes.writes (other_holders catalogue x rec))))
 
-    write-front : (name value : List ℕ) (rec : ℕ) → Operates p.call name true → find_record catalogue name ≡ Some rec → Writes catalogue p rec value → is_open catalogue x rec ≡ true → Q (write catalogue x.id x.held t p name value rec (lent_at x))
-    unfolding write take_lock
-    write-front name value rec o f w a =
-        by_option Q _ _ _ (λ before e. completes _ _ (lent_at x) refl refl refl (Completes.write_again rec before value at.next w a e refl refl refl))
+    change-front : (name : List ℕ) (asked : ℕ → Deed) (rec : ℕ) → Operates p.call name true → find_record catalogue name ≡ Some rec → Changes catalogue p rec (asked rec) → May catalogue x t rec (asked rec) → Q (change catalogue x.id x.held t p name asked rec (lent_at x))
+    unfolding change take_lock
+    change-front name asked rec o f w a =
+        by_option Q _ _ _ (λ before e. completes (asked rec) (lent_at x) refl refl refl (Completes.change_again rec before at.next w a e refl))
         (λ n. by_option Q _ _ _
-        (λ stored e. lock_here-front name rec true (write_elsewhere catalogue x.id x.held t p rec value) o f (λ c. write_elsewhere-front rec value (take_lock t.txn rec true (lent_at x)) refl refl refl w a n (Locked.locked stored e c refl)))
-        (λ none. write_elsewhere-front rec value (lent_at x) refl refl refl w a n (Locked.no_copy none refl)))
+        (λ stored e. lock_here-front name rec true (change_elsewhere catalogue x.id x.held t p rec (asked rec)) o f (λ c. change_elsewhere-front rec (asked rec) (take_lock t.txn rec true (lent_at x)) refl refl refl w a n (Locked.locked stored e c refl)))
+        (λ none. change_elsewhere-front rec (asked rec) (lent_at x) refl refl refl w a n (Locked.no_copy none refl)))
 
-    with_record-front : (name : List ℕ) (exclusive : Bool) → Operates p.call name exclusive → (use_record : ℕ → Lent → Lent) → ((rec : ℕ) → find_record catalogue name ≡ Some rec → is_open catalogue x rec ≡ true → Q (use_record rec (lent_at x))) → Q (with_record catalogue x.held t p name use_record (lent_at x))
+    with_record-front : (name : List ℕ) (exclusive : Bool) → Operates p.call name exclusive → (asked : ℕ → Deed) (use_record : ℕ → Lent → Lent) → ((rec : ℕ) → Tries p.call rec (asked rec)) → ((rec : ℕ) → find_record catalogue name ≡ Some rec → May catalogue x t rec (asked rec) → Q (use_record rec (lent_at x))) → Q (with_record catalogue x.held t p name asked use_record (lent_at x))
     unfolding with_record
-    with_record-front name exclusive op use_record used = by_option Q _ _ _
-        (λ rec e. by_test Q (nat_le 64 (length t.ops)) _ _ (λ many. numbered t p at.called _ refl (turned t.txn p.number)) (λ few. by_test Q (is_open catalogue x rec) _ _ (λ a. used rec e a) (λ not_usable. told _ _ (Tells.inaccessible t p name rec exclusive at op e not_usable))))
+    with_record-front name exclusive op asked use_record tries used = by_option Q _ _ _
+        (λ rec e. by_test Q (is_bad_table catalogue (asked rec)) _ _ (λ bad. numbered t p at.called _ refl (turned t.txn p.number))
+        (λ table. by_test Q (nat_le 64 (length t.answers) || is_too_large t (asked rec)) _ _ (λ many. numbered t p at.called _ refl (turned t.txn p.number))
+        (λ fits. by_option Q _ (short catalogue x.held rec (asked rec)) _ (λ weights s. told _ _ (Tells.inaccessible t p name rec exclusive (asked rec) weights at op e (tries rec) s))
+        (λ enough. used rec e (record { table = table; fits = nor (nat_le 64 (length t.answers)) _ fits; enough = enough; usable = open_here catalogue x rec (asked rec) enough })))))
         (λ none. numbered t p at.called _ refl (turned t.txn p.number))
+
+    new_change-front : (name : List ℕ) (asked : ℕ → Deed) → Operates p.call name true → ((rec : ℕ) → Tries p.call rec (asked rec)) → ((rec : ℕ) → find_record catalogue name ≡ Some rec → Changes catalogue p rec (asked rec)) → Q (new_change catalogue x.id x.held t p name asked (lent_at x))
+    unfolding new_change
+    new_change-front name asked o tries changes = with_record-front name true o asked _ tries (λ rec f a. change-front name asked rec o f (changes rec f) a)
 
     commit-front : is_commit p.call ≡ true → Q (commit catalogue x.id t p (lent_at x))
     unfolding commit prepare_parts
@@ -161,8 +169,10 @@ module _ (catalogue : Catalogue) (x : SiteState) (given : Input) (after : SiteSt
 
     new_call-front : (words : Call) → p.call ≡ words → Q (new_call catalogue x.id x.held t p words (lent_at x))
     unfolding new_call
-    new_call-front (call.Read txn number name) e = with_record-front name false (Operates.reads txn number e) _ (λ rec f a. read-front name rec (Operates.reads txn number e) f (record { txn = txn; number = number; name = name; words = e; found = f }) a)
-    new_call-front (call.Write txn number name value) e = with_record-front name true (Operates.writes txn number value e) _ (λ rec f a. write-front name value rec (Operates.writes txn number value e) f (record { txn = txn; number = number; name = name; words = e; found = f }) a)
+    new_call-front (call.Read txn number name) e = with_record-front name false (Operates.reads txn number e) (λ rec. Deed.operates (op.Read rec None)) _ (λ rec. Tries.reads txn number name e) (λ rec f a. read-front name rec (Operates.reads txn number e) f (record { txn = txn; number = number; name = name; words = e; found = f }) a.usable)
+    new_call-front (call.Write txn number name value) e = new_change-front name (λ rec. Deed.operates (op.Write rec (Some value))) (Operates.writes txn number value e) (λ rec. Tries.writes txn number name value e) (λ rec f. record { asked = rw (e, f) refl; on = refl })
+    new_call-front (call.Delete txn number name) e = new_change-front name (λ rec. Deed.operates (op.Write rec None)) (Operates.deletes txn number e) (λ rec. Tries.deletes txn number name e) (λ rec f. record { asked = rw (e, f) refl; on = refl })
+    new_call-front (call.Weigh txn number name table) e = new_change-front name (λ rec. Deed.weighs rec table) (Operates.weighs txn number table e) (λ rec. Tries.weighs txn number name table e) (λ rec f. record { asked = rw (e, f) refl; on = refl })
     new_call-front (call.Commit txn number) e = commit-front (rw e refl)
     new_call-front (call.Abort txn number) e = closing-now Aborted (Why.aborted t p at refl)
     new_call-front call.Begin e = h
@@ -202,6 +212,8 @@ module _ (catalogue : Catalogue) (x : SiteState) (given : Input) (after : SiteSt
   own_call-front port call.Regroup c = h
   own_call-front port (call.Read txn number name) c = on_txn_call-front port txn number (call.Read txn number name) c (is_own txn number)
   own_call-front port (call.Write txn number name value) c = on_txn_call-front port txn number (call.Write txn number name value) c (is_own txn number)
+  own_call-front port (call.Delete txn number name) c = on_txn_call-front port txn number (call.Delete txn number name) c (is_own txn number)
+  own_call-front port (call.Weigh txn number name table) c = on_txn_call-front port txn number (call.Weigh txn number name table) c (is_own txn number)
   own_call-front port (call.Commit txn number) c = on_txn_call-front port txn number (call.Commit txn number) c (is_own txn number)
   own_call-front port (call.Abort txn number) c = on_txn_call-front port txn number (call.Abort txn number) c (is_own txn number)
 
@@ -214,37 +226,33 @@ module _ (catalogue : Catalogue) (x : SiteState) (given : Input) (after : SiteSt
   count_in-front : (from : ℕ) (t : Live) (p : Pending) (done : Lent → Lent) → Awaits x t p → has p.missing from ≡ true → (IsLast t p from → Q (done (lent_at x))) → Q (count_in from t p done (lent_at x))
   count_in-front from t p done a m d = by_test Q (is_empty (remaining from p)) _ _ (λ last. d (record { pending = a.pending; missing = m; last = last })) (λ more. k.still t p (remaining from p) a)
 
-  answers_last : (t : Live) (p : Pending) (operation : Op) (words : Answer) → Awaits x t p → Completes catalogue x given t p operation words (lent_at x) → Q (complete t p operation words (lent_at x))
+  answers_last : (t : Live) (p : Pending) (deed : Deed) → Awaits x t p → Completes catalogue x given t p deed (lent_at x) → Q (complete t p deed (lent_at x))
   unfolding complete
-  answers_last t p operation words a done = k.complete t p operation words (lent_at x) a.live (IsDone.at_last a) done
+  answers_last t p deed a done = k.complete t p deed (lent_at x) a.live (IsDone.at_last a) done
 
-  read_answered-front : (from : ℕ) (txn : TxnId) (number : ℕ) (value : List ℕ) (t : Live) (p : Pending) (words : Call) → p.call ≡ words → Comes given from (message.ReadAnswer txn number value) → Awaits x t p → t.txn ≡ txn → has p.missing from ≡ true → Q (read_answered catalogue from number value t p words (lent_at x))
+  read_answered-front : (from : ℕ) (txn : TxnId) (number : ℕ) (value : Option (List ℕ)) (t : Live) (p : Pending) (words : Call) → p.call ≡ words → Comes given from (message.ReadAnswer txn number value) → Awaits x t p → t.txn ≡ txn → has p.missing from ≡ true → Q (read_answered catalogue from number value t p words (lent_at x))
   read_answered-front from txn number value t p (call.Read called n name) e c a same m =
       by_test Q (p.number == number) _ _ (λ numbered.
       let came : Comes given from (message.ReadAnswer t.txn p.number value) = rw (same, eqb-true p.number number numbered) c in
       by_some Q (find_record catalogue name) _ (lent_at x) (λ rec found.
       let reads : Reads catalogue p rec = record { txn = called; number = n; name = name; words = e; found = found } in
-      count_in-front from t p (answer_read t p rec value) a m (λ last. answers_last t p _ _ a (Completes.read_answered from rec value came last reads refl refl refl))) h)
+      count_in-front from t p (answer_read t p rec value) a m (λ last. answers_last t p _ a (Completes.read_answered from rec value came last reads refl refl))) h)
       (λ other. h)
   read_answered-front from txn number value t p (call.Write called n name v) e c a same m = h
+  read_answered-front from txn number value t p (call.Delete called n name) e c a same m = h
+  read_answered-front from txn number value t p (call.Weigh called n name table) e c a same m = h
   read_answered-front from txn number value t p (call.Commit called n) e c a same m = h
   read_answered-front from txn number value t p (call.Abort called n) e c a same m = h
   read_answered-front from txn number value t p call.Begin e c a same m = h
   read_answered-front from txn number value t p call.Regroup e c a same m = h
 
-  write_answered-front : (from : ℕ) (txn : TxnId) (number : ℕ) (t : Live) (p : Pending) (words : Call) → p.call ≡ words → Comes given from (message.WriteAnswer txn number) → Awaits x t p → t.txn ≡ txn → has p.missing from ≡ true → Q (write_answered catalogue from number t p words (lent_at x))
-  write_answered-front from txn number t p (call.Write called n name value) e c a same m =
+  write_answered-front : (from : ℕ) (txn : TxnId) (number : ℕ) (t : Live) (p : Pending) → Comes given from (message.WriteAnswer txn number) → Awaits x t p → t.txn ≡ txn → has p.missing from ≡ true → Q (write_answered catalogue from number t p (lent_at x))
+  write_answered-front from txn number t p c a same m =
       by_test Q (p.number == number) _ _ (λ numbered.
       let came : Comes given from (message.WriteAnswer t.txn p.number) = rw (same, eqb-true p.number number numbered) c in
-      by_some Q (find_record catalogue name) _ (lent_at x) (λ rec found.
-      let writes : Writes catalogue p rec value = record { txn = called; number = n; name = name; words = e; found = found } in
-      count_in-front from t p (answer_write t p rec value) a m (λ last. answers_last t p _ _ a (Completes.write_answered from rec value came last writes refl refl refl))) h)
+      by_some Q (change_asked catalogue p.call) _ (lent_at x) (λ deed asked.
+      count_in-front from t p (complete t p deed) a m (λ last. answers_last t p deed a (Completes.change_answered from (record_of deed) came last (record { asked = asked; on = refl }) refl))) h)
       (λ other. h)
-  write_answered-front from txn number t p (call.Read called n name) e c a same m = h
-  write_answered-front from txn number t p (call.Commit called n) e c a same m = h
-  write_answered-front from txn number t p (call.Abort called n) e c a same m = h
-  write_answered-front from txn number t p call.Begin e c a same m = h
-  write_answered-front from txn number t p call.Regroup e c a same m = h
 
   refused : (t : Live) (p : Pending) (why : Ending) → Awaits x t p → Why catalogue x given after t why → Q (close x.id t why (lent_at x))
   refused t p why a w = closing t why (lent_at x) (record { was = t; live = a.live; same = refl }) w refl h
@@ -252,10 +260,13 @@ module _ (catalogue : Catalogue) (x : SiteState) (given : Input) (after : SiteSt
   refused_by-front : (why : Obstacle) (words : Call) (from : ℕ) (t : Live) (p : Pending) → p.call ≡ words → Awaits x t p → Comes given from (message.Refuse t.txn p.number why) → Q (refused_by x.id why words from t (lent_at x))
   refused_by-front (obstacle.Held holder) (call.Read txn number name) from t p e a c = refused t p (LockHeld name from holder) a (Why.held_there p from name false holder a c (Operates.reads txn number e))
   refused_by-front (obstacle.Held holder) (call.Write txn number name value) from t p e a c = refused t p (LockHeld name from holder) a (Why.held_there p from name true holder a c (Operates.writes txn number value e))
+  refused_by-front (obstacle.Held holder) (call.Delete txn number name) from t p e a c = refused t p (LockHeld name from holder) a (Why.held_there p from name true holder a c (Operates.deletes txn number e))
+  refused_by-front (obstacle.Held holder) (call.Weigh txn number name table) from t p e a c = refused t p (LockHeld name from holder) a (Why.held_there p from name true holder a c (Operates.weighs txn number table e))
   refused_by-front (obstacle.Held holder) (call.Commit txn number) from t p e a c = h
   refused_by-front (obstacle.Held holder) (call.Abort txn number) from t p e a c = h
   refused_by-front (obstacle.Held holder) call.Begin from t p e a c = h
   refused_by-front (obstacle.Held holder) call.Regroup from t p e a c = h
+  refused_by-front (obstacle.Barred inside total) words from t p e a c = h
   refused_by-front (obstacle.OtherView now) words from t p e a c = refused t p (ViewChanged from t.view now) a (Why.other_view p from now a c)
 
   on_refuse-front : (from : ℕ) (txn : TxnId) (number : ℕ) (why : Obstacle) → Comes given from (message.Refuse txn number why) → Q (on_refuse x.id from txn number why (lent_at x))
@@ -271,6 +282,8 @@ module _ (catalogue : Catalogue) (x : SiteState) (given : Input) (after : SiteSt
       count_in-front from t p (decide catalogue x.id t) a m (λ last. decide-front t (record { was = t; live = a.live; same = refl }) (Decides.voted p from a.live last came commit) (IsDecided.at_last t p a))
   voted-front from txn t p (call.Read called n name) e c a same m = h
   voted-front from txn t p (call.Write called n name value) e c a same m = h
+  voted-front from txn t p (call.Delete called n name) e c a same m = h
+  voted-front from txn t p (call.Weigh called n name table) e c a same m = h
   voted-front from txn t p (call.Abort called n) e c a same m = h
   voted-front from txn t p call.Begin e c a same m = h
   voted-front from txn t p call.Regroup e c a same m = h
@@ -278,7 +291,7 @@ module _ (catalogue : Catalogue) (x : SiteState) (given : Input) (after : SiteSt
   pub on_answer-front : (from : ℕ) (m : Message) → Comes given from m → Q (on_answer catalogue x.id from m (lent_at x))
   unfolding on_answer on_read_answer on_write_answer on_vote on_ack on_inquire
   on_answer-front from (message.ReadAnswer txn number value) c = with_missing-front txn from _ (λ t p a same m. read_answered-front from txn number value t p p.call refl c a same m)
-  on_answer-front from (message.WriteAnswer txn number) c = with_missing-front txn from _ (λ t p a same m. write_answered-front from txn number t p p.call refl c a same m)
+  on_answer-front from (message.WriteAnswer txn number) c = with_missing-front txn from _ (λ t p a same m. write_answered-front from txn number t p c a same m)
   on_answer-front from (message.Refuse txn number why) c = on_refuse-front from txn number why c
   on_answer-front from (message.Vote txn) c = with_missing-front txn from _ (λ t p a same m. voted-front from txn t p p.call refl c a same m)
   on_answer-front from (message.Ack txn) c = by_test Q _ _ _ (λ e. k.acknowledge txn from) (λ e. h)

@@ -98,7 +98,7 @@ module _ (catalogue : Catalogue) (x : SiteState) (given : Input) (R : Coordinato
     begin = λ port view e g u. record { id = refl; kept = m.begin port view e g u };
     answers = λ words port why y. record { id = refl; kept = m.answers words port why y };
     take_lock = λ t rec exclusive stored h i a v c. record { id = refl; kept = m.take_lock t rec exclusive stored h i a v c };
-    complete = λ t p operation words l h g y e q. record { id = refl; kept = m.complete t p operation words l h g y e q.kept };
+    complete = λ t p deed l h g y e q. record { id = refl; kept = m.complete t p deed l h g y e q.kept };
     read_at = λ t p rec q h n r a w c o y. record { id = refl; kept = m.read_at t p rec q h n r a w c o y };
     write_at = λ t p rec value l h n w a e o d y v q. record { id = refl; kept = m.write_at t p rec value l h n w a e o d y v q.kept };
     prepare_parts = λ t p h i g e. record { id = refl; kept = m.prepare_parts t p h i g e };

@@ -2,25 +2,24 @@
 -- coordinator's state and of the replies has to survive so that the whole step keeps it.
 use Rattle.std.proofs.Common.{◌≡◌, ◌++◌, ℕ, Bool, true, false, List, [], ◌∷◌, map, length}
 use Rattle.std.specs.Prelude.{Some, None, Option, option_map, option_to_list, nat_le}
-use Rattle.vp_model.specs.Types.{ViewId, TxnId, View, Op, Owner, Call, Answer, Reply, Commit, Input, Pending, Live, Ending, Finished}
+use Rattle.vp_model.specs.Types.{ViewId, TxnId, View, Owner, Call, Answer, Reply, Commit, Input, Pending, Live, Ending, Finished}
 use Rattle.vp_base.specs.declared.site.Ending.TheVariants.{Committed, Aborted, LockHeld, ViewChanged, TimedOut}
 use Rattle.vp_model.specs.Types.answer
 use Rattle.vp_model.specs.Types.call
 use Rattle.vp_model.specs.Types.input
 use Rattle.vp_model.specs.Types.message
 use Rattle.vp_model.specs.Types.obstacle
-use Rattle.vp_model.specs.Catalogue.{Catalogue, find_record, inside, total}
+use Rattle.vp_model.specs.Catalogue.{Catalogue, Table as Weights, find_record}
 use Rattle.vp_model.specs.Locks.{conflict}
 use Rattle.vp_model.specs.Site.{CoordinatorState, SiteState, Lent}
-use Rattle.vp_model.specs.Transactions.{entry_of, answer_of, put_live, with_finished}
-use Rattle.vp_model.specs.Refresh.{members_in, is_usable_in}
-use Rattle.vp_model.specs.Calls.{begun, with_begun, handling, kept_answer}
+use Rattle.vp_model.specs.Transactions.{Deed, deed_answer, entry_of, answer_of, put_live, with_finished}
+use Rattle.vp_model.specs.Calls.{short, begun, with_begun, handling, kept_answer}
 use Rattle.vp_model.specs.Answers.{with_acknowledged}
 use Rattle.vp_model.specs.Step.{mark}
 use Rattle.vp_model.specs.Told.{is_call}
 use Rattle.vp_laws.specs.Answering.{answers}
 use Rattle.vp_laws.proofs.Lists.Members.{Has}
-use Rattle.vp_laws.proofs.Moves.Table.{Comes, next_view, next_name, Handled, IsNext, Completes, Decides}
+use Rattle.vp_laws.proofs.Moves.Table.{Comes, next_view, next_name, Handled, IsNext, Tries, Completes, Decides}
 use Rattle.vp_laws.proofs.Moves.Calls.{waiting, done, reading, writing}
 
 -- the input is this call of the transaction
@@ -35,10 +34,12 @@ pub record IsCallOf (given : Input) (txn : TxnId) (number : ℕ) : Type 0 where
   pub comes : given ≡ input.Call port words
   pub own : is_call txn number words ≡ true
 
--- the call reads or writes a record of this name
+-- the call reads or changes a record of this name
 pub data Operates (words : Call) (name : List ℕ) : Bool → Type 0 where
   reads : (txn : TxnId) (number : ℕ) → words ≡ call.Read txn number name → Operates words name false
   writes : (txn : TxnId) (number : ℕ) (value : List ℕ) → words ≡ call.Write txn number name value → Operates words name true
+  deletes : (txn : TxnId) (number : ℕ) → words ≡ call.Delete txn number name → Operates words name true
+  weighs : (txn : TxnId) (number : ℕ) (table : Weights) → words ≡ call.Weigh txn number name table → Operates words name true
 
 -- a call that is handled, as the transaction's next
 pub record Takes (x : SiteState) (given : Input) (was : Live) (p : Pending) : Type 0 where
@@ -69,6 +70,7 @@ is_plain (answer.Skipped txn expected) = true
 is_plain (answer.Busy txn number) = true
 is_plain (answer.NoRecord txn number) = true
 is_plain (answer.TooManyOps txn number) = true
+is_plain (answer.BadTable txn number) = true
 is_plain (answer.Spent number) = true
 is_plain answer.TooManyLive = true
 is_plain _ = false
@@ -76,7 +78,7 @@ is_plain _ = false
 -- what the call from this port is told that changes nothing
 pub data Tells (catalogue : Catalogue) (x : SiteState) (given : Input) : ℕ → Answer → Type 0 where
   plain : (words : Answer) → is_plain words ≡ true → (port : ℕ) (called : Call) → given ≡ input.Call port called → answers called words ≡ true → Tells catalogue x given port words
-  inaccessible : (t : Live) (p : Pending) (name : List ℕ) (rec : ℕ) (exclusive : Bool) → Takes x given t p → Operates p.call name exclusive → find_record catalogue name ≡ Some rec → is_usable_in catalogue x.held rec ≡ false → Tells catalogue x given p.port (answer.Inaccessible t.txn p.number name (inside catalogue rec (members_in x.held)) (total catalogue rec))
+  inaccessible : (t : Live) (p : Pending) (name : List ℕ) (rec : ℕ) (exclusive : Bool) (deed : Deed) (weights : ℕ × ℕ) → Takes x given t p → Operates p.call name exclusive → find_record catalogue name ≡ Some rec → Tries p.call rec deed → short catalogue x.held rec deed ≡ Some weights → Tells catalogue x given p.port (answer.Inaccessible t.txn p.number name weights.0 weights.1)
   again : (t : Live) (number : ℕ) (words : Answer) → Has x.live t → kept_answer number t.answers ≡ Some words → (c : IsCallOf given t.txn number) → Tells catalogue x given c.port words
   finished_again : (f : Finished) (number : ℕ) (words : Answer) → Has x.finished f → kept_answer number f.answers ≡ Some words → (c : IsCallOf given f.txn number) → Tells catalogue x given c.port words
   ended : (f : Finished) (number : ℕ) → Has x.finished f → nat_le number (length f.answers) ≡ false → (c : IsCallOf given f.txn number) → Tells catalogue x given c.port (answer_of f.txn number f.ending)
@@ -108,7 +110,7 @@ pub data Goes (t : Live) (p : Pending) : Live → Type 0 where
 pub record Front (catalogue : Catalogue) (x : SiteState) (given : Input) (after : SiteState) (G : CoordinatorState → List Reply → List Commit → Type 0) : Type 0 where
   pub begin : (port : ℕ) (view : View) → x.held ≡ Some view → given ≡ input.Call port call.Begin → G (with_begun (begun (next_name x) view.id) x.coordinator) (told_to port (answer.Begun (next_name x) view.id) ∷ []) []
   pub tells : (words : Answer) (port : ℕ) → Tells catalogue x given port words → G x.coordinator (told_to port words ∷ []) []
-  pub complete : (t : Live) (p : Pending) (operation : Op) (words : Answer) (l : Lent) → Has x.live t → IsDone x given t p → Completes catalogue x given t p operation words l → G (put_live (done t operation words) x.coordinator) (told_to p.port words ∷ []) []
+  pub complete : (t : Live) (p : Pending) (deed : Deed) (l : Lent) → Has x.live t → IsDone x given t p → Completes catalogue x given t p deed l → G (put_live (done t p deed) x.coordinator) (told_to p.port (deed_answer t.txn p.number deed) ∷ []) []
   pub goes : (t u : Live) (p : Pending) → Takes x given t p → Goes t p u → G (put_live u x.coordinator) [] []
   pub still : (t : Live) (p : Pending) (sites : List ℕ) → Awaits x t p → G (put_live (waiting t p sites) x.coordinator) [] []
   pub decide : (t : Live) (c : CoordinatorState) → Handled x t → Decides catalogue x given t → IsDecided x given t → c.live ≡ x.live → c.finished ≡ x.finished → c.seq ≡ x.seq → G (with_finished t Committed c) (last_reply t Committed) ((entry_of t) ∷ [])

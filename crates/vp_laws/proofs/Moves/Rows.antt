@@ -153,6 +153,8 @@ module _ (catalogue : Catalogue) (x : SiteState) (given : Input) (P : Stepped â†
   on_call-kept port call.Regroup comes = on_regroup-kept port comes
   on_call-kept port (call.Read txn number name) comes = own_call-kept catalogue x given K k.coordinator h port (call.Read txn number name) comes
   on_call-kept port (call.Write txn number name value) comes = own_call-kept catalogue x given K k.coordinator h port (call.Write txn number name value) comes
+  on_call-kept port (call.Delete txn number name) comes = own_call-kept catalogue x given K k.coordinator h port (call.Delete txn number name) comes
+  on_call-kept port (call.Weigh txn number name table) comes = own_call-kept catalogue x given K k.coordinator h port (call.Weigh txn number name table) comes
   on_call-kept port (call.Commit txn number) comes = own_call-kept catalogue x given K k.coordinator h port (call.Commit txn number) comes
   on_call-kept port (call.Abort txn number) comes = own_call-kept catalogue x given K k.coordinator h port (call.Abort txn number) comes
 

@@ -1,8 +1,8 @@
 -- The table in small moves: what a property of a step's state has to survive, so that the whole step keeps it.
 use Rattle.std.proofs.Common.{◌≡◌, ◌⊎◌, ℕ, ◌+◌, ◌-◌, ◌^◌, Bool, true, false, List, [], map, length}
 use Rattle.std.specs.Prelude.{Option, Some, None, is_some, filter, nat_le, ◌==◌, ◌&&◌, not}
-use Rattle.vp_model.specs.Types.{Change, ViewId, TxnId, View, Stored, Op, Owner, Answer, Call, Message, Sent, Input, Part, Refreshing, Pending, Live, Ending, Finished, Decision}
-use Rattle.vp_base.specs.declared.site.Ending.TheVariants.{Committed, Aborted, LockHeld, ViewChanged, TimedOut}
+use Rattle.vp_model.specs.Types.{Change, ViewId, TxnId, View, Stored, Owner, Answer, Call, Message, Sent, Input, Part, Refreshing, Pending, Live, Ending, Finished, Decision}
+use Rattle.vp_base.specs.declared.site.Ending.TheVariants.{Committed, Aborted, LockHeld, ViewChanged, TimedOut, Inaccessible}
 use Rattle.vp_model.specs.Types.answer
 use Rattle.vp_model.specs.Types.call
 use Rattle.vp_model.specs.Types.log_record
@@ -11,14 +11,15 @@ use Rattle.vp_model.specs.Types.message
 use Rattle.vp_model.specs.Types.obstacle
 use Rattle.vp_model.specs.Types.op
 use Rattle.vp_model.specs.Words.{view_before, is_view, has, has_txn, is_empty, value_at, keys}
-use Rattle.vp_model.specs.Catalogue.{Catalogue, find_record, inside, total}
+use Rattle.vp_model.specs.Catalogue.{Catalogue, Table as Weights, find_record}
 use Rattle.vp_model.specs.Durable.{doubt_of}
 use Rattle.vp_model.specs.Locks.{conflict}
 use Rattle.vp_model.specs.Site.{SiteState, Lent, Stepped, begin_step, force, send, reply, change_views, change_participant, change_refresh, surroundings, lent, put_back, lent_force, lent_reply, lent_coordinator, with_sent}
-use Rattle.vp_model.specs.Transactions.{last_changes, entry_of, last_writes, answer_of, close, decide, complete, wait_for}
-use Rattle.vp_model.specs.Refresh.{members, is_open, other_holders, is_doubtful, refreshing_of, unanswered, end_refresh, start_refresh}
+use Rattle.vp_laws.specs.Entries.{record_in}
+use Rattle.vp_model.specs.Transactions.{Deed, last_changes, entry_of, last_writes, answer_of, close, decide, complete, wait_for}
+use Rattle.vp_model.specs.Refresh.{is_open, other_holders, is_doubtful, refreshing_of, unanswered, end_refresh, start_refresh}
 use Rattle.vp_model.specs.Views.{part_of, has_doubt, without_view, without_parts, highest, is_spent, drop_view, start_inviting, invite, hold}
-use Rattle.vp_model.specs.Calls.{next_txn, start_txn, handling, take_lock, read_at, write_at, prepare_parts}
+use Rattle.vp_model.specs.Calls.{change_asked, is_bad_table, is_too_large, short, next_txn, start_txn, handling, take_lock, read_at, write_at, prepare_parts}
 use Rattle.vp_model.specs.Step.{is_marked_call, least_missing, fix, without_wait, probe_all, mark_calls, resend_one, known}
 use Rattle.vp_model.specs.Answers.{waits_for, with_acknowledged, is_live, is_decided}
 use Rattle.vp_model.specs.Messages.{holds_view, accept, on_accept, on_stale, with_heard, held_id, grant, has_all_locks, with_vote, with_new_doubt, end_here, with_answer}
@@ -93,17 +94,20 @@ pub record Reads (catalogue : Catalogue) (p : Pending) (rec : ℕ) : Type 0 wher
   pub words : p.call ≡ call.Read txn number name
   pub found : find_record catalogue name ≡ Some rec
 
-pub record Writes (catalogue : Catalogue) (p : Pending) (rec : ℕ) (value : List ℕ) : Type 0 where
-  pub txn : TxnId
-  pub number : ℕ
-  pub name : List ℕ
-  pub words : p.call ≡ call.Write txn number name value
-  pub found : find_record catalogue name ≡ Some rec
+-- the record of what a call asks to change
+abbrev pub record_of : Deed → ℕ
+record_of (Deed.operates operation) = record_in operation
+record_of (Deed.weighs rec table) = rec
+
+-- the call changes this: it writes or deletes the record, or gives it a table
+pub record Changes (catalogue : Catalogue) (p : Pending) (rec : ℕ) (deed : Deed) : Type 0 where
+  pub asked : change_asked catalogue p.call ≡ Some deed
+  pub on : record_of deed ≡ rec
 
 -- the message that came is what the pending call waits for from that site
 pub data Counts (catalogue : Catalogue) (given : Input) (t : Live) (p : Pending) (from : ℕ) : Type 0 where
-  read : (rec : ℕ) (value : List ℕ) → Comes given from (message.ReadAnswer t.txn p.number value) → Reads catalogue p rec → Counts catalogue given t p from
-  written : (rec : ℕ) (value : List ℕ) → Comes given from (message.WriteAnswer t.txn p.number) → Writes catalogue p rec value → Counts catalogue given t p from
+  read : (rec : ℕ) (value : Option (List ℕ)) → Comes given from (message.ReadAnswer t.txn p.number value) → Reads catalogue p rec → Counts catalogue given t p from
+  changed : (rec : ℕ) (deed : Deed) → Comes given from (message.WriteAnswer t.txn p.number) → Changes catalogue p rec deed → Counts catalogue given t p from
   voted : Comes given from (message.Vote t.txn) → is_commit p.call ≡ true → Counts catalogue given t p from
 
 abbrev pub remaining : ℕ → Pending → List ℕ
@@ -120,14 +124,22 @@ pub data Locked (x : SiteState) (t : Live) (rec : ℕ) (l : Lent) : Type 0 where
   no_copy : value_at rec x.copies ≡ None → l ≡ lent_at x → Locked x t rec l
   locked : (stored : Stored) → value_at rec x.copies ≡ Some stored → conflict rec true t.txn x.locks ≡ None → l ≡ take_lock t.txn rec true (lent_at x) → Locked x t rec l
 
--- how an operation is done, with its answer, and the coordinator's part so far
-pub data Completes (catalogue : Catalogue) (x : SiteState) (given : Input) (t : Live) (p : Pending) (operation : Op) (words : Answer) (l : Lent) : Type 0 where
-  own_write : (rec : ℕ) (value : List ℕ) → IsNext given t p → Reads catalogue p rec → is_open catalogue x rec ≡ true → value_at rec (last_writes t.ops) ≡ Some value → operation ≡ op.Read rec value → words ≡ answer.Value t.txn p.number value → l ≡ lent_at x → Completes catalogue x given t p operation words l
-  own_copy : (rec : ℕ) (stored : Stored) → IsNext given t p → Reads catalogue p rec → is_open catalogue x rec ≡ true → value_at rec (last_writes t.ops) ≡ None → value_at rec x.copies ≡ Some stored → conflict rec false t.txn x.locks ≡ None → operation ≡ op.Read rec stored.value → words ≡ answer.Value t.txn p.number stored.value → l ≡ take_lock t.txn rec false (lent_at x) → Completes catalogue x given t p operation words l
-  write_again : (rec : ℕ) (before value : List ℕ) → IsNext given t p → Writes catalogue p rec value → is_open catalogue x rec ≡ true → value_at rec (last_changes (entry_of t)) ≡ Some before → operation ≡ op.Write rec value → words ≡ answer.Written t.txn p.number → l ≡ lent_at x → Completes catalogue x given t p operation words l
-  write_alone : (rec : ℕ) (value : List ℕ) → IsNext given t p → Writes catalogue p rec value → is_open catalogue x rec ≡ true → value_at rec (last_changes (entry_of t)) ≡ None → is_empty (other_holders catalogue x rec) ≡ true → operation ≡ op.Write rec value → words ≡ answer.Written t.txn p.number → Locked x t rec l → Completes catalogue x given t p operation words l
-  read_answered : (from rec : ℕ) (value : List ℕ) → Comes given from (message.ReadAnswer t.txn p.number value) → IsLast t p from → Reads catalogue p rec → operation ≡ op.Read rec value → words ≡ answer.Value t.txn p.number value → l ≡ lent_at x → Completes catalogue x given t p operation words l
-  write_answered : (from rec : ℕ) (value : List ℕ) → Comes given from (message.WriteAnswer t.txn p.number) → IsLast t p from → Writes catalogue p rec value → operation ≡ op.Write rec value → words ≡ answer.Written t.txn p.number → l ≡ lent_at x → Completes catalogue x given t p operation words l
+-- a change has passed the tests before its row: its table is the record's, it isn't too large, and neither by its own table nor by the record's is
+-- there too little weight
+pub record May (catalogue : Catalogue) (x : SiteState) (t : Live) (rec : ℕ) (deed : Deed) : Type 0 where
+  pub table : is_bad_table catalogue deed ≡ false
+  pub fits : is_too_large t deed ≡ false
+  pub enough : short catalogue x.held rec deed ≡ None
+  pub usable : is_open catalogue x rec ≡ true
+
+-- how a call is done: what it does, and the coordinator's part so far
+pub data Completes (catalogue : Catalogue) (x : SiteState) (given : Input) (t : Live) (p : Pending) (deed : Deed) (l : Lent) : Type 0 where
+  own_write : (rec : ℕ) (value : Option (List ℕ)) → IsNext given t p → Reads catalogue p rec → is_open catalogue x rec ≡ true → value_at rec (last_writes t.ops) ≡ Some value → deed ≡ Deed.operates (op.Read rec value) → l ≡ lent_at x → Completes catalogue x given t p deed l
+  own_copy : (rec : ℕ) (stored : Stored) → IsNext given t p → Reads catalogue p rec → is_open catalogue x rec ≡ true → value_at rec (last_writes t.ops) ≡ None → value_at rec x.copies ≡ Some stored → conflict rec false t.txn x.locks ≡ None → deed ≡ Deed.operates (op.Read rec stored.value) → l ≡ take_lock t.txn rec false (lent_at x) → Completes catalogue x given t p deed l
+  change_again : (rec : ℕ) (before : Change) → IsNext given t p → Changes catalogue p rec deed → May catalogue x t rec deed → value_at rec (last_changes (entry_of t)) ≡ Some before → l ≡ lent_at x → Completes catalogue x given t p deed l
+  change_alone : (rec : ℕ) → IsNext given t p → Changes catalogue p rec deed → May catalogue x t rec deed → value_at rec (last_changes (entry_of t)) ≡ None → is_empty (other_holders catalogue x rec) ≡ true → Locked x t rec l → Completes catalogue x given t p deed l
+  read_answered : (from rec : ℕ) (value : Option (List ℕ)) → Comes given from (message.ReadAnswer t.txn p.number value) → IsLast t p from → Reads catalogue p rec → deed ≡ Deed.operates (op.Read rec value) → l ≡ lent_at x → Completes catalogue x given t p deed l
+  change_answered : (from rec : ℕ) → Comes given from (message.WriteAnswer t.txn p.number) → IsLast t p from → Changes catalogue p rec deed → l ≡ lent_at x → Completes catalogue x given t p deed l
 
 -- why a transaction commits: its commit is called and it has no part, or the last vote comes. Which transaction is decided is the last argument
 pub data Decides (catalogue : Catalogue) (x : SiteState) (given : Input) (t : Live) : Type 0 where
@@ -140,6 +152,7 @@ is_abort Aborted = true
 is_abort (LockHeld name at owner) = true
 is_abort (ViewChanged at held now) = true
 is_abort (TimedOut at) = true
+is_abort (Inaccessible name inside total) = true
 
 -- so far transactions have only been closed
 pub record Closed (x : SiteState) (l : Lent) : Type 0 where
@@ -167,6 +180,8 @@ pub data Replies (x : SiteState) (words : Answer) : Type 0 where
 pub data IsCallOf : Call → TxnId → ℕ → Type 0 where
   reads : (txn : TxnId) (number : ℕ) (name : List ℕ) → IsCallOf (call.Read txn number name) txn number
   writes : (txn : TxnId) (number : ℕ) (name value : List ℕ) → IsCallOf (call.Write txn number name value) txn number
+  deletes : (txn : TxnId) (number : ℕ) (name : List ℕ) → IsCallOf (call.Delete txn number name) txn number
+  weighs : (txn : TxnId) (number : ℕ) (name : List ℕ) (table : Weights) → IsCallOf (call.Weigh txn number name table) txn number
   commits : (txn : TxnId) (number : ℕ) → IsCallOf (call.Commit txn number) txn number
   aborts : (txn : TxnId) (number : ℕ) → IsCallOf (call.Abort txn number) txn number
 
@@ -174,6 +189,15 @@ pub data IsCallOf : Call → TxnId → ℕ → Type 0 where
 pub data Names (words : Call) (name : List ℕ) : Type 0 where
   reads : (txn : TxnId) (number : ℕ) → words ≡ call.Read txn number name → Names words name
   writes : (txn : TxnId) (number : ℕ) (value : List ℕ) → words ≡ call.Write txn number name value → Names words name
+  deletes : (txn : TxnId) (number : ℕ) → words ≡ call.Delete txn number name → Names words name
+  weighs : (txn : TxnId) (number : ℕ) (table : Weights) → words ≡ call.Weigh txn number name table → Names words name
+
+-- what a call on a record would do, as far as its tests ask: a read's content isn't known
+pub data Tries (words : Call) (rec : ℕ) : Deed → Type 0 where
+  reads : (txn : TxnId) (number : ℕ) (name : List ℕ) → words ≡ call.Read txn number name → Tries words rec (Deed.operates (op.Read rec None))
+  writes : (txn : TxnId) (number : ℕ) (name value : List ℕ) → words ≡ call.Write txn number name value → Tries words rec (Deed.operates (op.Write rec (Some value)))
+  deletes : (txn : TxnId) (number : ℕ) (name : List ℕ) → words ≡ call.Delete txn number name → Tries words rec (Deed.operates (op.Write rec None))
+  weighs : (txn : TxnId) (number : ℕ) (name : List ℕ) (table : Weights) → words ≡ call.Weigh txn number name table → Tries words rec (Deed.weighs rec table)
 
 -- what a call that came is told, where nothing changes
 pub data Says (catalogue : Catalogue) (x : SiteState) (given : Input) (port : ℕ) : Answer → Type 0 where
@@ -185,7 +209,8 @@ pub data Says (catalogue : Catalogue) (x : SiteState) (given : Input) (port : �
   many : (t : Live) (words : Call) (number : ℕ) → given ≡ input.Call port words → Has x.live t → number ≡ length t.answers + 1 → Says catalogue x given port (answer.TooManyOps t.txn number)
   busy : (t : Live) (words : Call) (number : ℕ) → given ≡ input.Call port words → Has x.live t → number ≡ length t.answers + 1 → Says catalogue x given port (answer.Busy t.txn number)
   skipped : (t : Live) (words : Call) → given ≡ input.Call port words → Has x.live t → Says catalogue x given port (answer.Skipped t.txn (length t.answers + 1))
-  inaccessible : (t : Live) (words : Call) (number : ℕ) (name : List ℕ) (rec : ℕ) → given ≡ input.Call port words → Has x.live t → number ≡ length t.answers + 1 → Names words name → find_record catalogue name ≡ Some rec → Says catalogue x given port (answer.Inaccessible t.txn number name (inside catalogue rec (members x)) (total catalogue rec))
+  bad_table : (t : Live) (words : Call) (number : ℕ) → given ≡ input.Call port words → Has x.live t → number ≡ length t.answers + 1 → Says catalogue x given port (answer.BadTable t.txn number)
+  inaccessible : (t : Live) (words : Call) (number : ℕ) (name : List ℕ) (rec : ℕ) (deed : Deed) (weights : ℕ × ℕ) → given ≡ input.Call port words → Has x.live t → number ≡ length t.answers + 1 → Names words name → find_record catalogue name ≡ Some rec → Tries words rec deed → short catalogue x.held rec deed ≡ Some weights → Says catalogue x given port (answer.Inaccessible t.txn number name weights.0 weights.1)
   again : (t : Live) (words : Call) (said : Answer) → given ≡ input.Call port words → Has x.live t → Has t.answers said → Says catalogue x given port said
   again_ended : (f : Finished) (words : Call) (said : Answer) → given ≡ input.Call port words → Has x.finished f → Has f.answers said → Says catalogue x given port said
   over : (f : Finished) (words : Call) (txn : TxnId) (number : ℕ) → given ≡ input.Call port words → IsCallOf words txn number → Has x.finished f → Says catalogue x given port (answer_of f.txn number f.ending)
@@ -205,9 +230,9 @@ pub record OfCoordinator (catalogue : Catalogue) (x : SiteState) (given : Input)
   pub begin : (port : ℕ) (view : View) → x.held ≡ Some view → given ≡ input.Call port call.Begin → (x.seq == 2 ^ 32 - 1) ≡ false → Q (start_txn (next_name x) port view.id (lent_at x))
   pub answers : (words : Answer) (port : ℕ) → Replies x words → Says catalogue x given port words → Q (lent_reply words port (lent_at x))
   pub take_lock : (t : Live) (rec : ℕ) (exclusive : Bool) (stored : Stored) → Has x.live t → is_some t.pending ≡ false → is_open catalogue x rec ≡ true → value_at rec x.copies ≡ Some stored → conflict rec exclusive t.txn x.locks ≡ None → Q (take_lock t.txn rec exclusive (lent_at x))
-  pub complete : (t : Live) (p : Pending) (operation : Op) (words : Answer) (l : Lent) → Has x.live t → Completes catalogue x given t p operation words l → (is_some t.pending ≡ false → nat_le 64 (length t.ops) ≡ false) → l.live ≡ x.live → Q l → Q (complete t p operation words l)
-  pub read_at : (t : Live) (p : Pending) (rec q : ℕ) → Has x.live t → IsNext given t p → Reads catalogue p rec → is_open catalogue x rec ≡ true → value_at rec (last_writes t.ops) ≡ None → value_at rec x.copies ≡ None → Has (other_holders catalogue x rec) q → nat_le 64 (length t.ops) ≡ false → Q (read_at x.id t p rec q (lent_at x))
-  pub write_at : (t : Live) (p : Pending) (rec : ℕ) (value : List ℕ) (l : Lent) → Has x.live t → IsNext given t p → Writes catalogue p rec value → is_open catalogue x rec ≡ true → value_at rec (last_changes (entry_of t)) ≡ None → is_empty (other_holders catalogue x rec) ≡ false → Locked x t rec l → nat_le 64 (length t.ops) ≡ false → l.live ≡ x.live → Q l → Q (write_at x.id t p rec (other_holders catalogue x rec) l)
+  pub complete : (t : Live) (p : Pending) (deed : Deed) (l : Lent) → Has x.live t → Completes catalogue x given t p deed l → (is_some t.pending ≡ false → nat_le 64 (length t.answers) ≡ false) → l.live ≡ x.live → Q l → Q (complete t p deed l)
+  pub read_at : (t : Live) (p : Pending) (rec q : ℕ) → Has x.live t → IsNext given t p → Reads catalogue p rec → is_open catalogue x rec ≡ true → value_at rec (last_writes t.ops) ≡ None → value_at rec x.copies ≡ None → Has (other_holders catalogue x rec) q → nat_le 64 (length t.answers) ≡ false → Q (read_at x.id t p rec q (lent_at x))
+  pub write_at : (t : Live) (p : Pending) (rec : ℕ) (deed : Deed) (l : Lent) → Has x.live t → IsNext given t p → Changes catalogue p rec deed → May catalogue x t rec deed → value_at rec (last_changes (entry_of t)) ≡ None → is_empty (other_holders catalogue x rec) ≡ false → Locked x t rec l → nat_le 64 (length t.answers) ≡ false → l.live ≡ x.live → Q l → Q (write_at x.id t p rec (other_holders catalogue x rec) l)
   pub prepare_parts : (t : Live) (p : Pending) → Has x.live t → IsNext given t p → is_commit p.call ≡ true → is_empty t.parts ≡ false → Q (prepare_parts catalogue x.id t p (lent_at x))
   pub still_waits : (t : Live) (p : Pending) (from : ℕ) → Has x.live t → t.pending ≡ Some p → has p.missing from ≡ true → is_empty (remaining from p) ≡ false → Counts catalogue given t p from → Q (wait_for t p (remaining from p) (lent_at x))
   pub decide : (t : Live) → Handled x t → Decides catalogue x given t → Q (decide catalogue x.id t (lent_at x))

@@ -1,6 +1,7 @@
 -- Two live transactions of one view do not use a record that one of them has written: they would have conflicting locks at a site.
 use Rattle.std.proofs.Common.{◌≡◌, ◌≢◌, ◌∙◌, sym, subst, ℕ, Bool, true, false, List, refl, ⊎_elim}
 use Rattle.std.specs.Prelude.{Option, Some, None}
+use Rattle.vp_laws.proofs.Journal.Changed.{operation_changed, HasChanged}
 use Rattle.vp_model.specs.Types.{View, Op, Stored, Live}
 use Rattle.vp_model.specs.Types.op
 use Rattle.vp_model.specs.Types.owner
@@ -18,7 +19,7 @@ use Rattle.vp_laws.proofs.Table.Copies.{value_pair}
 use Rattle.vp_laws.proofs.Table.Leaves.{Uses}
 use Rattle.vp_laws.proofs.Worlds.Scenes.{Scene, plain_at}
 use Rattle.vp_laws.proofs.Invariant.Shares.{HasRequest}
-use Rattle.vp_laws.proofs.Invariant.Ops.{written_used, HasUsed, HasWritten}
+use Rattle.vp_laws.proofs.Invariant.Ops.{HasUsed}
 use Rattle.vp_laws.proofs.Invariant.Answers.{HasRead}
 use Rattle.vp_laws.proofs.Invariant.Entered.{AgreedAs}
 use Rattle.vp_laws.proofs.Invariant.HasLeft.{HasLeft}
@@ -75,18 +76,21 @@ module _ (catalogue : Catalogue) (w : Scene) (k : Known catalogue w) (copies : I
     held = view_is catalogue w k copies j y t up live v agreed
 
     -- what it wrote it has used at each holder in the view
-    pub written_at : (rec q : ℕ) → HasWritten t rec → Has (holders catalogue rec) q → Has v.members q → UsedAt w q t rec true
+    pub written_at : (rec q : ℕ) → HasChanged t rec → Has (holders catalogue rec) q → Has v.members q → UsedAt w q t rec true
     written_at rec q wrote holder member = ⊎_elim
-        (λ (here : q ≡ j). UsedAt.own y (rw here up) live (((k.guards.site j y up).own t live).wrote rec wrote.0 wrote.1 (holds_copy catalogue w j y up (k.views.site j y up).kept k.held rec (rw here at holder))))
+        (λ (here : q ≡ j). UsedAt.own y (rw here up) live (((k.guards.site j y up).own t live).wrote rec wrote (holds_copy catalogue w j y up (k.views.site j y up).kept k.held rec (rw here at holder))))
         (λ (other : q ≢ j). UsedAt.answered (HasAnswered.wrote ((k.answers.live j y t up live).wrote rec wrote q (subst (λ (held : Option View). Has (other_holders_in catalogue y.id held rec) q) (sym held) (other_holder catalogue y.id rec q v holder member (λ z. other (z ∙ id)))))))
         (same_site q j)
 
     usable : (rec : ℕ) → HasUsed t.ops rec → accessible catalogue rec v.members ≡ true
     usable rec h = subst (λ (held : Option View). is_usable_in catalogue held rec ≡ true) held ((refresh.live j y t up live).usable rec h)
 
-    wrote_some : (rec : ℕ) → HasWritten t rec → UsedSome catalogue w t v rec
+    usable_changed : (rec : ℕ) → HasChanged t rec → accessible catalogue rec v.members ≡ true
+    usable_changed rec h = subst (λ (held : Option View). is_usable_in catalogue held rec ≡ true) held ((refresh.live j y t up live).changed rec h)
+
+    wrote_some : (rec : ℕ) → HasChanged t rec → UsedSome catalogue w t v rec
     wrote_some rec wrote =
-        let a = usable rec (written_used t.ops rec wrote) in
+        let a = usable_changed rec wrote in
         let q = in_force_holder catalogue rec v.members a in
         record { site = q.0; holder = q.1; member = q.2; exclusive = true; used = written_at rec q.0 wrote q.1 q.2 }
 
@@ -100,7 +104,7 @@ module _ (catalogue : Catalogue) (w : Scene) (k : Known catalogue w) (copies : I
         let a = refresh.asked r.0 q r.1 rec t.txn r.2 false v request (agreed.0, agreed.1 ∙ viewed) in
         (a.0, a.1, subst (λ (v : View). Has v.members q) same b.3)
 
-    read_some : (rec : ℕ) (value : List ℕ) → Has t.ops (op.Read rec value) → UsedSome catalogue w t v rec
+    read_some : (rec : ℕ) (value : Option (List ℕ)) → Has t.ops (op.Read rec value) → UsedSome catalogue w t v rec
     read_some rec value h = go (value_at rec y.copies) refl
       where
         elsewhere : (q : ℕ) → HasRead w q t.txn rec → UsedSome catalogue w t v rec
@@ -120,13 +124,13 @@ module _ (catalogue : Catalogue) (w : Scene) (k : Known catalogue w) (copies : I
 
     op_some : (operation : Op) → Has t.ops operation → UsedSome catalogue w t v (record_in operation)
     op_some (op.Read rec value) h = read_some rec value h
-    op_some (op.Write rec value) h = wrote_some rec (value, h)
+    op_some (op.Write rec value) h = wrote_some rec (operation_changed t rec value h)
 
     pub used_some : (rec : ℕ) → HasUsed t.ops rec → UsedSome catalogue w t v rec
     used_some rec h = subst (UsedSome catalogue w t v) h.2 (op_some h.0 h.1)
 
   -- so no other one has used what it wrote
-  pub no_conflict : (j i : ℕ) (y z : SiteState) (t u : Live) → plain_at w j ≡ Some y → Has y.live t → plain_at w i ≡ Some z → Has z.live u → (v : View) → AgreedAs w t.view v → t.view ≡ u.view → (rec : ℕ) → HasUsed u.ops rec → HasWritten t rec → t.txn ≡ u.txn
+  pub no_conflict : (j i : ℕ) (y z : SiteState) (t u : Live) → plain_at w j ≡ Some y → Has y.live t → plain_at w i ≡ Some z → Has z.live u → (v : View) → AgreedAs w t.view v → t.view ≡ u.view → (rec : ℕ) → HasUsed u.ops rec → HasChanged t rec → t.txn ≡ u.txn
   no_conflict j i y z t u up live up_u live_u v agreed same rec h wrote =
       let q = used_some i z u up_u live_u v (agreed.0, agreed.1 ∙ same) rec h in
       apart_used j i y z t u up live up_u live_u same q.site rec q.exclusive (written_at j y t up live v agreed rec q.site wrote q.holder q.member) q.used

@@ -30,7 +30,7 @@ invariant_acts catalogue w s x given up r inv =
     let d = does catalogue w s x given up r k in
     record {
       known = n;
-      copies = copies_keep catalogue w new s x given o k n d inv.copies inv.refresh;
+      copies = copies_keep catalogue w new s x given o k n d inv.copies inv.refresh inv.base;
       refresh = refresh_keep catalogue w new s x given o k n d inv.copies inv.refresh;
       base = base_keeps catalogue w new s x given o k n d inv.copies inv.refresh inv.base;
       reading = reading_keep catalogue w new s x given o k n d inv.reading;

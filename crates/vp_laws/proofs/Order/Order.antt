@@ -1,6 +1,7 @@
 -- The entries by view stay a serial run, after which what the live transactions have done can be played.
-use Rattle.std.proofs.Common.{◌≡◌, ◌≢◌, ◌∙◌, ap, sym, subst, ℕ, true, false, List, [], ◌∷◌, ◌++◌, ⊎_elim}
-use Rattle.std.specs.Prelude.{Some}
+use Rattle.std.proofs.Common.{inl, ◌≡◌, ◌≢◌, ◌∙◌, ap, sym, subst, ℕ, true, false, List, [], ◌∷◌, ◌++◌, ⊎_elim}
+use Rattle.std.specs.Prelude.{option_map, Option, Some}
+use Rattle.vp_laws.proofs.Journal.Changed.{HasChanged}
 use Rattle.vp_model.specs.Types.{ViewId, TxnId, View, Commit, Input, Op, Live}
 use Rattle.vp_model.specs.Types.message
 use Rattle.vp_model.specs.Catalogue.{Catalogue, holders, accessible, start_values}
@@ -14,12 +15,12 @@ use Rattle.vp_laws.proofs.Table.Led.{IsOf}
 use Rattle.vp_laws.proofs.Worlds.Scenes.{Scene, plain_at, scene_of}
 use Rattle.vp_laws.proofs.Worlds.Sites.{NowIs, now_is, quiet_is, start_journal, started_idle, live_still, Quiet}
 use Rattle.vp_laws.proofs.Invariant.Shares.{HasRequest}
-use Rattle.vp_laws.proofs.Invariant.Ops.{op_used, HasWritten}
+use Rattle.vp_laws.proofs.Invariant.Ops.{op_used}
 use Rattle.vp_laws.proofs.Invariant.Answers.{HasRead}
 use Rattle.vp_laws.proofs.Invariant.Entered.{AgreedAs}
 use Rattle.vp_laws.proofs.Invariant.Used.{HasAnswered}
 use Rattle.vp_laws.proofs.Invariant.Reading.{InvReading}
-use Rattle.vp_laws.proofs.Journal.ValuesAfter.{Wrote, value_after}
+use Rattle.vp_laws.proofs.Journal.ValuesAfter.{read_after, Content, Wrote, value_after}
 use Rattle.vp_laws.proofs.Journal.ValuesGrow.{after_more}
 use Rattle.vp_laws.proofs.Journal.Playing.{WritesNone, plays_behind, entry_plays, content_own, content_below}
 use Rattle.vp_laws.proofs.Keeping.NewEntries.{JournalNow, journal_now, Entering, entering, stops}
@@ -33,7 +34,6 @@ use Rattle.vp_laws.proofs.Invariant.Order.{Plays, InvOrder}
 use Rattle.vp_laws.proofs.Invariant.Refresh.{InvRefresh}
 use Rattle.vp_laws.proofs.Keeping.Used.{Was}
 use Rattle.vp_laws.proofs.Invariant.Known.{Known}
-use Rattle.vp_laws.proofs.Lists.Pairs.{written_op}
 use Rattle.vp_model.specs.World.{start_world}
 
 module _ (catalogue : Catalogue) (w new : Scene) (s : ℕ) (x : SiteState) (given : Input) (o : Stepped) (k : Known catalogue w) (n : Known catalogue new) (d : Does catalogue w new s x given o) (copies : InvCopies catalogue w) (refresh : InvRefresh catalogue w) (reading : InvReading catalogue w) (inv : InvOrder catalogue w) where
@@ -46,16 +46,16 @@ module _ (catalogue : Catalogue) (w new : Scene) (s : ℕ) (x : SiteState) (give
     f = entering catalogue w new s x given o k n d e h
 
     its_plays : Plays (content first w.journal e.view) e.ops
-    its_plays = subst (λ (ops : List Op). Plays (content first w.journal e.view) ops) f.done (subst (λ (i : ViewId). Plays (content first w.journal i) f.was.ops) f.viewed (inv.live s x f.was d.up f.live))
+    its_plays = subst (λ (ops : List Op). Plays (content first w.journal e.view) ops) (ap (λ (e : Commit). e.ops) f.done) (subst (λ (i : ViewId). Plays (content first w.journal i) f.was.ops) f.viewed (inv.live s x f.was d.up f.live))
 
     above_none : (g : Commit) → Has w.journal g → Precedes e.view g.view → WritesNone e g.ops
     above_none g there above operation did wrote =
         let v = k.led.entry g there in
         stops catalogue w new s x given o k n d refresh e v.0 (record_in operation) h wrote (subst (Precedes e.view) (sym v.2) above)
-        (refresh.entry g v.0 (record_in operation) there (v.1, v.2) (op_used g.ops operation did))
+        (refresh.entry g v.0 (record_in operation) there (v.1, v.2) (inl (op_used g.ops operation did)))
 
-    has_written : (rec : ℕ) → Wrote e rec → HasWritten f.was rec
-    has_written rec wrote = let did = written_op e.ops rec wrote in (did.0, rw f.done did.1)
+    has_written : (rec : ℕ) → Wrote e rec → HasChanged f.was rec
+    has_written rec wrote = subst (λ (e : Commit). Wrote e rec) (sym f.done) wrote
 
     its_view : AgreedAs w f.was.view f.view
     its_view = (d.here.held f.view f.held, f.is ∙ sym f.viewed)
@@ -97,8 +97,8 @@ module _ (catalogue : Catalogue) (w new : Scene) (s : ℕ) (x : SiteState) (give
           go p = ⊎_elim (λ above. higher above p) (λ q. ⊎_elim (λ same. equal same p) (λ below. lower below p) q) (three_ways e.view t.view)
 
       -- a value on its way stays that of the one copy
-      value_grow : (q rec : ℕ) (value : List ℕ) → HasRead w q t.txn rec → value_after catalogue w.journal t.view rec ≡ Some value → value_after catalogue (w.journal ++ e ∷ []) t.view rec ≡ Some value
-      value_grow q rec value r is = after_more catalogue w.journal e t.view rec none ∙ is
+      value_grow : (q rec : ℕ) (value : Option (List ℕ)) → HasRead w q t.txn rec → read_after catalogue w.journal t.view rec ≡ Some value → read_after catalogue (w.journal ++ e ∷ []) t.view rec ≡ Some value
+      value_grow q rec value r is = ap (option_map (λ (c : Content). c.value)) (after_more catalogue w.journal e t.view rec none) ∙ is
         where
           a : (accessible catalogue rec of.0.members ≡ true) × Has (holders catalogue rec) q × Has of.0.members q
           a = read_from catalogue w k copies refresh reading j y t up live of.0 agreed rec q r
@@ -160,7 +160,7 @@ module _ (catalogue : Catalogue) (w new : Scene) (s : ℕ) (x : SiteState) (give
       go (JournalNow.stays z) = on w.journal z (before (now_is w new s x o d.st j y up))
       go (JournalNow.longer e h z) = let q = stood e h j y t up live in on (w.journal ++ e ∷ []) z (plays_grow e h j q.site t q.up q.live q.other)
 
-  answered_new : (j q to number rec : ℕ) (view : ViewId) (value : List ℕ) (y : SiteState) (t : Live) → plain_at new j ≡ Some y → Has y.live t → Has new.sent (letter q to (message.ReadAnswer t.txn number value)) → Has new.sent (letter to q (message.ReadRequest t.txn view number rec)) → value_after catalogue new.journal t.view rec ≡ Some value
+  answered_new : (j q to number rec : ℕ) (view : ViewId) (value : Option (List ℕ)) (y : SiteState) (t : Live) → plain_at new j ≡ Some y → Has y.live t → Has new.sent (letter q to (message.ReadAnswer t.txn number value)) → Has new.sent (letter to q (message.ReadRequest t.txn view number rec)) → read_after catalogue new.journal t.view rec ≡ Some value
   answered_new j q to number rec view value y t up live sent request = ⊎_elim old more (d.st.sent _ sent)
     where
       one : (other : ℕ) (i : ViewId) → Has w.sent (letter to q (message.ReadRequest t.txn i number other)) → other ≡ rec
@@ -169,20 +169,20 @@ module _ (catalogue : Catalogue) (w new : Scene) (s : ℕ) (x : SiteState) (give
       was_live : (other : ℕ) (i : ViewId) → Has w.sent (letter to q (message.ReadRequest t.txn i number other)) → Was w j t
       was_live other i h = d.was j y t (k.names.sent (letter to q (message.ReadRequest t.txn i number other)) h).0.0 live (now_is w new s x o d.st j y up)
 
-      on : (es : List Commit) → new.journal ≡ es → value_after catalogue es t.view rec ≡ Some value → value_after catalogue new.journal t.view rec ≡ Some value
-      on es z p = subst (λ (es : List Commit). value_after catalogue es t.view rec ≡ Some value) (sym z) p
+      on : (es : List Commit) → new.journal ≡ es → read_after catalogue es t.view rec ≡ Some value → read_after catalogue new.journal t.view rec ≡ Some value
+      on es z p = subst (λ (es : List Commit). option_map (λ (c : Content). c.value) (value_after catalogue es t.view rec) ≡ Some value) (sym z) p
 
-      along : (u : Live) (other : ℕ) → u.view ≡ t.view → other ≡ rec → value_after catalogue w.journal u.view other ≡ Some value → value_after catalogue w.journal t.view rec ≡ Some value
-      along u other viewed same p = subst (λ (r : ℕ). value_after catalogue w.journal t.view r ≡ Some value) same (subst (λ (i : ViewId). value_after catalogue w.journal i other ≡ Some value) viewed p)
+      along : (u : Live) (other : ℕ) → u.view ≡ t.view → other ≡ rec → read_after catalogue w.journal u.view other ≡ Some value → read_after catalogue w.journal t.view rec ≡ Some value
+      along u other viewed same p = subst (λ (r : ℕ). read_after catalogue w.journal t.view r ≡ Some value) same (subst (λ (i : ViewId). read_after catalogue w.journal i other ≡ Some value) viewed p)
 
-      more : Has o.effects.messages (letter q to (message.ReadAnswer t.txn number value)) → value_after catalogue new.journal t.view rec ≡ Some value
+      more : Has o.effects.messages (letter q to (message.ReadAnswer t.txn number value)) → read_after catalogue new.journal t.view rec ≡ Some value
       more h =
           let a = answered_now catalogue w new s x given o k n d copies refresh reading inv q to number value t h in
           let u = was_live a.rec a.view a.request in
           let b = answered_now catalogue w new s x given o k n d copies refresh reading inv q to number value u.u (subst (λ (txn : TxnId). Has o.effects.messages (letter q to (message.ReadAnswer txn number value))) (sym u.named) h) in
           on w.journal b.quiet (along u.u b.rec u.viewed (one b.rec b.view (subst (λ (txn : TxnId). Has w.sent (letter to q (message.ReadRequest txn b.view number b.rec))) u.named b.request)) (b.valued j u.site u.up_then u.here))
 
-      old : Has w.sent (letter q to (message.ReadAnswer t.txn number value)) → value_after catalogue new.journal t.view rec ≡ Some value
+      old : Has w.sent (letter q to (message.ReadAnswer t.txn number value)) → read_after catalogue new.journal t.view rec ≡ Some value
       old h =
           let a = k.shares.says _ h in
           let u = was_live a.1 a.0 a.2 in
@@ -190,7 +190,7 @@ module _ (catalogue : Catalogue) (w new : Scene) (s : ℕ) (x : SiteState) (give
           let was = along u.u a.1 u.viewed same (inv.answered j q to number a.1 a.0 value u.site u.u u.up_then u.here (subst (λ (txn : TxnId). Has w.sent (letter q to (message.ReadAnswer txn number value))) (sym u.named) h) (subst (λ (txn : TxnId). Has w.sent (letter to q (message.ReadRequest txn a.0 number a.1))) (sym u.named) a.2)) in
           go was (to, number, a.0, value, h, subst (λ (r : ℕ). Has w.sent (letter to q (message.ReadRequest t.txn a.0 number r))) same a.2) (journal_now catalogue w new s x given o k n d)
         where
-          go : value_after catalogue w.journal t.view rec ≡ Some value → HasRead w q t.txn rec → JournalNow catalogue w new s x given o k n d → value_after catalogue new.journal t.view rec ≡ Some value
+          go : read_after catalogue w.journal t.view rec ≡ Some value → HasRead w q t.txn rec → JournalNow catalogue w new s x given o k n d → read_after catalogue new.journal t.view rec ≡ Some value
           go was r (JournalNow.stays z) = on w.journal z was
           go was r (JournalNow.longer e entered z) = let p = stood e entered j y t up live in on (w.journal ++ e ∷ []) z (value_grow e entered j p.site t p.up p.live p.other q rec value r was)
 
@@ -208,5 +208,5 @@ pub order_quiet : (catalogue : Catalogue) (w new : Scene) (s : ℕ) → Quiet ca
 order_quiet catalogue w new s q inv = record {
   serial = (inv.serial.0, ap (λ (es : List Commit). serial (start_values catalogue) (order es)) q.journal ∙ inv.serial.1);
   live = λ j y t up h. subst (λ (es : List Commit). Plays (content (start_values catalogue) es t.view) t.ops) (sym q.journal) (inv.live j y t (live_still catalogue w s j y t h (quiet_is catalogue w new s q j y up)) h);
-  answered = λ j a to number rec view value y t up h sent request. subst (λ (es : List Commit). value_after catalogue es t.view rec ≡ Some value) (sym q.journal) (inv.answered j a to number rec view value y t (live_still catalogue w s j y t h (quiet_is catalogue w new s q j y up)) h (rw q.sent at sent) (rw q.sent at request));
+  answered = λ j a to number rec view value y t up h sent request. subst (λ (es : List Commit). option_map (λ (c : Content). c.value) (value_after catalogue es t.view rec) ≡ Some value) (sym q.journal) (inv.answered j a to number rec view value y t (live_still catalogue w s j y t h (quiet_is catalogue w new s q j y up)) h (rw q.sent at sent) (rw q.sent at request));
 }

@@ -4,7 +4,7 @@ use Rattle.std.specs.Prelude.{Option, Some, None, option_map, option_to_list}
 use Rattle.vp_model.specs.Types.{Input, Answer, Pending, Live, Finished}
 use Rattle.vp_model.specs.Catalogue.{Catalogue, start_copies}
 use Rattle.vp_model.specs.Durable.{empty_durable}
-use Rattle.vp_model.specs.Transactions.{answer_of}
+use Rattle.vp_model.specs.Transactions.{deed_answer, answer_of}
 use Rattle.vp_model.specs.Site.{SiteState, Stepped}
 use Rattle.vp_laws.proofs.Lists.Members.{Has, has_none, has_one_is, has_cases}
 use Rattle.vp_laws.proofs.Moves.Table.{is_end}
@@ -30,10 +30,10 @@ module _ (catalogue : Catalogue) (w new : Scene) (s : ℕ) (x : SiteState) (give
   live_now t (LiveNow.writes u p other v h asks is) a there = same_answers u t a h (ap (λ (t : Live). t.answers) is) there
   live_now t (LiveNow.prepares u p h asks is) a there = same_answers u t a h (ap (λ (t : Live). t.answers) is) there
   live_now t (LiveNow.begins view h is) a there = absurd (has_none a (rw (← (ap (λ (t : Live). t.answers) is)) at there))
-  live_now t (LiveNow.completed u p operation words l h c is) a there = ⊎_elim
+  live_now t (LiveNow.completed u p deed l h c is) a there = ⊎_elim
       (λ old. inv.live s x u a d.up h old)
-      (λ new. subst (λ (a : Answer). is_end a ≡ false) (has_one_is words a new) (completed_words catalogue x given d.led (k.votes.site s x d.up) u p operation words l c))
-      (has_cases u.answers (words ∷ []) a (rw (← (ap (λ (t : Live). t.answers) is)) at there))
+      (λ new. subst (λ (a : Answer). is_end a ≡ false) (has_one_is (deed_answer u.txn p.number deed) a new) (completed_words catalogue x given d.led (k.votes.site s x d.up) u p deed l c))
+      (has_cases u.answers (deed_answer u.txn p.number deed ∷ []) a (rw (← (ap (λ (t : Live). t.answers) is)) at there))
 
   ends_now : (f : Finished) → EndsNow x f → (a : Answer) → Has f.answers a → IsOwnEnd f a
   ends_now f e a there = ⊎_elim

@@ -1,15 +1,15 @@
 -- What a live transaction has done, the operation of the step included, can be played after the entries before it; and an answer
 -- that is given has the value after them.
 use Rattle.std.proofs.Common.{◌≡◌, ◌≢◌, ◌∙◌, ap, sym, subst, ℕ, Bool, true, false, List, [], ◌∷◌, ◌++◌, refl, ⊎_elim, length}
-use Rattle.std.specs.Prelude.{Option, Some, None, is_some, option_and_then, slice_get, slice_set, ◌||◌}
-use Rattle.vp_model.specs.Types.{ViewId, TxnId, View, Sent, Commit, Input, Op, Answer, Stored, Pending, Live, Doubt}
+use Rattle.std.specs.Prelude.{option_map, Option, Some, None, is_some, option_and_then, slice_get, slice_set, ◌||◌}
+use Rattle.vp_model.specs.Types.{ViewId, TxnId, View, Sent, Commit, Input, Op, Stored, Pending, Live, Doubt}
 use Rattle.vp_model.specs.Types.message
 use Rattle.vp_model.specs.Types.op
 use Rattle.vp_model.specs.Types.owner
 use Rattle.vp_model.specs.Words.{keys, value_at}
 use Rattle.vp_model.specs.Catalogue.{Catalogue, holders, start_values}
 use Rattle.vp_model.specs.Durable.{DurableState}
-use Rattle.vp_model.specs.Transactions.{last_writes}
+use Rattle.vp_model.specs.Transactions.{with_operation, Deed, last_writes}
 use Rattle.vp_model.specs.Refresh.{is_open, is_usable_in}
 use Rattle.vp_model.specs.OneCopy.{Values, play, content}
 use Rattle.vp_model.specs.Site.{SiteState, Stepped, Lent}
@@ -30,15 +30,15 @@ use Rattle.vp_laws.proofs.Invariant.Shares.{HasRequest}
 use Rattle.vp_laws.proofs.Invariant.Held.{copy_held}
 use Rattle.vp_laws.proofs.Invariant.Reading.{InvReading}
 use Rattle.vp_laws.proofs.Keeping.Stopping.{in_force_holder}
-use Rattle.vp_laws.proofs.Journal.ValuesAfter.{value_after}
+use Rattle.vp_laws.proofs.Journal.ValuesAfter.{Content, read_after, content_of, value_after}
 use Rattle.vp_laws.proofs.Journal.ValuesGrow.{after_some}
 use Rattle.vp_laws.proofs.Journal.Playing.{content_value}
-use Rattle.vp_laws.proofs.Copies.CopiesKept.{unlisted_none}
+use Rattle.vp_laws.proofs.Copies.Refreshes.{unlisted_none}
 use Rattle.vp_laws.proofs.Copies.RefreshKept.{free_unlisted}
 use Rattle.vp_laws.proofs.Keeping.NewEntries.{journal_same}
 use Rattle.vp_laws.proofs.Copies.Usable.{usable_value}
 use Rattle.vp_laws.proofs.Journal.Contents.{content_there}
-use Rattle.vp_laws.proofs.Moves.Calls.{reads_same}
+use Rattle.vp_laws.proofs.Moves.Calls.{read_not_write_asked, reads_same}
 use Rattle.vp_laws.proofs.Keeping.Does.{Does}
 use Rattle.vp_laws.proofs.Invariant.Copies.{InvCopies}
 use Rattle.vp_laws.proofs.Invariant.Order.{Plays, InvOrder}
@@ -50,10 +50,10 @@ use Rattle.vp_laws.proofs.Lists.Numbers.{one_above}
 
 -- the value of a record after operations: the last one that they wrote, or the one before
 
-written_then : (before after : Values) (ops : List Op) (rec : ℕ) (value : List ℕ) → play before ops ≡ Some after → value_at rec (last_writes ops) ≡ Some value → is_some (slice_get before rec) ≡ true → slice_get after rec ≡ Some value
+written_then : (before after : Values) (ops : List Op) (rec : ℕ) (value : Option (List ℕ)) → play before ops ≡ Some after → value_at rec (last_writes ops) ≡ Some value → is_some (slice_get before rec) ≡ true → slice_get after rec ≡ Some value
 written_then before after ops rec value h wrote there = ap (λ (m : Values). slice_get m rec) (play_sets ops before after h) ∙ get_all rec value (last_writes ops) before (last_ascending ops) wrote there
 
-unwritten_then : (before after : Values) (ops : List Op) (rec : ℕ) (value : List ℕ) → play before ops ≡ Some after → value_at rec (last_writes ops) ≡ None → slice_get before rec ≡ Some value → slice_get after rec ≡ Some value
+unwritten_then : (before after : Values) (ops : List Op) (rec : ℕ) (value : Option (List ℕ)) → play before ops ≡ Some after → value_at rec (last_writes ops) ≡ None → slice_get before rec ≡ Some value → slice_get after rec ≡ Some value
 unwritten_then before after ops rec value h none there = ap (λ (m : Values). slice_get m rec) (play_sets ops before after h) ∙ get_all-other rec (last_writes ops) before none ∙ there
 
 -- one more operation
@@ -62,7 +62,7 @@ plays_with start ops operation p q = (p.0, q.0, p.2, play-append p.0 ops (operat
 
 module _ (catalogue : Catalogue) (w new : Scene) (s : ℕ) (x : SiteState) (given : Input) (o : Stepped) (k : Known catalogue w) (n : Known catalogue new) (d : Does catalogue w new s x given o) (copies : InvCopies catalogue w) (refresh : InvRefresh catalogue w) (reading : InvReading catalogue w) (inv : InvOrder catalogue w) where
   -- a copy here on which no other transaction has a lock has the value after the entries of views up to the held one
-  free_value : (rec : ℕ) (exclusive : Bool) (txn : TxnId) (v : View) (stored : Stored) → x.held ≡ Some v → is_open catalogue x rec ≡ true → value_at rec x.copies ≡ Some stored → IsFree rec exclusive (owner.Txn txn) x.locks → ((e : Commit) → Has w.journal e → e.txn ≢ txn) → value_after catalogue w.journal v.id rec ≡ Some stored.value
+  free_value : (rec : ℕ) (exclusive : Bool) (txn : TxnId) (v : View) (stored : Stored) → x.held ≡ Some v → is_open catalogue x rec ≡ true → value_at rec x.copies ≡ Some stored → IsFree rec exclusive (owner.Txn txn) x.locks → ((e : Commit) → Has w.journal e → e.txn ≢ txn) → value_after catalogue w.journal v.id rec ≡ Some (content_of stored)
   free_value rec exclusive txn v stored held usable copy free no_entry =
       usable_value catalogue w k.shares copies s rec x v stored d.up d.here.kept held usable
       (unlisted_none rec x.refresh (free_unlisted catalogue w new s x given o k n d copies refresh rec exclusive txn free))
@@ -96,32 +96,32 @@ module _ (catalogue : Catalogue) (w new : Scene) (s : ℕ) (x : SiteState) (give
   value_there rec before view usable h =
       let q = in_force_holder catalogue rec _ usable in
       let v = after_some catalogue w.journal view rec q.0 q.1 in
-      rw (content_value catalogue w.journal view before rec h ∙ v.1) refl
+      rw (content_value catalogue w.journal view before rec h ∙ ap (option_map (λ (c : Content). c.value)) v.1) refl
 
   -- the read that a step does has the value that the record has then
-  read_value : (u : Live) (a : Pending) (operation : Op) (words : Answer) (l : Lent) → Has x.live u → Completes catalogue x given u a operation words l → (rec : ℕ) (value : List ℕ) → operation ≡ op.Read rec value → (before after : Values) → content (start_values catalogue) w.journal u.view ≡ Some before → play before u.ops ≡ Some after → slice_get after rec ≡ Some value
-  read_value u a operation words l h (Completes.own_write r v next reads usable wrote e f g) rec value is before after start plays =
+  read_value : (u : Live) (a : Pending) (deed : Deed) (l : Lent) → Has x.live u → Completes catalogue x given u a deed l → (rec : ℕ) (value : Option (List ℕ)) → deed ≡ Deed.operates (op.Read rec value) → (before after : Values) → content (start_values catalogue) w.journal u.view ≡ Some before → play before u.ops ≡ Some after → slice_get after rec ≡ Some value
+  read_value u a deed l h (Completes.own_write r v next reads usable wrote e g) rec value is before after start plays =
       let z = sym e ∙ is in
       let same : r ≡ rec = cc in
       let valued : v ≡ value = cc in
       written_then before after u.ops rec value plays (rw (← same, ← valued) wrote) (value_there rec before u.view (subst (λ (n : ℕ). is_open catalogue x n ≡ true) same usable) start)
-  read_value u a operation words l h (Completes.own_copy r stored next reads usable none copy free e f g) rec value is before after start plays =
+  read_value u a deed l h (Completes.own_copy r stored next reads usable none copy free e g) rec value is before after start plays =
       let z = sym e ∙ is in
       let same : r ≡ rec = cc in
       let valued : stored.value ≡ value = cc in
       let of : IsOf x u = d.led.live u h in
       let now = free_value r false u.txn of.0 stored of.1 usable copy (free_from_none r false u.txn x.locks free) (live_no_entry u h) in
       unwritten_then before after u.ops rec value plays (subst (λ (n : ℕ). value_at n (last_writes u.ops) ≡ None) same none)
-      (content_value catalogue w.journal u.view before rec start ∙ subst (λ (n : ℕ). value_after catalogue w.journal u.view n ≡ Some value) same (subst (λ (i : ViewId). value_after catalogue w.journal i r ≡ Some value) of.2 (now ∙ ap (λ (v : List ℕ). Some v) valued)))
-  read_value u a operation words l h (Completes.write_again r v value2 next writes usable wrote e f g) rec value is before after start plays = absurd (let z = sym e ∙ is in cc)
-  read_value u a operation words l h (Completes.write_alone r v next writes usable none alone e f g) rec value is before after start plays = absurd (let z = sym e ∙ is in cc)
-  read_value u a operation words l h (Completes.write_answered from r v c last writes e f g) rec value is before after start plays = absurd (let z = sym e ∙ is in cc)
-  read_value u a operation words l h (Completes.read_answered from r v c last reads e f g) rec value is before after start plays =
+      (content_value catalogue w.journal u.view before rec start ∙ subst (λ (n : ℕ). read_after catalogue w.journal u.view n ≡ Some value) same (subst (λ (i : ViewId). read_after catalogue w.journal i r ≡ Some value) of.2 (ap (option_map (λ (c : Content). c.value)) now ∙ ap (λ (v : Option (List ℕ)). Some v) valued)))
+  read_value u a deed l h (Completes.change_again r v next writes usable wrote g) rec value is before after start plays = read_not_write_asked catalogue a deed rec value is writes
+  read_value u a deed l h (Completes.change_alone r next writes usable none alone g) rec value is before after start plays = read_not_write_asked catalogue a deed rec value is writes
+  read_value u a deed l h (Completes.change_answered from r c last writes g) rec value is before after start plays = read_not_write_asked catalogue a deed rec value is writes
+  read_value u a deed l h (Completes.read_answered from r v c last reads e g) rec value is before after start plays =
       let z = sym e ∙ is in
       let same : r ≡ rec = cc in
       let valued : v ≡ value = cc in
       unwritten_then before after u.ops rec value plays (subst (λ (n : ℕ). value_at n (last_writes u.ops) ≡ None) same (reading.pending s x u a r d.up h last.pending reads))
-      (content_value catalogue w.journal u.view before rec start ∙ subst (λ (n : ℕ). value_after catalogue w.journal u.view n ≡ Some value) same (answer_value ∙ ap (λ (v : List ℕ). Some v) valued))
+      (content_value catalogue w.journal u.view before rec start ∙ subst (λ (n : ℕ). read_after catalogue w.journal u.view n ≡ Some value) same (answer_value ∙ ap (λ (v : Option (List ℕ)). Some v) valued))
     where
       sent : Has w.sent (letter from s (message.ReadAnswer u.txn a.number v))
       sent = d.came from (message.ReadAnswer u.txn a.number v) c
@@ -137,19 +137,20 @@ module _ (catalogue : Catalogue) (w new : Scene) (s : ℕ) (x : SiteState) (give
           reads_same catalogue a request.1 r (subst (λ (p : Pending). Reads catalogue p request.1) one q.3) reads)
           (k.answers.asks (letter s from (message.ReadRequest u.txn request.0 a.number request.1)) request.2 x u (rw ((d.led.names u h).0 ∙ d.here.id) d.up) h refl)
 
-      answer_value : value_after catalogue w.journal u.view r ≡ Some v
-      answer_value = subst (λ (n : ℕ). value_after catalogue w.journal u.view n ≡ Some v) other_is (inv.answered s from s a.number request.1 request.0 v x u d.up h sent request.2)
+      answer_value : read_after catalogue w.journal u.view r ≡ Some v
+      answer_value = subst (λ (n : ℕ). read_after catalogue w.journal u.view n ≡ Some v) other_is (inv.answered s from s a.number request.1 request.0 v x u d.up h sent request.2)
 
   -- the operation of a step goes through
-  operation_plays : (u : Live) (a : Pending) (operation : Op) (words : Answer) (l : Lent) → Has x.live u → Completes catalogue x given u a operation words l → Plays (content (start_values catalogue) w.journal u.view) (u.ops ++ operation ∷ [])
-  operation_plays u a operation words l h c = plays_with (content (start_values catalogue) w.journal u.view) u.ops operation p (go operation c (λ rec value is. read_value u a operation words l h c rec value is p.0 p.1 p.2 p.3))
+  operation_plays : (u : Live) (a : Pending) (deed : Deed) (l : Lent) → Has x.live u → Completes catalogue x given u a deed l → Plays (content (start_values catalogue) w.journal u.view) (with_operation deed u.ops)
+  operation_plays u a (Deed.operates operation) l h c = plays_with (content (start_values catalogue) w.journal u.view) u.ops operation p (go operation (λ rec value is. read_value u a (Deed.operates operation) l h c rec value (ap (λ (o : Op). Deed.operates o) is) p.0 p.1 p.2 p.3))
     where
       p : Plays (content (start_values catalogue) w.journal u.view) u.ops
       p = inv.live s x u d.up h
 
-      go : (operation2 : Op) → Completes catalogue x given u a operation2 words l → ((rec : ℕ) (value : List ℕ) → operation2 ≡ op.Read rec value → slice_get p.1 rec ≡ Some value) → (n : Values) × (play p.1 (operation2 ∷ []) ≡ Some n)
-      go (op.Read rec value) c read = (p.1, read_plays p.1 rec value (read rec value refl))
-      go (op.Write rec value) c read = (slice_set p.1 rec value, refl)
+      go : (operation2 : Op) → ((rec : ℕ) (value : Option (List ℕ)) → operation2 ≡ op.Read rec value → slice_get p.1 rec ≡ Some value) → (n : Values) × (play p.1 (operation2 ∷ []) ≡ Some n)
+      go (op.Read rec value) read = (p.1, read_plays p.1 rec value (read rec value refl))
+      go (op.Write rec value) read = (slice_set p.1 rec value, refl)
+  operation_plays u a (Deed.weighs rec table) l h c = inv.live s x u d.up h
 
   same_plays : (u t : Live) → Has x.live u → u.view ≡ t.view → u.ops ≡ t.ops → Plays (content (start_values catalogue) w.journal t.view) t.ops
   same_plays u t h viewed done = subst (λ (ops : List Op). Plays (content (start_values catalogue) w.journal t.view) ops) done (subst (λ (i : ViewId). Plays (content (start_values catalogue) w.journal i) u.ops) viewed (inv.live s x u d.up h))
@@ -161,19 +162,19 @@ module _ (catalogue : Catalogue) (w new : Scene) (s : ℕ) (x : SiteState) (give
   plays_then t (LiveNow.reads u a other q h asks is) = same_plays u t h (ap (λ (t : Live). t.view) is) (ap (λ (t : Live). t.ops) is)
   plays_then t (LiveNow.writes u a other v h asks is) = same_plays u t h (ap (λ (t : Live). t.view) is) (ap (λ (t : Live). t.ops) is)
   plays_then t (LiveNow.prepares u a h asks is) = same_plays u t h (ap (λ (t : Live). t.view) is) (ap (λ (t : Live). t.ops) is)
-  plays_then t (LiveNow.completed u a operation words l h c is) = subst (λ (t : Live). Plays (content (start_values catalogue) w.journal t.view) t.ops) is (operation_plays u a operation words l h c)
+  plays_then t (LiveNow.completed u a deed l h c is) = subst (λ (t : Live). Plays (content (start_values catalogue) w.journal t.view) t.ops) is (operation_plays u a deed l h c)
   plays_then t (LiveNow.begins view h is) =
       let m = content_there (start_values catalogue) w.journal view.id inv.serial.0 inv.serial.1 in
       subst (λ (t : Live). Plays (content (start_values catalogue) w.journal t.view) t.ops) is (m.0, m.0, m.1, refl)
 
   -- an answer that is given now
-  record Replied (q to : ℕ) (txn : TxnId) (number : ℕ) (value : List ℕ) : Type 0 where
+  record Replied (q to : ℕ) (txn : TxnId) (number : ℕ) (value : Option (List ℕ)) : Type 0 where
     rec : ℕ
     stored : Stored
     granted : Granted x given to txn number rec false stored
     valued : stored.value ≡ value
 
-  replied : (m : Sent) → ReplyTo x given o.site.participant m → (q : ℕ) (txn : TxnId) (number : ℕ) (value : List ℕ) → m.message ≡ message.ReadAnswer txn number value → Replied q m.to txn number value
+  replied : (m : Sent) → ReplyTo x given o.site.participant m → (q : ℕ) (txn : TxnId) (number : ℕ) (value : Option (List ℕ)) → m.message ≡ message.ReadAnswer txn number value → Replied q m.to txn number value
   replied m (ReplyTo.other quiet) q txn number value is = absurd (let z = ap is_reply is in cc)
   replied m (ReplyTo.doubt_again u a b i f) q txn number value is = absurd (let z = f ∙ is in cc)
   replied m (ReplyTo.vote_again part a b i z f) q txn number value is = absurd (let z = f ∙ is in cc)
@@ -192,7 +193,7 @@ module _ (catalogue : Catalogue) (w new : Scene) (s : ℕ) (x : SiteState) (give
   request_came to number rec txn view (Requests.reads e) = d.came to _ e
 
   -- for a transaction that is live at its site
-  replied_value : (q to : ℕ) (number : ℕ) (value : List ℕ) (j : ℕ) (y : SiteState) (u : Live) (r : Replied q to u.txn number value) → plain_at w j ≡ Some y → Has y.live u → value_after catalogue w.journal u.view r.rec ≡ Some value
+  replied_value : (q to : ℕ) (number : ℕ) (value : Option (List ℕ)) (j : ℕ) (y : SiteState) (u : Live) (r : Replied q to u.txn number value) → plain_at w j ≡ Some y → Has y.live u → read_after catalogue w.journal u.view r.rec ≡ Some value
   replied_value q to number value j y u r up h =
       let g = r.granted in
       let v = holding x g.view g.held in
@@ -202,20 +203,20 @@ module _ (catalogue : Catalogue) (w new : Scene) (s : ℕ) (x : SiteState) (give
       let usable = (refresh.asked to s number r.rec u.txn g.view false v.0 (HasRequest.to_read request) (d.here.held v.0 v.1, v.2)).0 in
       let no_entry : (e : Commit) → Has w.journal e → e.txn ≢ u.txn = (λ e entry named. k.ends.entry e entry y (rw (ap (λ (t : TxnId). t.site) named) at) u h (sym named)) in
       let now = free_value r.rec false u.txn v.0 r.stored v.1 (subst (λ (held : Option View). is_usable_in catalogue held r.rec ≡ true) (sym v.1) usable) g.copy (free_from_none r.rec false u.txn x.locks g.free) no_entry in
-      subst (λ (i : ViewId). value_after catalogue w.journal i r.rec ≡ Some value) (v.2 ∙ sym viewed) (now ∙ ap (λ (v : List ℕ). Some v) r.valued)
+      subst (λ (i : ViewId). read_after catalogue w.journal i r.rec ≡ Some value) (v.2 ∙ sym viewed) (ap (option_map (λ (c : Content). c.value)) now ∙ ap (λ (v : Option (List ℕ)). Some v) r.valued)
 
   read_quiet : (to : ℕ) (txn : TxnId) (view : ViewId) (number rec : ℕ) → Requests given to txn view number rec false → new.journal ≡ w.journal
   read_quiet to txn view number rec (Requests.reads e) = journal_same catalogue w new s x given o k n d to (message.ReadRequest txn view number rec) e (λ q. let z = q.1 in cc)
 
-  pub record AnsweredNow (q to number : ℕ) (value : List ℕ) (u : Live) : Type 0 where
+  pub record AnsweredNow (q to number : ℕ) (value : Option (List ℕ)) (u : Live) : Type 0 where
     pub rec : ℕ
     pub view : ViewId
     pub here : q ≡ s
     pub quiet : new.journal ≡ w.journal
     pub request : Has w.sent (letter to q (message.ReadRequest u.txn view number rec))
-    pub valued : (j : ℕ) (y : SiteState) → plain_at w j ≡ Some y → Has y.live u → value_after catalogue w.journal u.view rec ≡ Some value
+    pub valued : (j : ℕ) (y : SiteState) → plain_at w j ≡ Some y → Has y.live u → read_after catalogue w.journal u.view rec ≡ Some value
 
-  pub answered_now : (q to number : ℕ) (value : List ℕ) (u : Live) → Has o.effects.messages (letter q to (message.ReadAnswer u.txn number value)) → AnsweredNow q to number value u
+  pub answered_now : (q to number : ℕ) (value : Option (List ℕ)) (u : Live) → Has o.effects.messages (letter q to (message.ReadAnswer u.txn number value)) → AnsweredNow q to number value u
   answered_now q to number value u h =
       let here : q ≡ s = d.shares.from _ h ∙ d.here.id in
       let r = replied (letter q to (message.ReadAnswer u.txn number value)) (d.shares.replies _ h) q u.txn number value refl in

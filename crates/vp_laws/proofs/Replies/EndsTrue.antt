@@ -4,7 +4,7 @@ use Rattle.std.specs.Prelude.{Some, None, ◌&&◌}
 use Rattle.std.specs.List.{list_any, list_all}
 use Rattle.std.proofs.lemmas.Bool.Decides.{nat_tests}
 use Rattle.vp_model.specs.Types.{TxnId, Commit, Input, Answer, Reply, Shown, Ending, Finished}
-use Rattle.vp_base.specs.declared.site.Ending.TheVariants.{Committed, Aborted, LockHeld, ViewChanged, TimedOut}
+use Rattle.vp_base.specs.declared.site.Ending.TheVariants.{Inaccessible, Committed, Aborted, LockHeld, ViewChanged, TimedOut}
 use Rattle.vp_model.specs.Types.answer
 use Rattle.vp_model.specs.Words.{same_txn}
 use Rattle.vp_model.specs.Catalogue.{Catalogue}
@@ -71,6 +71,7 @@ agrees_abort by last txn number Aborted e none = rw none refl
 agrees_abort by last txn number (LockHeld name at owner) e none = rw none refl
 agrees_abort by last txn number (ViewChanged at held now) e none = rw none refl
 agrees_abort by last txn number (TimedOut at) e none = rw none refl
+agrees_abort by last txn number (Inaccessible name inside total) e none = refl
 
 -- a reply that says that a transaction was refused says its end
 refused_ends : (txn : TxnId) (a : Answer) (j : ℕ) → refused_number txn a ≡ Some j → is_end a ≡ false → ⊥

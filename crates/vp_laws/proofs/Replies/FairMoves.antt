@@ -1,28 +1,31 @@
 -- After one step what is refused is still justified, and so are the step's own answers.
-use Rattle.std.proofs.Common.{◌≡◌, ◌≢◌, ◌∙◌, ◌⊎◌, inl, inr, append-nil, ap, sym, subst, ℕ, zero, suc, ◌+◌, ◌-◌, ◌≤◌, ◌*◌, Bool, true, false, List, [], ◌∷◌, ◌++◌, map, refl, arith, ⊎_elim, length}
+use Rattle.std.proofs.Common.{◌≡◌, ◌≢◌, ◌∙◌, ◌⊎◌, inl, inr, append-nil, ap, sym, subst, ℕ, zero, suc, ◌+◌, ◌-◌, ◌≤◌, ◌*◌, Bool, true, false, cond, List, [], ◌∷◌, ◌++◌, map, refl, arith, ⊎_elim, length}
 use Rattle.std.specs.Prelude.{slice_get, Option, Some, None, is_some, option_map, option_to_list, nat_le, nat_lt, ◌&&◌, ◌||◌}
 use Rattle.std.proofs.lemmas.Bool.Decides.{nat_tests}
 use Rattle.std.proofs.Math.ListN.{length-append}
-use Rattle.vp_model.specs.Types.{TxnId, ViewId, View, Owner, Obstacle, Answer, Reply, Message, Input, Pending, Live, Ending, Finished}
-use Rattle.vp_base.specs.declared.site.Ending.TheVariants.{Committed, Aborted, LockHeld, ViewChanged, TimedOut}
+use Rattle.vp_model.specs.Calls.{short_by, short_here, short, change_asked}
+use Rattle.vp_model.specs.Types.op
+use Rattle.vp_model.specs.Types.{TxnId, ViewId, View, Owner, Obstacle, Answer, Event, Reply, Message, Input, Pending, Live, Ending, Finished}
+use Rattle.vp_base.specs.declared.site.Ending.TheVariants.{Committed, Aborted, LockHeld, ViewChanged, TimedOut, Inaccessible}
 use Rattle.vp_model.specs.Types.answer
+use Rattle.vp_model.specs.Types.input
 use Rattle.vp_model.specs.Types.message
 use Rattle.vp_model.specs.Types.obstacle
-use Rattle.vp_model.specs.Words.{is_view, same_txn}
-use Rattle.vp_model.specs.Catalogue.{Catalogue, find_record, inside, total}
+use Rattle.vp_model.specs.Words.{is_view, same_txn, first_some}
+use Rattle.vp_model.specs.Catalogue.{Catalogue, Table as Weights, find_record, weights_of, weight_inside, weight_total, accessible_by}
 use Rattle.vp_model.specs.Site.{SiteState, Stepped}
 use Rattle.vp_model.specs.Answers.{is_live}
 use Rattle.vp_model.specs.Messages.{held_id}
 use Rattle.vp_model.specs.Locks.{conflict}
-use Rattle.vp_model.specs.Transactions.{answer_of, answers_after}
+use Rattle.vp_model.specs.Transactions.{Deed, answer_of, answers_after}
 use Rattle.vp_model.specs.Refresh.{members_in, is_usable_in}
 use Rattle.vp_model.specs.Step.{step}
 use Rattle.vp_model.specs.Told.{answers_in}
 use Rattle.vp_model.specs.World.{WorldState, Moment}
-use Rattle.vp_model.specs.Justified.{justified, was_blocked, held_other, is_held_by, is_other_view, left_then, closed_then, takes_refusal, is_step_of, tested_before, answers_call, keeps_end, tells_end, Request, handles, is_named, is_begun, weighs, refused_number, refused_in}
+use Rattle.vp_model.specs.Justified.{justified, was_blocked, held_other, is_held_by, is_other_view, left_then, closed_then, takes_refusal, is_step_of, tested_before, answers_call, keeps_end, tells_end, Request, handles, is_named, is_begun, table_in, sums_are, weighs, refused_number, refused_in}
 use Rattle.vp_laws.proofs.Replies.RefusedCalls.{refused_last, none_refused, first_told, refused_of}
 use Rattle.vp_laws.proofs.Lists.Members.{Has, has_none, has_one, has_left, has_right, has_cases, has_one_is, map_has, any_true, any_of}
-use Rattle.vp_laws.proofs.Moves.Table.{Comes, Handled, Reads, Writes, Requests, Asks}
+use Rattle.vp_laws.proofs.Moves.Table.{record_of, Comes, Handled, Reads, Changes, Tries, Requests, Asks}
 use Rattle.vp_laws.proofs.Moves.LocalViews.{letter}
 use Rattle.vp_laws.proofs.Worlds.Scenes.{Scene, scene_of, plain_at, acted}
 use Rattle.vp_laws.proofs.Worlds.Events.{Arrives}
@@ -37,7 +40,7 @@ use Rattle.vp_laws.proofs.Moves.Reasons.{IsCallOf, Operates, Takes, Awaits, Why,
 use Rattle.vp_laws.proofs.Table.Refusals.{Refused, RefuseSays, refusals-step}
 use Rattle.vp_laws.proofs.Table.Fair.{is_free, finished_as, LiveFrom, FinishedFrom, ReplyFrom, Causes, causes-step}
 use Rattle.vp_laws.proofs.Replies.Fair.{WasBegun, Once, ByLock, OtherView, Fair, Untold, TellsEnd, closes, begun_more, fair_more, fair_justified}
-use Rattle.vp_laws.proofs.Replies.FairStep.{IsStep, step_here, handles_now, operation_asks, named_here, tested_x, replied, blocked_here, blocked_there, other_there, left_now, closed_now, called_now, called_first, pending_now, took_refusal, same_now, same_view-self}
+use Rattle.vp_laws.proofs.Replies.FairStep.{IsStep, table_called, step_here, handles_now, operation_asks, named_here, tested_x, replied, blocked_here, blocked_there, other_there, left_now, closed_now, called_now, called_first, pending_now, took_refusal, same_now, same_view-self}
 use Rattle.vp_laws.proofs.Replies.FairAt.{IsAsked, RefuseFair, RefuseOk, FairEnd, FairAt, refuse_on, end_more, free_justified, report_fair}
 use Rattle.vp_laws.proofs.Table.Kept.{is_report, kept_has}
 use Rattle.vp_laws.proofs.Moves.Coordinator.{slice_has}
@@ -152,7 +155,7 @@ module _ (catalogue : Catalogue) (world : WorldState) (past : List Moment) (m0 :
 
   number_told : (t : Live) → Handled x t → (a : Answer) → ReplyFrom catalogue x given o.site a → (n : ℕ) → refused_number t.txn a ≡ Some n → n ≡ length t.answers + 1
   number_told t at a (ReplyFrom.free b f) n e = absurd (free_unrefused t.txn b n f e)
-  number_told t at a (ReplyFrom.inaccessible u p name rec exclusive takes op found f) n e = cc
+  number_told t at a (ReplyFrom.inaccessible u p name rec exclusive deed weights takes op found tries f) n e = cc
   number_told t at a (ReplyFrom.repeated f place b k q c) n e = ⊎_elim
       (λ r. absurd (report_unrefused t.txn b n r e))
       (λ (r : (number : ℕ) × (b ≡ answer_of f.txn number f.ending)). absurd (finished_other t f r.0 n at k (ap (refused_number t.txn) (sym r.1) ∙ e)))
@@ -210,10 +213,21 @@ module _ (catalogue : Catalogue) (world : WorldState) (past : List Moment) (m0 :
   uses_reads : (p : Pending) (name : List ℕ) (exclusive : Bool) (rec : ℕ) → Operates p.call name exclusive → Reads catalogue p rec → find_record catalogue name ≡ Some rec
   uses_reads p name exclusive rec (Operates.reads txn n e) r = let z = r.words in let same : r.name ≡ name = cc in rw (← same) r.found
   uses_reads p name exclusive rec (Operates.writes txn n value e) r = let z = r.words in cc
+  uses_reads p name exclusive rec (Operates.deletes txn n e) r = let z = r.words in cc
+  uses_reads p name exclusive rec (Operates.weighs txn n table e) r = let z = r.words in cc
 
-  uses_writes : (p : Pending) (name : List ℕ) (exclusive : Bool) (rec : ℕ) (value : List ℕ) → Operates p.call name exclusive → Writes catalogue p rec value → find_record catalogue name ≡ Some rec
-  uses_writes p name exclusive rec value (Operates.reads txn n e) r = let z = r.words in cc
-  uses_writes p name exclusive rec value (Operates.writes txn n v e) r = let z = r.words in let same : r.name ≡ name = cc in rw (← same) r.found
+  of_record : (name : List ℕ) (f : ℕ → Deed) (rec : ℕ) (deed : Deed) → ((k : ℕ) → record_of (f k) ≡ k) → option_map f (find_record catalogue name) ≡ Some deed → record_of deed ≡ rec → find_record catalogue name ≡ Some rec
+  of_record name f rec deed at asked on = go (find_record catalogue name) asked
+    where
+      go : (o : Option ℕ) → option_map f o ≡ Some deed → o ≡ Some rec
+      go None e = cc
+      go (Some k) e = let is : f k ≡ deed = cc in ap (λ (n : ℕ). Some n) (sym (at k) ∙ ap record_of is ∙ on)
+
+  uses_writes : (p : Pending) (name : List ℕ) (exclusive : Bool) (rec : ℕ) (deed : Deed) → Operates p.call name exclusive → Changes catalogue p rec deed → find_record catalogue name ≡ Some rec
+  uses_writes p name exclusive rec deed (Operates.reads txn n e) r = let z = ap (change_asked catalogue) (sym e) ∙ r.asked in cc
+  uses_writes p name exclusive rec deed (Operates.writes txn n v e) r = of_record name (λ k. Deed.operates (op.Write k (Some v))) rec deed (λ k. refl) (ap (change_asked catalogue) (sym e) ∙ r.asked) r.on
+  uses_writes p name exclusive rec deed (Operates.deletes txn n e) r = of_record name (λ k. Deed.operates (op.Write k None)) rec deed (λ k. refl) (ap (change_asked catalogue) (sym e) ∙ r.asked) r.on
+  uses_writes p name exclusive rec deed (Operates.weighs txn n table e) r = of_record name (λ k. Deed.weighs k table) rec deed (λ k. refl) (ap (change_asked catalogue) (sym e) ∙ r.asked) r.on
 
   up_there : (t : Live) → Has x.live t → plain_at w t.txn.site ≡ Some x
   up_there t h = rw (own_site t h) up
@@ -224,7 +238,7 @@ module _ (catalogue : Catalogue) (world : WorldState) (past : List Moment) (m0 :
     (known.led.asked _ m).5,
   )
   named_there t p from q view rec flag exclusive name a (HasRequest.to_write m) op =
-      let r = current t p (λ p. (value : List ℕ) × Writes catalogue p rec value) a.live a.pending (known.answers.asks _ m x t (up_there t a.live) a.live refl) in (
+      let r = current t p (λ p. (deed : Deed) × Changes catalogue p rec deed) a.live a.pending (known.answers.asks _ m x t (up_there t a.live) a.live refl) in (
         uses_writes p name exclusive rec r.0 op r.1,
         (known.led.asked _ m).5,
       )
@@ -319,18 +333,44 @@ module _ (catalogue : Catalogue) (world : WorldState) (past : List Moment) (m0 :
   told_of : (t : Live) (why : Ending) → ((p : Pending) → t.pending ≡ Some p → Has o.effects.replies (told_to p.port (answer_of t.txn p.number why))) → (p : Pending) → t.pending ≡ Some p → Has (answers_in m0.line) (answer_of t.txn p.number why)
   told_of t why told p e = replied catalogue m0 world s x given o is p.port (answer_of t.txn p.number why) (told p e)
 
-  -- the weights that an answer names
-  weighs_x : (t : Live) (name : List ℕ) (rec : ℕ) → Has x.live t → find_record catalogue name ≡ Some rec → is_usable_in catalogue x.held rec ≡ false → weighs catalogue name (inside catalogue rec (members_in x.held)) (total catalogue rec) x ≡ true
-  weighs_x t name rec h found e =
-      let v = d.led.live t h in
-      let up_to : nat_le (2 * inside catalogue rec (members_in x.held)) (total catalogue rec) ≡ true = not_more (total catalogue rec) (2 * inside catalogue rec (members_in x.held)) e in
-      some_held v.0 v.1 (rw (found, eq_self (inside catalogue rec (members_in x.held)), eq_self (total catalogue rec), up_to) refl)
-    where
-      not_more : (a b : ℕ) → nat_lt a b ≡ false → nat_le b a ≡ true
-      not_more a b e = grind (arith, nat_tests, e)
+  -- the weights that an answer names: by the call's own table, or by the catalogue's
+  weighs_when : (words : Event) (name : List ℕ) (rec : ℕ) (v : View) (i n : ℕ) → x.held ≡ Some v → nat_lt n (2 * i) ≡ false → find_record catalogue name ≡ Some rec → (option_map_or (λ table. sums_are table i n x) (table_in words) false || sums_are (weights_of catalogue rec) i n x) ≡ true → weighs catalogue words name i n x ≡ true
+  weighs_when words name rec v i n held short found sums =
+      let up_to : nat_le (2 * i) n ≡ true = grind (arith, nat_tests, short) in
+      let some : is_some x.held ≡ true = rw held refl in
+      rw (some, up_to, found) sums
 
-      some_held : {b : Bool} (v : View) → x.held ≡ Some v → b ≡ true → (is_some x.held && b) ≡ true
-      some_held v e f = rw (e, f) refl
+  sums_self : (table : Weights) → sums_are table (weight_inside (members_in x.held) table) (weight_total table) x ≡ true
+  sums_self table = rw (eq_self (weight_inside (members_in x.held) table), eq_self (weight_total table)) refl
+
+  weighs_x : (t : Live) (p : Pending) (name : List ℕ) (rec : ℕ) (deed : Deed) (weights : ℕ × ℕ) → Takes x given t p → find_record catalogue name ≡ Some rec → Tries p.call rec deed → short catalogue x.held rec deed ≡ Some weights → weighs catalogue m0.line.event name weights.0 weights.1 x ≡ true
+  weighs_x t p name rec deed weights at found tries e = go deed tries (short_by deed (members_in x.held)) refl e
+    where
+      v : (v : View) × (x.held ≡ Some v)
+      v = let q = d.led.live t at.live in (q.0, q.1)
+
+      of_table : (table : Weights) (b : Bool) → accessible_by table (members_in x.held) ≡ b → (weights : ℕ × ℕ) → cond b None (Some (weight_inside (members_in x.held) table, weight_total table)) ≡ Some weights → (table_in m0.line.event ≡ Some table) ⊎ (weights_of catalogue rec ≡ table) → weighs catalogue m0.line.event name weights.0 weights.1 x ≡ true
+      of_table table true f weights e own = cc
+      of_table table false f weights e own =
+          let is : (weight_inside (members_in x.held) table, weight_total table) ≡ weights = cc in
+          subst (λ (q : ℕ × ℕ). weighs catalogue m0.line.event name q.0 q.1 x ≡ true) is
+          (weighs_when m0.line.event name rec v.0 (weight_inside (members_in x.held) table) (weight_total table) v.1 f found (⊎_elim
+          (λ called. or_left (option_map_or (λ t. sums_are t (weight_inside (members_in x.held) table) (weight_total table) x) (table_in m0.line.event) false) _ (rw called (sums_self table)))
+          (λ same. or_right (option_map_or (λ t. sums_are t (weight_inside (members_in x.held) table) (weight_total table) x) (table_in m0.line.event) false) _ (rw same (sums_self table)))
+          own))
+
+      by_catalogue : (weights : ℕ × ℕ) → short_here catalogue x.held rec ≡ Some weights → weighs catalogue m0.line.event name weights.0 weights.1 x ≡ true
+      by_catalogue weights e = of_table (weights_of catalogue rec) (is_usable_in catalogue x.held rec) refl weights e (inr refl)
+
+      go : (a : Deed) → Tries p.call rec a → (o : Option (ℕ × ℕ)) → short_by a (members_in x.held) ≡ o → first_some o (short_here catalogue x.held rec) ≡ Some weights → weighs catalogue m0.line.event name weights.0 weights.1 x ≡ true
+      go a from None q e = by_catalogue weights e
+      go _ (Tries.weighs txn number called table words) (Some own) q e =
+          let same : own ≡ weights = cc in
+          subst (λ (k : ℕ × ℕ). weighs catalogue m0.line.event name k.0 k.1 x ≡ true) same
+          (of_table table (accessible_by table (members_in x.held)) refl own q (inl (table_called m0.line.event world s given is.gives p.port txn number called table (at.called.comes ∙ ap (input.Call p.port) words))))
+      go _ (Tries.reads txn number called words) (Some own) q e = cc
+      go _ (Tries.writes txn number called value words) (Some own) q e = cc
+      go _ (Tries.deletes txn number called words) (Some own) q e = cc
 
   -- the step is of the transaction's own site, which closes it or keeps its end, and answers this call
   tells_here : (txn : TxnId) (n : ℕ) → txn.site ≡ s → (closed_then txn m0 || tested_before s (keeps_end txn) m0) ≡ true → answers_call txn n m0 ≡ true → tells_end txn n m0 ≡ true
@@ -353,6 +393,7 @@ module _ (catalogue : Catalogue) (world : WorldState) (past : List Moment) (m0 :
   kept_tells f h n (LockHeld name at holder) calls = keeps_tells f n h (calls (own_held f.txn n name at holder))
   kept_tells f h n (ViewChanged at held held_now) calls = keeps_tells f n h (calls (own_view f.txn n at held held_now))
   kept_tells f h n (TimedOut at) calls = tt
+  kept_tells f h n (Inaccessible name inside total) calls = tt
 
   -- a kept refusal is repeated to the call that has its number, or to one under number 0
   place_called : (f : Finished) (place : ℕ) (a : Answer) (n : ℕ) → Has x.finished f → kept_answer place f.answers ≡ Some a → IsCallOf given f.txn place → refused_number f.txn a ≡ Some n → answers_call f.txn n m0 ≡ true
@@ -382,19 +423,20 @@ module _ (catalogue : Catalogue) (world : WorldState) (past : List Moment) (m0 :
   why_tells t (LockHeld name from holder) p at y e h = closes_tells t p.number (handled_site t at) (closed_here t _ p.number at h (own_held t.txn p.number name from holder)) (closed_called t _ p y e)
   why_tells t (ViewChanged from held held_now) p at y e h = closes_tells t p.number (handled_site t at) (closed_here t _ p.number at h (own_view t.txn p.number from held held_now)) (closed_called t _ p y e)
   why_tells t (TimedOut from) p at y e h = tt
+  why_tells t (Inaccessible name inside total) p at y e h = tt
 
   end_justified : (a : Answer) → Fair catalogue now a → Untold (lines_in now) a → TellsEnd m0 a → justified catalogue now m0 a ≡ true
   end_justified a f untold ends = fair_justified catalogue now m0 a f untold ends
 
   reply_justified : (a : Answer) → Has (answers_in m0.line) a → Untold (lines_in now) a → ReplyFrom catalogue x given o.site a → justified catalogue now m0 a ≡ true
   reply_justified a h untold (ReplyFrom.free b e) = free_justified catalogue now m0 b e
-  reply_justified a h untold (ReplyFrom.inaccessible t p name rec exclusive at op found e) =
-      let i = inside catalogue rec (members_in x.held) in
-      let n = total catalogue rec in
+  reply_justified a h untold (ReplyFrom.inaccessible t p name rec exclusive deed weights at op found tries e) =
+      let i = weights.0 in
+      let n = weights.1 in
       let r : Request = record { txn = t.txn; number = p.number; lock = Some (rec, exclusive); view = None } in
       let asked : handles catalogue s t.txn p.number (λ request. option_map_or (λ lock. is_named catalogue name lock.0) request.lock false) m0 ≡ true = handles_now catalogue m0 world s x given o is r (λ request. option_map_or (λ lock. is_named catalogue name lock.0) request.lock false) (operation_asks catalogue m0 world s x given o is t p name rec exclusive at.called op found) (named_here catalogue m0 world s x given o is name rec found) in
-      let weighed : tested_before s (λ site. is_live t.txn site.live && weighs catalogue name i n site) m0 ≡ true = tested_x catalogue m0 world s x given o is (λ site. is_live t.txn site.live && weighs catalogue name i n site) (all_of_two (is_live t.txn x.live) (weighs catalogue name i n x) (was_live t at.live) (weighs_x t name rec at.live found e)) in
-      subst (λ (k : ℕ). (handles catalogue k t.txn p.number (λ request. option_map_or (λ lock. is_named catalogue name lock.0) request.lock false) m0 && tested_before k (λ site. is_live t.txn site.live && weighs catalogue name i n site) m0) ≡ true) (sym (own_site t at.live)) (all_of_two _ _ asked weighed)
+      let weighed : tested_before s (λ site. is_live t.txn site.live && weighs catalogue m0.line.event name i n site) m0 ≡ true = tested_x catalogue m0 world s x given o is (λ site. is_live t.txn site.live && weighs catalogue m0.line.event name i n site) (all_of_two (is_live t.txn x.live) (weighs catalogue m0.line.event name i n x) (was_live t at.live) (weighs_x t p name rec deed weights at found tries e)) in
+      subst (λ (k : ℕ). (handles catalogue k t.txn p.number (λ request. option_map_or (λ lock. is_named catalogue name lock.0) request.lock false) m0 && tested_before k (λ site. is_live t.txn site.live && weighs catalogue m0.line.event name i n site) m0) ≡ true) (sym (own_site t at.live)) (all_of_two _ _ asked weighed)
   reply_justified a h untold (ReplyFrom.repeated f place b k q c) =
       end_justified b (fair_more catalogue past (m0 ∷ []) b ((fair.finished s x f up k).answers b (kept_has place f.answers b q))) untold (⊎_elim
       (λ r. report_tells m0 b r)

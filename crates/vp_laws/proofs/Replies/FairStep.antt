@@ -8,19 +8,20 @@ use Rattle.std.proofs.lemmas.Bool.Decides.{nat_tests}
 use Rattle.std.proofs.lemmas.Slice.Eq.{bytes_eq-Decides}
 use Rattle.vp_model.specs.Types.{TxnId, ViewId, View, Owner, Obstacle, Call, Answer, Reply, Message, Sent, Event, Input, Pending, Live}
 use Rattle.vp_model.specs.Types.answer
+use Rattle.vp_model.specs.Types.call
 use Rattle.vp_model.specs.Types.input
 use Rattle.vp_model.specs.Types.message
 use Rattle.vp_model.specs.Types.obstacle
 use Rattle.vp_model.specs.Types.shown
 use Rattle.vp_model.specs.Words.{same_txn, same_view, is_view}
-use Rattle.vp_model.specs.Catalogue.{Catalogue, find_record}
+use Rattle.vp_model.specs.Catalogue.{Catalogue, Table as Weights, find_record}
 use Rattle.vp_model.specs.Locks.{conflict}
 use Rattle.vp_model.specs.Site.{SiteState, Stepped}
 use Rattle.vp_model.specs.World.{WorldState, Moment, site_of}
 use Rattle.vp_model.specs.Answers.{is_live}
 use Rattle.vp_model.specs.Messages.{held_id}
 use Rattle.vp_model.specs.Told.{answers_in, messages_in, is_call, call_in}
-use Rattle.vp_model.specs.Justified.{Request, call_request, message_request, request_of, site_named, is_step_of, is_request, tested_before, tested_after, blocks, is_named, says_held, gave_held, was_blocked, refuses, is_held_by, is_other_view, is_same_view, handles, held_other, left_then, closed_then, delivered_by, takes_refusal, is_called, is_pending, answers_call}
+use Rattle.vp_model.specs.Justified.{Request, table_in, call_request, message_request, request_of, site_named, is_step_of, is_request, tested_before, tested_after, blocks, is_named, says_held, gave_held, was_blocked, refuses, is_held_by, is_other_view, is_same_view, handles, held_other, left_then, closed_then, delivered_by, takes_refusal, is_called, is_pending, answers_call}
 use Rattle.vp_laws.proofs.Lists.Members.{Has, both_true, any_of}
 use Rattle.vp_laws.proofs.Lists.Changes.{mapped_has}
 use Rattle.vp_model.proofs.SameTxn.{same_txn-is, same_txn-self}
@@ -70,6 +71,13 @@ called_in e w s given (Gives.called calls is) port words c = let same : calls �
 called_in e w s given (Gives.came k m is at to) port words c = cc
 called_in e w s given (Gives.ticked is) port words c = cc
 called_in e w s given (Gives.probed is) port words c = cc
+
+-- the table of the call that comes
+pub table_called : (e : Event) (w : WorldState) (s : ℕ) (given : Input) → Gives e w s given → (port : ℕ) (txn : TxnId) (number : ℕ) (name : List ℕ) (table : Weights) → given ≡ input.Call port (call.Weigh txn number name table) → table_in e ≡ Some table
+table_called e w s given (Gives.called calls is) port txn number name table c = let same : calls ≡ call.Weigh txn number name table = cc in rw (is, same) refl
+table_called e w s given (Gives.came k m is at to) port txn number name table c = cc
+table_called e w s given (Gives.ticked is) port txn number name table c = cc
+table_called e w s given (Gives.probed is) port txn number name table c = cc
 
 sent_is : (m : Sent) (from to : ℕ) (words : Message) → m.from ≡ from → m.to ≡ to → m.message ≡ words → m ≡ letter from to words
 sent_is m from to words p q r = rw (← p, ← q, ← r) refl
@@ -135,6 +143,8 @@ module _ (catalogue : Catalogue) (m : Moment) (w : WorldState) (s : ℕ) (x : Si
       go : (exclusive : Bool) → Operates p.call name exclusive → call_request catalogue p.call ≡ Some (record { txn = t.txn; number = p.number; lock = Some (rec, exclusive); view = None })
       go exclusive (Operates.reads txn n e) = let q = both txn n (rw e at c.own) in rw (e, found, q.0, q.1) refl
       go exclusive (Operates.writes txn n value e) = let q = both txn n (rw e at c.own) in rw (e, found, q.0, q.1) refl
+      go exclusive (Operates.deletes txn n e) = let q = both txn n (rw e at c.own) in rw (e, found, q.0, q.1) refl
+      go exclusive (Operates.weighs txn n table e) = let q = both txn n (rw e at c.own) in rw (e, found, q.0, q.1) refl
 
   says : (txn : TxnId) (number : ℕ) (name : List ℕ) (holder : Owner) → says_held txn number name s holder (answer.LockHeld txn number name s holder) ≡ true
   says txn number name holder = rw (same_txn-self txn, eq_self number, (bytes_eq-Decides name name).1 refl, eq_self s) (same_owner-self holder)

@@ -5,7 +5,7 @@ use Rattle.std.proofs.lemmas.Bool.{le-leb}
 use Rattle.std.proofs.lemmas.Grind.{flat_map-append}
 use Rattle.std.proofs.lemmas.List.Elements.{filter_map-append}
 use Rattle.vp_model.specs.Types.{TxnId, Answer, Ending}
-use Rattle.vp_base.specs.declared.site.Ending.TheVariants.{Committed, Aborted, LockHeld, ViewChanged, TimedOut}
+use Rattle.vp_base.specs.declared.site.Ending.TheVariants.{Inaccessible, Committed, Aborted, LockHeld, ViewChanged, TimedOut}
 use Rattle.vp_model.specs.Words.{first, same_txn}
 use Rattle.vp_model.specs.Transactions.{answer_of}
 use Rattle.vp_model.specs.World.{Moment}
@@ -105,6 +105,7 @@ refused_of u txn number Aborted n e = cc
 refused_of u txn number (LockHeld name at holder) n e = (its_own u txn number n e, its_number (same_txn u txn) number n e)
 refused_of u txn number (ViewChanged at held now) n e = (its_own u txn number n e, its_number (same_txn u txn) number n e)
 refused_of u txn number (TimedOut at) n e = cc
+refused_of u txn number (Inaccessible name inside total) n e = cc
 
 -- where each reply that speaks of it has this number, so has the first
 pub first_told : (txn : TxnId) (answers : List Answer) (n : ℕ) → ((a : Answer) → Has answers a → (k : ℕ) → refused_number txn a ≡ Some k → k ≡ n) → (a : Answer) → Has answers a → refused_number txn a ≡ Some n → first (filter_map (refused_number txn) answers) ≡ Some n

@@ -3,7 +3,7 @@
 use Rattle.std.proofs.Common.{◌≡◌, ◌∙◌, ap, sym, subst, ℕ, ◌≤◌, true, List, [], ◌∷◌, map, refl, arith, ⊎_elim}
 use Rattle.std.specs.Prelude.{Option, Some, None, nat_eq, nat_lt, flat_map, ◌==◌}
 use Rattle.vp_catalog.specs.Document.{IsCatalogue}
-use Rattle.vp_model.specs.Types.{ViewId, TxnId, Message, Sent, Input, Lock, Live, Doubt, Decision}
+use Rattle.vp_model.specs.Types.{Change, ViewId, TxnId, Message, Sent, Input, Lock, Live, Doubt, Decision}
 use Rattle.vp_model.specs.Types.owner
 use Rattle.vp_model.specs.Words.{opening, has, put_number, for_each}
 use Rattle.vp_model.specs.Catalogue.{Catalogue, sites_of, start_copies}
@@ -71,7 +71,7 @@ module _ (catalogue : Catalogue) (k : IsCatalogue catalogue) where
   locks_of : (doubts : List Doubt) → ((d : Doubt) → Has doubts d → N d.txn) → (l : Lock) → Has (flat_map locks_in_doubt doubts) l → OwnerNamed N A l.owner
   locks_of [] all l h = absurd (has_none l h)
   locks_of (d ∷ doubts) all l h =
-      ⊎_elim (λ here. let r = map_has (λ (w : ℕ × List ℕ). record { rec = w.0; exclusive = true; owner = owner.Txn d.txn }) d.writes l here in subst (OwnerNamed N A) (ap (λ (l : Lock). l.owner) r.2) (all d (has_first d doubts)))
+      ⊎_elim (λ here. let r = map_has (λ (w : ℕ × Change). record { rec = w.0; exclusive = true; owner = owner.Txn d.txn }) d.writes l here in subst (OwnerNamed N A) (ap (λ (l : Lock). l.owner) r.2) (all d (has_first d doubts)))
       (λ later. locks_of doubts (λ e q. all e (has_more d doubts e q)) l later)
       (has_cases (locks_in_doubt d) (flat_map locks_in_doubt doubts) l h)
 
@@ -143,7 +143,7 @@ module _ (catalogue : Catalogue) (k : IsCatalogue catalogue) where
   parts_now x given all t (LiveNow.still h) q p = all t h q p
   parts_now x given all t (LiveNow.marked u h tick e) q p = all u h q (rw (← e) at p)
   parts_now x given all t (LiveNow.waits u r from h pending missing more c e) q p = all u h q (rw (← e) at p)
-  parts_now x given all t (LiveNow.completed u r operation words l h c e) q p = all u h q (rw (← e) at p)
+  parts_now x given all t (LiveNow.completed u r deed l h c e) q p = all u h q (rw (← e) at p)
   parts_now x given all t (LiveNow.reads u r rec n h a e) q p =
       let z : Has (put_number n u.parts) q = rw (← e) at p in
       ⊎_elim (λ (new : q ≡ n). subst S (sym new) (other_holders_stand catalogue k x.id x.held rec n a.holder)) (λ old. all u h q old) (put_has nat_eq nat_lt n u.parts q z)

@@ -220,7 +220,7 @@ module _ (catalogue : Catalogue) (k : IsCatalogue catalogue) where
         begin = λ port view e g u. (calls.coordinator.begin port view e g u, hushed (lent_at x) _ refl refl begins);
         answers = λ words port why y. (calls.coordinator.answers words port why y, hushed (lent_at x) _ refl refl begins);
         take_lock = λ t rec exclusive stored h i a v c. (calls.coordinator.take_lock t rec exclusive stored h i a v c, takes_lock t rec exclusive);
-        complete = λ t p operation words l h g y e q. (calls.coordinator.complete t p operation words l h g y e q.0, hushed l _ refl refl q.1);
+        complete = λ t p deed l h g y e q. (calls.coordinator.complete t p deed l h g y e q.0, hushed l _ refl refl q.1);
         read_at = λ t p rec q h n r a w c o y. (calls.coordinator.read_at t p rec q h n r a w c o y, lent_more (lent_at x) _ (letter x.id q (message.ReadRequest t.txn t.view p.number rec) ∷ []) refl refl (letter_to x.id q (message.ReadRequest t.txn t.view p.number rec) (to_holders x rec q o)) begins);
         write_at = λ t p rec value l h n w a e o d y v q. (calls.coordinator.write_at t p rec value l h n w a e o d y v q.0, writes_at t p rec l q.1);
         prepare_parts = λ t p h i g e. (calls.coordinator.prepare_parts t p h i g e, lent_more (lent_at x) _ (letters x.id (prepare_for catalogue t p) t.parts) refl refl (letters_to x.id (prepare_for catalogue t p) t.parts (parts t h)) begins);

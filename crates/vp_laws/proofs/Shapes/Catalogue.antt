@@ -1,14 +1,15 @@
 -- What holds of a catalogue that has a text: sites from 1 to 16, records below 256, weights that fit.
 use Rattle.std.proofs.Common.{◌≡◌, ◌≤◌, ◌<◌, ap, ℕ, suc, zero, ◌+◌, ◌*◌, ◌^◌, Bool, true, List, [], ◌∷◌, map, refl, arith, length}
-use Rattle.std.specs.Prelude.{Option, Some, filter, not, ◌==◌, sum_by, slice_get}
+use Rattle.std.specs.Prelude.{Option, Some, None, filter, not, ◌==◌, sum_by, slice_get}
 use Rattle.std.specs.List.{AllByRecursion, position_from, enumerate_from}
 use Rattle.std.specs.Str.{bytes_eq}
 use Rattle.std.proofs.lemmas.List.Sums.{sum_by-cons}
 use Rattle.std.proofs.lemmas.Bool.Decides.{nat_tests}
 use Rattle.vp_bytes.specs.Fields.{IsSite, IsRecord, IsAscending}
+use Rattle.vp_contents.specs.Tables.{IsAscendingTable, IsTable}
 use Rattle.vp_model.specs.Types.{Stored, View}
 use Rattle.vp_model.specs.Words.{has, keys, opening}
-use Rattle.vp_model.specs.Catalogue.{Catalogue, RecordEntry, sites_of, find_record, weights_in, weights_of, holders, weight_inside, inside, total, copies_from, start_copies}
+use Rattle.vp_model.specs.Catalogue.{Catalogue, RecordEntry, sites_of, find_record, weights_in, weights_of, holders, weight_total, weight_inside, inside, total, copies_from, start_copies}
 use Rattle.vp_model.specs.Refresh.{other_holders_in}
 use Rattle.vp_model.specs.Views.{other_sites}
 use Rattle.vp_catalog.specs.Document.{IsCatalogue, AreSites}
@@ -77,6 +78,16 @@ module _ (c : Catalogue) (k : IsCatalogue c) where
   pub inside_fits : (rec : ℕ) (members : List ℕ) → inside c rec members < 2 ^ 32
   inside_fits rec members = let less = inside_less members (weights_of c rec) in let all = total_fits rec in omega (arith, less, all)
 
+  table_sum : (least : ℕ) (ws : List (ℕ × ℕ)) → IsAscendingTable least ws → sum_by (λ (w : ℕ × ℕ). w.1) ws ≤ length ws * 65535
+  table_sum least [] h = omega arith
+  table_sum least (w ∷ ws) h = let rest = table_sum (suc w.0) ws h.3 in let one = sum_by-cons (λ (w : ℕ × ℕ). w.1) w ws in let most = h.2.1 in omega (arith, rest, one, most)
+
+  pub table_fits : (table : List (ℕ × ℕ)) → IsTable table → weight_total table < 2 ^ 32
+  table_fits table h = let sum = table_sum 1 table h.2 in let few = h.1 in omega (arith, sum, few)
+
+  pub part_fits : (table : List (ℕ × ℕ)) (members : List ℕ) → IsTable table → weight_inside members table < 2 ^ 32
+  part_fits table members h = let less = inside_less members table in let all = table_fits table h in omega (arith, less, all)
+
   -- ---- records
 
   position_within : (test : RecordEntry → Bool) (place i : ℕ) (records : List RecordEntry) → position_from test place records ≡ Some i → i < place + length records
@@ -90,7 +101,7 @@ module _ (c : Catalogue) (k : IsCatalogue c) where
   test site placed = has (keys placed.1.weights) site
 
   abbrev copy_of : ℕ × RecordEntry → ℕ × Stored
-  copy_of placed = (placed.0, record { value = placed.1.start; date = opening })
+  copy_of placed = (placed.0, record { value = Some placed.1.start; table = None; date = opening })
 
   copies_ascend : (site place most : ℕ) (records : List RecordEntry) → place + length records ≤ suc most → IsAscending place most (keys (copies_from place records site))
   copies_ascend site place most [] few = tt

@@ -5,12 +5,11 @@ use Rattle.std.specs.List.{AllByRecursion}
 use Rattle.std.proofs.lemmas.Bool.Decides.{nat_tests}
 use Rattle.vp_base.specs.Identifiers.{IsTxn}
 use Rattle.vp_bytes.specs.Fields.{IsAscending}
-use Rattle.vp_bytes.specs.Doubts.{IsDoubt}
 use Rattle.vp_bytes.specs.Decisions.{IsDecision}
 use Rattle.vp_model.specs.Types.{TxnId, Doubt, Decision}
 use Rattle.vp_model.specs.Words.{same_txn, txn_before, is_empty}
 use Rattle.vp_model.specs.Durable.{put_doubt, without_doubt, put_decision, with_decision, acknowledged}
-use Rattle.vp_laws.specs.Shapes.{AreDoubts, AreDecisions, doubt_before, decision_before}
+use Rattle.vp_laws.specs.Shapes.{IsDoubt, AreDoubts, AreDecisions, doubt_before, decision_before}
 use Rattle.vp_laws.proofs.Lists.Items.{all_filter, all_put, all_map, ascends_put, ascends_filter, ascends_map}
 use Rattle.vp_laws.proofs.Shapes.Numbers.{ascending_filter, some_sites}
 use Rattle.vp_laws.proofs.Lists.Keeps.{by_test}

@@ -4,19 +4,18 @@ use Rattle.std.specs.Prelude.{◌==◌, ◌&&◌, ◌||◌}
 use Rattle.std.specs.List.{AllByRecursion}
 use Rattle.std.proofs.lemmas.Bool.Decides.{nat_tests}
 use Rattle.std.proofs.lemmas.List.{append_assoc}
-use Rattle.vp_bytes.specs.Fields.{IsAscendingWrites}
-use Rattle.vp_bytes.specs.Doubts.{IsDoubt}
 use Rattle.vp_model.specs.Types.{Change, TxnId, Lock, Doubt}
 use Rattle.vp_model.specs.Types.owner
 use Rattle.vp_model.specs.Words.{keys, same_owner, same_txn, txn_before}
 use Rattle.vp_model.specs.Locks.{holds, with_lock}
 use Rattle.vp_model.specs.Step.{locks_in_doubt}
-use Rattle.vp_laws.specs.Shapes.{AreDoubts, doubt_before, Above, Ascends}
+use Rattle.vp_laws.specs.Shapes.{IsDoubt, AreDoubts, doubt_before, Above, Ascends}
 use Rattle.vp_laws.specs.ShapeLaws.{take_all, take_doubts}
 use Rattle.vp_laws.proofs.Lists.Items.{all_append, all_and_one}
+use Rattle.vp_laws.proofs.Shapes.Numbers.{IsRising}
 use Rattle.vp_text.proofs.Items.{all_each}
 
-abbrev lock_of : TxnId → ℕ × List ℕ → Lock
+abbrev lock_of : TxnId → ℕ × Change → Lock
 lock_of txn w = record { rec = w.0; exclusive = true; owner = owner.Txn txn }
 
 -- a lock of the transaction is on a record below
@@ -35,7 +34,7 @@ none_held txn rec (lock ∷ locks) h = go (lock.rec == rec) refl (same_owner loc
 takes_one : (txn : TxnId) (rec : ℕ) (locks : List Lock) → AllByRecursion (Below txn rec) locks → with_lock rec true (owner.Txn txn) locks ≡ locks ++ (record { rec = rec; exclusive = true; owner = owner.Txn txn }) ∷ []
 takes_one txn rec locks h = rw (none_held txn rec locks h) refl
 
-takes_all : (txn : TxnId) (least : ℕ) (writes : List (ℕ × Change)) (locks : List Lock) → IsAscendingWrites least writes → AllByRecursion (Below txn least) locks → take_all txn (keys writes) locks ≡ locks ++ map (lock_of txn) writes
+takes_all : (txn : TxnId) (least : ℕ) (writes : List (ℕ × Change)) (locks : List Lock) → IsRising least writes → AllByRecursion (Below txn least) locks → take_all txn (keys writes) locks ≡ locks ++ map (lock_of txn) writes
 takes_all txn least [] locks a h = sym (append-nil locks)
 takes_all txn least (w ∷ writes) locks a h =
     let low = a.0 in

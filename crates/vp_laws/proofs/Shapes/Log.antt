@@ -1,14 +1,14 @@
 -- What a well-formed site gives to others: a checkpoint of its durable part, its start record, its first durable part and its
 -- frames.
 use Rattle.std.proofs.Common.{◌≡◌, ◌<◌, ap, ℕ, suc, ◌+◌, ◌^◌, Bool, true, List, [], ◌∷◌, refl, arith, length}
-use Rattle.std.specs.Prelude.{AllPairs}
+use Rattle.std.specs.Prelude.{Some, None, AllPairs}
 use Rattle.std.specs.List.{AllByRecursion, enumerate_from}
 use Rattle.std.proofs.lemmas.List.Elements.{All-from_recursion}
 use Rattle.std.proofs.lemmas.List.Kept.{AllPairs-cons}
 use Rattle.vp_base.specs.Identifiers.{IsView}
 use Rattle.vp_bytes.specs.Fields.{IsSite, IsAscending}
-use Rattle.vp_bytes.specs.Copies.{IsCopy}
-use Rattle.vp_bytes.specs.Doubts.{IsDoubt}
+use Rattle.vp_contents.specs.Copies.{IsCopy as IsCopyIn}
+use Rattle.vp_contents.specs.declared.version.Version.TheVariants as versions
 use Rattle.vp_bytes.specs.Decisions.{IsDecision}
 use Rattle.vp_records.specs.Records.{IsLogRecord, CanBeSaved}
 use Rattle.vp_wire.specs.Grammar.{IsFrame}
@@ -19,7 +19,7 @@ use Rattle.vp_model.specs.Words.{has, keys, opening}
 use Rattle.vp_model.specs.Catalogue.{Catalogue, RecordEntry, sites_of, start_copies}
 use Rattle.vp_model.specs.Durable.{DurableState, empty_durable}
 use Rattle.vp_model.specs.Step.{start_record}
-use Rattle.vp_laws.specs.Shapes.{IsStored, IsDurable, IsSent, IsReply, doubt_before, decision_before, Ascends}
+use Rattle.vp_laws.specs.Shapes.{IsStored, IsDoubt, IsDurable, IsSent, IsReply, doubt_before, decision_before, Ascends}
 use Rattle.vp_laws.proofs.Lists.Items.{all_map, all_filter}
 use Rattle.vp_laws.specs.ShapeLaws.{message_frame, reply_frame}
 use Rattle.vp_laws.proofs.Shapes.Numbers.{ascending_length}
@@ -32,6 +32,9 @@ pairs_of before (x ∷ xs) h = AllPairs-cons (λ a b. before a b ≡ true) x xs 
 abbrev Pair : Type 0
 Pair = ℕ × Stored
 
+abbrev IsCopy : Pair → Type 0
+IsCopy copy = IsCopyIn versions.Second copy
+
 keys_above : (n low : ℕ) (copies : List Pair) → n < low → IsAscending low 255 (keys copies) → AllByRecursion (λ (b : Pair). n < b.0) copies
 keys_above n low [] lt h = tt
 keys_above n low (c ∷ copies) lt h = (omega (arith, lt, h.0), keys_above n (suc c.0) copies (omega (arith, lt, h.0)) h.2)
@@ -42,7 +45,7 @@ copies_pairs low (c ∷ copies) h = AllPairs-cons (λ (a : Pair) (b : Pair). a.0
 
 each_copy : (low : ℕ) (copies : List Pair) → IsAscending low 255 (keys copies) → AllByRecursion (λ (c : Pair). IsStored c.1) copies → AllByRecursion IsCopy copies
 each_copy low [] h s = tt
-each_copy low (c ∷ copies) h s = let most = h.1 in ((omega (arith, most), s.0.0, s.0.1), each_copy (suc c.0) copies h.2 s.1)
+each_copy low (c ∷ copies) h s = let most = h.1 in ((omega (arith, most), s.0), each_copy (suc c.0) copies h.2 s.1)
 
 keys_length : (copies : List Pair) → length (keys copies) ≡ length copies
 keys_length [] = refl
@@ -69,7 +72,7 @@ start_is d left = left
 -- ---- the durable part before the first life
 
 abbrev copy_of : ℕ × RecordEntry → Pair
-copy_of placed = (placed.0, record { value = placed.1.start; date = opening })
+copy_of placed = (placed.0, record { value = Some placed.1.start; table = None; date = opening })
 
 opening_is : IsView opening
 opening_is = record { number_fits = omega arith; site_fits = omega arith; opening = λ q. refl; made = λ q. absurd (omega (arith, q)) }
@@ -84,7 +87,7 @@ fresh_is_durable catalogue id k = record {
   life = omega arith;
   copies_are = record {
     held = refl;
-    stored = all_map (λ (placed : ℕ × RecordEntry). IsEntry (sites_of catalogue) placed.1) (λ (c : Pair). IsStored c.1) copy_of (λ placed i. (i.start_is, opening_is)) _ (all_filter (λ (placed : ℕ × RecordEntry). IsEntry (sites_of catalogue) placed.1) (λ (placed : ℕ × RecordEntry). has (keys placed.1.weights) id) (enumerate_from 0 catalogue.records) (entries_from (sites_of catalogue) 0 catalogue.records k.so_far.records_are));
+    stored = all_map (λ (placed : ℕ × RecordEntry). IsEntry (sites_of catalogue) placed.1) (λ (c : Pair). IsStored c.1) copy_of (λ placed i. (i.start_is, tt, opening_is)) _ (all_filter (λ (placed : ℕ × RecordEntry). IsEntry (sites_of catalogue) placed.1) (λ (placed : ℕ × RecordEntry). has (keys placed.1.weights) id) (enumerate_from 0 catalogue.records) (entries_from (sites_of catalogue) 0 catalogue.records k.so_far.records_are));
   };
   doubts_are = record { each = tt; ascend = tt };
   decisions_are = record { each = tt; ascend = tt };
@@ -93,7 +96,7 @@ fresh_is_durable catalogue id k = record {
 -- ---- frames
 
 pub sent_is_frame : (catalogue : Catalogue) (id : ℕ) (sent : Sent) → IsCatalogue catalogue → has (sites_of catalogue) id ≡ true → IsSent id sent → IsFrame (message_frame sent)
-sent_is_frame catalogue id sent k listed i = let s : IsSite sent.from = rw i.0 (listed_is catalogue k id listed) in (s, i.1, i.2)
+sent_is_frame catalogue id sent k listed i = let s : IsSite sent.from = rw i.0 (listed_is catalogue k id listed) in (omega arith, omega arith, (s, i.1, i.2))
 
 pub reply_is_frame : (catalogue : Catalogue) (id : ℕ) (reply : Reply) → IsCatalogue catalogue → has (sites_of catalogue) id ≡ true → IsReply reply → IsFrame (reply_frame id reply)
-reply_is_frame catalogue id reply k listed i = (listed_is catalogue k id listed, refl, i.1)
+reply_is_frame catalogue id reply k listed i = (omega arith, omega arith, (listed_is catalogue k id listed, refl, i.1))

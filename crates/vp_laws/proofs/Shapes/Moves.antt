@@ -3,14 +3,17 @@ use Rattle.std.proofs.Common.{◌≡◌, ◌<◌, ◌∙◌, ℕ, suc, ◌^◌, 
 use Rattle.std.specs.Prelude.{Option, Some, None, IfSome, fold, nat_lt, ◌==◌, ◌||◌}
 use Rattle.std.specs.List.{AllByRecursion}
 use Rattle.vp_base.specs.Identifiers.{IsView, IsTxn}
-use Rattle.vp_bytes.specs.Fields.{IsSite, IsOwner, IsAscendingWrites}
-use Rattle.vp_bytes.specs.Doubts.{IsDoubt}
+use Rattle.vp_bytes.specs.Fields.{IsSite, IsOwner}
+use Rattle.vp_contents.specs.Changes.{IsPut, IsChange}
+use Rattle.vp_contents.specs.Contents.{IsContent}
+use Rattle.vp_contents.specs.Tables.{IsMaybeTable}
+use Rattle.vp_contents.specs.declared.version.Version.TheVariants as versions
 use Rattle.vp_records.specs.Records.{IsLogRecord}
-use Rattle.vp_wire.specs.Grammar.{IsMessage, IsAnswer}
-use Rattle.vp_model.specs.Types.{Change, ViewId, TxnId, Stored, Owner, Answer, Message, LogRecord, Commit, Sent, Effects, Lock, Refreshing, Doubt}
-use Rattle.vp_model.specs.Words.{for_each, value_at, replace_at, same_txn, put_txn, put_at, txn_before}
-use Rattle.vp_model.specs.Catalogue.{Catalogue}
-use Rattle.vp_model.specs.Durable.{with_writes, doubt_of}
+use Rattle.vp_model.specs.Types.{Put, Change, ViewId, TxnId, Stored, Owner, Answer, Message, LogRecord, Commit, Sent, Effects, Lock, Refreshing, Doubt}
+use Rattle.vp_model.specs.Types.puts
+use Rattle.vp_model.specs.Words.{for_each, value_at, change_at, replace_at, same_txn, put_txn, put_at, txn_before}
+use Rattle.vp_model.specs.Catalogue.{Catalogue, Table}
+use Rattle.vp_model.specs.Durable.{with_put, with_new_table, changed, with_writes, doubt_of}
 use Rattle.vp_model.specs.Locks.{lesser, conflict, holds, raised, with_lock}
 use Rattle.vp_model.specs.Site.{ViewState, ParticipantState, CoordinatorState, SiteState, Stepped, with_entry, with_commit, with_reply, with_message, with_sent, letters, with_each_message, change_views, change_locks, change_copies, change_participant, change_refresh}
 use Rattle.vp_model.specs.Refresh.{newer, newest}
@@ -18,10 +21,11 @@ use Rattle.vp_model.specs.Messages.{with_answer}
 use Rattle.vp_model.specs.Step.{known}
 use Rattle.vp_laws.proofs.Lists.Members.{find_has}
 use Rattle.vp_laws.proofs.Lists.Changes.{value_has}
-use Rattle.vp_laws.specs.Shapes.{IsStored, AreCopies, AreDoubts, AreViews, IsLock, IsPart, IsRefreshing, IsCoordinator, IsShaped, IsSent, IsReply, AreShaped}
+use Rattle.vp_laws.specs.Shapes.{IsMessage, IsAnswer, IsStored, IsDoubt, AreCopies, AreDoubts, AreViews, IsLock, IsPart, IsRefreshing, IsCoordinator, IsShaped, IsShort, IsSent, IsReply, AreShaped}
 use Rattle.vp_laws.proofs.Lists.Items.{all_at, all_append, all_and_one, all_filter, all_put, all_map}
 use Rattle.vp_laws.proofs.Lists.Keeps.{by_test}
-use Rattle.vp_records.proofs.Held.{replaced_keys}
+use Rattle.vp_records.proofs.Held.{changed_keys, replaced_keys}
+use Rattle.vp_laws.proofs.Shapes.Numbers.{IsRising}
 
 pub record Forms (catalogue : Catalogue) (x : SiteState) (o : Stepped) : Type 0 where
   pub site_is : IsShaped catalogue o.site
@@ -30,24 +34,27 @@ pub record Forms (catalogue : Catalogue) (x : SiteState) (o : Stepped) : Type 0 
 
 -- ---- what is given
 
+abbrev IsSmall : Sent → Type 0
+IsSmall sent = IsShort sent.message
+
 module _ (id : ℕ) (e : Effects) (a : AreShaped id e) where
   pub gives_entry : (entry : LogRecord) → IsLogRecord entry → AreShaped id (with_entry entry e)
-  gives_entry entry i = record { records_are = all_and_one IsLogRecord e.records entry a.records_are i; messages_are = a.messages_are; replies_are = a.replies_are }
+  gives_entry entry i = record { records_are = all_and_one IsLogRecord e.records entry a.records_are i; messages_are = a.messages_are; short_are = a.short_are; replies_are = a.replies_are }
 
   pub gives_commit : (commit : Commit) → AreShaped id (with_commit commit e)
-  gives_commit commit = record { records_are = a.records_are; messages_are = a.messages_are; replies_are = a.replies_are }
+  gives_commit commit = record { records_are = a.records_are; messages_are = a.messages_are; short_are = a.short_are; replies_are = a.replies_are }
 
   pub gives_reply : (answer : Answer) (to : ℕ) → to < 2 ^ 16 → IsAnswer answer → AreShaped id (with_reply answer to e)
-  gives_reply answer to fits i = record { records_are = a.records_are; messages_are = a.messages_are; replies_are = all_and_one IsReply e.replies (record { to = to; answer = answer }) a.replies_are (fits, i) }
+  gives_reply answer to fits i = record { records_are = a.records_are; messages_are = a.messages_are; short_are = a.short_are; replies_are = all_and_one IsReply e.replies (record { to = to; answer = answer }) a.replies_are (fits, i) }
 
-  pub gives_message : (from : ℕ) (message : Message) (to : ℕ) → from ≡ id → IsSite to → IsMessage message → AreShaped id (with_message from message to e)
-  gives_message from message to own s i = record { records_are = a.records_are; messages_are = all_and_one (IsSent id) e.messages (record { from = from; to = to; message = message }) a.messages_are (own, s, i); replies_are = a.replies_are }
+  pub gives_message : (from : ℕ) (message : Message) (to : ℕ) → from ≡ id → IsSite to → IsMessage message → IsShort message → AreShaped id (with_message from message to e)
+  gives_message from message to own s i small = record { records_are = a.records_are; messages_are = all_and_one (IsSent id) e.messages (record { from = from; to = to; message = message }) a.messages_are (own, s, i); short_are = all_and_one IsSmall e.messages (record { from = from; to = to; message = message }) a.short_are small; replies_are = a.replies_are }
 
-  pub gives_sent : (messages : List Sent) → AllByRecursion (IsSent id) messages → AreShaped id (with_sent messages e)
-  gives_sent messages i = record { records_are = a.records_are; messages_are = all_append (IsSent id) e.messages messages a.messages_are i; replies_are = a.replies_are }
+  pub gives_sent : (messages : List Sent) → AllByRecursion (IsSent id) messages → AllByRecursion IsSmall messages → AreShaped id (with_sent messages e)
+  gives_sent messages i small = record { records_are = a.records_are; messages_are = all_append (IsSent id) e.messages messages a.messages_are i; short_are = all_append IsSmall e.messages messages a.short_are small; replies_are = a.replies_are }
 
-  pub gives_each : (from : ℕ) (message_to : ℕ → Message) (sites : List ℕ) → from ≡ id → AllByRecursion IsSite sites → ((q : ℕ) → IsMessage (message_to q)) → AreShaped id (with_each_message from message_to sites e)
-  gives_each from message_to sites own s i = gives_sent (letters from message_to sites) (all_map IsSite (IsSent id) (λ q. record { from = from; to = q; message = message_to q }) (λ q h. (own, h, i q)) sites s)
+  pub gives_each : (from : ℕ) (message_to : ℕ → Message) (sites : List ℕ) → from ≡ id → AllByRecursion IsSite sites → ((q : ℕ) → IsMessage (message_to q)) → ((q : ℕ) → IsShort (message_to q)) → AreShaped id (with_each_message from message_to sites e)
+  gives_each from message_to sites own s i small = gives_sent (letters from message_to sites) (all_map IsSite (IsSent id) (λ q. record { from = from; to = q; message = message_to q }) (λ q h. (own, h, i q)) sites s) (all_map IsSite IsSmall (λ q. record { from = from; to = q; message = message_to q }) (λ q h. small q) sites s)
 
 -- ---- what changes
 
@@ -90,7 +97,7 @@ module _ (catalogue : Catalogue) (x : SiteState) (o : Stepped) (p : Forms catalo
     gives = p.gives;
   }
 
-  pub with_coordinator : (c : CoordinatorState) → IsCoordinator c → Forms catalogue x (record o { site = record o.site { coordinator = c } })
+  pub with_coordinator : (c : CoordinatorState) → IsCoordinator catalogue c → Forms catalogue x (record o { site = record o.site { coordinator = c } })
   with_coordinator c v = let s = p.site_is in record {
     site_is = record { listed = s.listed; lived = s.lived; life_fits = s.life_fits; views_are = s.views_are; locks_are = s.locks_are; copies_are = s.copies_are; parts_are = s.parts_are; doubts_are = s.doubts_are; refresh_are = s.refresh_are; coordinator_is = v };
     same = p.same;
@@ -129,9 +136,27 @@ replace_is catalogue id rec stored copies i a = record {
   stored = all_map (λ (c : ℕ × Stored). IsStored c.1) (λ (c : ℕ × Stored). IsStored c.1) (λ (p : ℕ × Stored). cond (p.0 == rec) (rec, stored) p) (λ p h. by_test (λ (c : ℕ × Stored). IsStored c.1) (p.0 == rec) (rec, stored) p (λ e. i) (λ e. h)) copies a.stored;
 }
 
-pub writes_are : (catalogue : Catalogue) (id least : ℕ) (date : ViewId) (writes : List (ℕ × Change)) (copies : List (ℕ × Stored)) → IsView date → IsAscendingWrites least writes → AreCopies catalogue id copies → AreCopies catalogue id (with_writes date writes copies)
+changed_is : (date : ViewId) (change : Change) (stored : Stored) → IsView date → IsChange versions.Second change → IsStored stored → IsStored (changed date change stored)
+changed_is date change stored v c i = (put_is change.put c.0, table_is change.table c.1, v)
+  where
+    put_is : (put : Put) → IsPut versions.Second put → IsContent versions.Second (with_put put stored.value)
+    put_is puts.Keep p = i.0
+    put_is puts.Absent p = tt
+    put_is (puts.Value value) p = p
+
+    table_is : (table : Option Table) → IsMaybeTable versions.Second table → IsMaybeTable versions.Second (with_new_table table stored.table)
+    table_is None t = i.1
+    table_is (Some table) t = t
+
+change_at_is : (catalogue : Catalogue) (id rec : ℕ) (date : ViewId) (change : Change) (copies : List (ℕ × Stored)) → IsView date → IsChange versions.Second change → AreCopies catalogue id copies → AreCopies catalogue id (change_at rec (changed date change) copies)
+change_at_is catalogue id rec date change copies v c a = record {
+  held = changed_keys rec (changed date change) copies ∙ a.held;
+  stored = all_map (λ (c : ℕ × Stored). IsStored c.1) (λ (c : ℕ × Stored). IsStored c.1) (λ (p : ℕ × Stored). cond (p.0 == rec) (rec, changed date change p.1) p) (λ p h. by_test (λ (c : ℕ × Stored). IsStored c.1) (p.0 == rec) (rec, changed date change p.1) p (λ e. changed_is date change p.1 v c h) (λ e. h)) copies a.stored;
+}
+
+pub writes_are : (catalogue : Catalogue) (id least : ℕ) (date : ViewId) (writes : List (ℕ × Change)) (copies : List (ℕ × Stored)) → IsView date → IsRising least writes → AreCopies catalogue id copies → AreCopies catalogue id (with_writes date writes copies)
 writes_are catalogue id least date [] copies v h a = a
-writes_are catalogue id least date (w ∷ writes) copies v h a = writes_are catalogue id (suc w.0) date writes _ v h.3 (replace_is catalogue id w.0 (record { value = w.1; date = date }) copies (h.2, v) a)
+writes_are catalogue id least date (w ∷ writes) copies v h a = writes_are catalogue id (suc w.0) date writes _ v h.3 (change_at_is catalogue id w.0 date w.1 copies v h.2 a)
 
 pub copy_is : (copies : List (ℕ × Stored)) (rec : ℕ) (stored : Stored) → AllByRecursion (λ (c : ℕ × Stored). IsStored c.1) copies → value_at rec copies ≡ Some stored → IsStored stored
 copy_is copies rec stored h e = let q = value_has rec copies stored e in rw (← q.2) (all_at (λ (c : ℕ × Stored). IsStored c.1) copies h q.0 q.1)

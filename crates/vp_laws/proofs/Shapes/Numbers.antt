@@ -1,16 +1,29 @@
 -- Ascending numbers in a range and ascending writes, after a change.
-use Rattle.std.proofs.Common.{◌≡◌, ◌≤◌, ℕ, suc, ◌+◌, Bool, false, cond, List, [], ◌∷◌, refl, arith, length}
-use Rattle.std.specs.Prelude.{Some, filter, fold, nat_lt, nat_eq, ◌==◌}
+use Rattle.std.proofs.Common.{◌≡◌, ◌≤◌, ◌<◌, ap, subst, ℕ, suc, ◌+◌, Bool, true, false, cond, List, [], ◌∷◌, map, refl, arith, length}
+use Rattle.std.specs.Prelude.{Option, Some, None, is_some, filter, fold, nat_lt, nat_eq, ◌==◌, ◌||◌}
 use Rattle.std.specs.List.{AllByRecursion}
+use Rattle.std.proofs.lemmas.Bool.{or_right}
 use Rattle.std.proofs.lemmas.Bool.Decides.{nat_tests}
-use Rattle.vp_base.specs.Words.{IsValue}
-use Rattle.vp_bytes.specs.Fields.{IsSite, IsRecord, IsAscending, IsSites, IsAscendingWrites, IsWrites}
-use Rattle.vp_model.specs.Types.{Change, Op}
+use Rattle.vp_base.specs.Tables.{AreShares, IsTable as IsCallTable}
+use Rattle.vp_bytes.specs.Fields.{IsSite, IsRecord, IsAscending, IsSites}
+use Rattle.vp_contents.specs.Contents.{IsContent}
+use Rattle.vp_contents.specs.Tables.{IsAscendingTable, IsTable, IsMaybeTable}
+use Rattle.vp_contents.specs.Changes.{IsPut, Alters, IsChange, IsAscendingWrites, IsWrites}
+use Rattle.vp_contents.specs.declared.version.Version.TheVariants as versions
+use Rattle.vp_model.specs.Types.{Change, Op, Commit}
 use Rattle.vp_model.specs.Types.op
 use Rattle.vp_model.specs.Words.{put, put_number, put_at, value_at, for_each, is_empty}
-use Rattle.vp_model.specs.Transactions.{with_op, last_writes}
-use Rattle.vp_laws.specs.Shapes.{IsOp}
+use Rattle.vp_model.specs.Catalogue.{Table}
+use Rattle.vp_model.specs.Transactions.{with_op, last_writes, last_put, change_of, last_changes}
+use Rattle.vp_laws.specs.Shapes.{IsOp, IsGiven}
 use Rattle.vp_laws.proofs.Lists.Keeps.{by_test}
+use Rattle.vp_laws.proofs.Lists.Members.{Has, has_first, has_more, map_has, all_of}
+use Rattle.vp_laws.proofs.Lists.Changes.{mapped_has}
+use Rattle.vp_laws.proofs.Lists.Items.{all_at, all_put}
+use Rattle.vp_laws.proofs.Lists.Pairs.{pair_there, value_there}
+use Rattle.vp_laws.proofs.Journal.Play.{Ascending}
+use Rattle.vp_laws.proofs.Journal.Places.{last_value}
+use Rattle.vp_laws.proofs.Journal.LastChanges.{changes_ascending}
 
 pub length_filter : {X : Type 0} (test : X → Bool) (xs : List X) → length (filter test xs) ≤ length xs
 length_filter test [] = omega arith
@@ -19,6 +32,10 @@ length_filter test (x ∷ xs) = let rest = length_filter test xs in by_test (λ 
 pub length_put : {X : Type 0} (same before : X → X → Bool) (x : X) (ys : List X) → length (put same before x ys) ≤ suc (length ys)
 length_put same before x [] = omega arith
 length_put same before x (y ∷ ys) = let rest = length_put same before x ys in by_test (λ zs. length zs ≤ suc (suc (length ys))) (same x y) (x ∷ ys) (cond (before x y) (x ∷ y ∷ ys) (y ∷ put same before x ys)) (λ e. omega arith) (λ e. by_test (λ zs. length zs ≤ suc (suc (length ys))) (before x y) (x ∷ y ∷ ys) (y ∷ put same before x ys) (λ f. omega arith) (λ f. omega arith))
+
+mapped_length : {X Y : Type 0} (f : X → Y) (xs : List X) → length (map f xs) ≡ length xs
+mapped_length f [] = refl
+mapped_length f (x ∷ xs) = ap suc (mapped_length f xs)
 
 -- ---- numbers
 
@@ -70,52 +87,137 @@ pub put_some : (q : ℕ) (xs : List ℕ) → is_empty (put_number q xs) ≡ fals
 put_some q [] = refl
 put_some q (x ∷ xs) = by_test (λ ys. is_empty ys ≡ false) (nat_eq q x) (q ∷ xs) (cond (nat_lt q x) (q ∷ x ∷ xs) (x ∷ put_number q xs)) (λ e. refl) (λ e. by_test (λ ys. is_empty ys ≡ false) (nat_lt q x) (q ∷ x ∷ xs) (x ∷ put_number q xs) (λ f. refl) (λ f. refl))
 
--- ---- writes
+-- ---- changes
 
-pub writes_from : (low least : ℕ) (ws : List (ℕ × Change)) → low ≤ least → IsAscendingWrites least ws → IsAscendingWrites low ws
+abbrev pub IsRising : ℕ → List (ℕ × Change) → Type 0
+IsRising least writes = IsAscendingWrites versions.Second least writes
+
+abbrev pub IsWritten : ℕ × Change → Type 0
+IsWritten write = IsRecord write.0 × IsChange versions.Second write.1
+
+pub writes_from : (low least : ℕ) (ws : List (ℕ × Change)) → low ≤ least → IsRising least ws → IsRising low ws
 writes_from low least [] lt h = tt
 writes_from low least (w ∷ ws) lt h = (omega (arith, lt, h.0), h.1, h.2, h.3)
 
-pub writes_filter : (least : ℕ) (test : ℕ × List ℕ → Bool) (ws : List (ℕ × Change)) → IsAscendingWrites least ws → IsAscendingWrites least (filter test ws)
+pub writes_filter : (least : ℕ) (test : ℕ × Change → Bool) (ws : List (ℕ × Change)) → IsRising least ws → IsRising least (filter test ws)
 writes_filter least test [] h = tt
 writes_filter least test (w ∷ ws) h =
     let rest = writes_filter (suc w.0) test ws h.3 in
-    by_test (IsAscendingWrites least) (test w) (w ∷ filter test ws) (filter test ws) (λ e. (h.0, h.1, h.2, rest)) (λ e. writes_from least (suc w.0) (filter test ws) (omega (arith, h.0)) rest)
+    by_test (IsRising least) (test w) (w ∷ filter test ws) (filter test ws) (λ e. (h.0, h.1, h.2, rest)) (λ e. writes_from least (suc w.0) (filter test ws) (omega (arith, h.0)) rest)
 
-pub writes_put : (least n : ℕ) (v : List ℕ) (ws : List (ℕ × Change)) → least ≤ n → IsRecord n → IsValue v v → IsAscendingWrites least ws → IsAscendingWrites least (put_at n v ws)
-writes_put least n v [] low r i h = (low, r, i, tt)
-writes_put least n v (w ∷ ws) low r i h =
-    by_test (IsAscendingWrites least) (n == w.0) ((n, v) ∷ ws) (cond (nat_lt n w.0) ((n, v) ∷ w ∷ ws) (w ∷ put_at n v ws)) (λ e. let q : n ≡ w.0 = grind (arith, nat_tests, e) in (low, r, i, rw q h.3))
-    (λ e. by_test (IsAscendingWrites least) (nat_lt n w.0) ((n, v) ∷ w ∷ ws) (w ∷ put_at n v ws) (λ f. let q : suc n ≤ w.0 = grind (arith, nat_tests, f) in (low, r, i, (q, h.1, h.2, h.3)))
-    (λ f. let q : suc w.0 ≤ n = grind (arith, nat_tests, e, f) in (h.0, h.1, h.2, writes_put (suc w.0) n v ws q r i h.3)))
+all_up : (n : ℕ) (ws : List (ℕ × Change)) → AllByRecursion (λ (w : ℕ × Change). n < w.0) ws → AllByRecursion (λ (w : ℕ × Change). suc n ≤ w.0) ws
+all_up n [] h = tt
+all_up n (w ∷ ws) h = let q = h.0 in (omega (arith, q), all_up n ws h.1)
 
-op_writes : (ws : List (ℕ × Change)) (o : Op) → IsOp o → IsAscendingWrites 0 ws → IsAscendingWrites 0 (with_op ws o)
-op_writes ws (op.Read rec value) i h = h
-op_writes ws (op.Write rec value) i h = writes_put 0 rec value ws (omega arith) i.0 i.1 h
+rising_of : (least : ℕ) (ws : List (ℕ × Change)) → Ascending ws → AllByRecursion IsWritten ws → AllByRecursion (λ (w : ℕ × Change). least ≤ w.0) ws → IsRising least ws
+rising_of least [] a i l = tt
+rising_of least (w ∷ ws) a i l = (l.0, i.0.0, i.0.1, rising_of (suc w.0) ws a.1 i.1 (all_up w.0 ws a.0))
 
-op_length : (ws : List (ℕ × Change)) (o : Op) → length (with_op ws o) ≤ suc (length ws)
+all_from_zero : (ws : List (ℕ × Change)) → AllByRecursion (λ (w : ℕ × Change). 0 ≤ w.0) ws
+all_from_zero [] = tt
+all_from_zero (w ∷ ws) = (omega arith, all_from_zero ws)
+
+-- ---- the last contents that operations wrote
+
+abbrev pub IsPutContent : ℕ × Option (List ℕ) → Type 0
+IsPutContent write = IsRecord write.0 × IsContent versions.Second write.1
+
+op_contents : (ws : List (ℕ × Option (List ℕ))) (o : Op) → IsOp o → AllByRecursion IsPutContent ws → AllByRecursion IsPutContent (with_op ws o)
+op_contents ws (op.Read rec value) i h = h
+op_contents ws (op.Write rec value) i h = all_put IsPutContent (λ (a : ℕ × Option (List ℕ)) (b : ℕ × Option (List ℕ)). a.0 == b.0) (λ (a : ℕ × Option (List ℕ)) (b : ℕ × Option (List ℕ)). nat_lt a.0 b.0) (rec, value) ws (i.0, i.1) h
+
+op_length : (ws : List (ℕ × Option (List ℕ))) (o : Op) → length (with_op ws o) ≤ suc (length ws)
 op_length ws (op.Read rec value) = omega arith
-op_length ws (op.Write rec value) = length_put (λ (a : ℕ × List ℕ) (b : ℕ × List ℕ). a.0 == b.0) (λ (a : ℕ × List ℕ) (b : ℕ × List ℕ). nat_lt a.0 b.0) (rec, value) ws
+op_length ws (op.Write rec value) = length_put (λ (a : ℕ × Option (List ℕ)) (b : ℕ × Option (List ℕ)). a.0 == b.0) (λ (a : ℕ × Option (List ℕ)) (b : ℕ × Option (List ℕ)). nat_lt a.0 b.0) (rec, value) ws
 
-ops_writes : (ops : List Op) (ws : List (ℕ × Change)) → AllByRecursion IsOp ops → IsAscendingWrites 0 ws → IsAscendingWrites 0 (fold with_op ws ops)
-ops_writes [] ws i h = h
-ops_writes (o ∷ ops) ws i h = ops_writes ops (with_op ws o) i.1 (op_writes ws o i.0 h)
+ops_contents : (ops : List Op) (ws : List (ℕ × Option (List ℕ))) → AllByRecursion IsOp ops → AllByRecursion IsPutContent ws → AllByRecursion IsPutContent (fold with_op ws ops)
+ops_contents [] ws i h = h
+ops_contents (o ∷ ops) ws i h = ops_contents ops (with_op ws o) i.1 (op_contents ws o i.0 h)
 
-ops_length : (ops : List Op) (ws : List (ℕ × Change)) → length (fold with_op ws ops) ≤ length ops + length ws
+ops_length : (ops : List Op) (ws : List (ℕ × Option (List ℕ))) → length (fold with_op ws ops) ≤ length ops + length ws
 ops_length [] ws = omega arith
 ops_length (o ∷ ops) ws = let rest = ops_length ops (with_op ws o) in let one = op_length ws o in omega (arith, rest, one)
 
--- the last values of at most 64 operations
-pub last_writes_are : (ops : List Op) (test : ℕ × List ℕ → Bool) → AllByRecursion IsOp ops → length ops ≤ 64 → IsWrites (filter test (last_writes ops))
-last_writes_are ops test i few =
-    let q = ops_length ops [] in
-    let f = length_filter test (last_writes ops) in
-    (omega (arith, few, q, f), writes_filter 0 test (last_writes ops) (ops_writes ops [] i tt))
+pub contents_are : (ops : List Op) → AllByRecursion IsOp ops → AllByRecursion IsPutContent (last_writes ops)
+contents_are ops i = ops_contents ops [] i tt
 
-pub last_writes_ascend : (ops : List Op) → AllByRecursion IsOp ops → IsAscendingWrites 0 (last_writes ops)
-last_writes_ascend ops i = ops_writes ops [] i tt
+-- a content that was written
+pub written_is : (ops : List Op) (rec : ℕ) (value : Option (List ℕ)) → AllByRecursion IsOp ops → value_at rec (last_writes ops) ≡ Some value → IsRecord rec × IsContent versions.Second value
+written_is ops rec value i e = all_at IsPutContent (last_writes ops) (contents_are ops i) (rec, value) (pair_there rec (last_writes ops) value e)
 
--- a value that is written
-pub written_is : (least n : ℕ) (v : List ℕ) (ws : List (ℕ × Change)) → IsAscendingWrites least ws → value_at n ws ≡ Some v → IsValue v v
-written_is least n v [] h e = cc
-written_is least n v (w ∷ ws) h e = let rest = written_is (suc w.0) n v ws h.3 in grind (arith, nat_tests, rest, h.2)
+pub given_is : (tables : List (ℕ × Table)) (rec : ℕ) (table : Table) → AllByRecursion IsGiven tables → value_at rec tables ≡ Some table → IsRecord rec × IsTable table
+given_is tables rec table i e = all_at IsGiven tables i (rec, table) (pair_there rec tables table e)
+
+-- ---- the last changes of an entry of at most 64 operations and tables
+
+module _ (e : Commit) (ops_are : AllByRecursion IsOp e.ops) (tables_are : AllByRecursion IsGiven e.tables) where
+  abbrev made_of : ℕ → Change
+  made_of rec = change_of rec e.ops e.tables
+
+  put_is : (rec : ℕ) (o : Option (Option (List ℕ))) → value_at rec (last_writes e.ops) ≡ o → IsPut versions.Second (last_put o)
+  put_is rec None w = tt
+  put_is rec (Some None) w = tt
+  put_is rec (Some (Some value)) w = (written_is e.ops rec (Some value) ops_are w).1
+
+  table_is : (rec : ℕ) (o : Option Table) → value_at rec e.tables ≡ o → IsMaybeTable versions.Second o
+  table_is rec None g = tt
+  table_is rec (Some table) g = (tt, (given_is e.tables rec table tables_are g).1)
+
+  alters : (o : Option (Option (List ℕ))) (g : Option Table) → (is_some o || is_some g) ≡ true → Alters (last_put o) g
+  alters None None some = cc
+  alters None (Some table) some = tt
+  alters (Some None) g some = tt
+  alters (Some (Some value)) g some = tt
+
+  change_is : (rec : ℕ) → (is_some (value_at rec (last_writes e.ops)) || is_some (value_at rec e.tables)) ≡ true → IsChange versions.Second (made_of rec)
+  change_is rec some = (put_is rec (value_at rec (last_writes e.ops)) refl, table_is rec (value_at rec e.tables) refl, alters (value_at rec (last_writes e.ops)) (value_at rec e.tables) some)
+
+  written_some : (w : ℕ × Option (List ℕ)) → Has (last_writes e.ops) w → IsWritten (w.0, made_of w.0)
+  written_some w h =
+      let is = last_value e.ops w h in
+      ((written_is e.ops w.0 w.1 ops_are is).0, change_is w.0 (rw is refl))
+
+  given_some : (t : ℕ × Table) → Has e.tables t → IsWritten (t.0, made_of t.0)
+  given_some t h =
+      let q = value_there t.0 e.tables (mapped_has (λ (t : ℕ × Table). t.0) e.tables t h) in
+      ((all_at IsGiven e.tables tables_are t h).0, change_is t.0 (or_right (is_some (value_at t.0 (last_writes e.ops))) (is_some (value_at t.0 e.tables)) (rw q.1 refl)))
+
+  puts_are : (ts : List (ℕ × Table)) (ws : List (ℕ × Change)) → ((t : ℕ × Table) → Has ts t → IsWritten (t.0, made_of t.0)) → AllByRecursion IsWritten ws → AllByRecursion IsWritten (for_each ts (λ (t : ℕ × Table). put_at t.0 (made_of t.0)) ws)
+  puts_are [] ws g h = h
+  puts_are (t ∷ ts) ws g h = puts_are ts (put_at t.0 (made_of t.0) ws) (λ u k. g u (has_more t ts u k)) (all_put IsWritten (λ (a : ℕ × Change) (b : ℕ × Change). a.0 == b.0) (λ (a : ℕ × Change) (b : ℕ × Change). nat_lt a.0 b.0) (t.0, made_of t.0) ws (g t (has_first t ts)) h)
+
+  puts_length : (ts : List (ℕ × Table)) (ws : List (ℕ × Change)) → length (for_each ts (λ (t : ℕ × Table). put_at t.0 (made_of t.0)) ws) ≤ length ts + length ws
+  puts_length [] ws = omega arith
+  puts_length (t ∷ ts) ws =
+      let rest = puts_length ts (put_at t.0 (made_of t.0) ws) in
+      let one : length (put_at t.0 (made_of t.0) ws) ≤ suc (length ws) = length_put (λ (a : ℕ × Change) (b : ℕ × Change). a.0 == b.0) (λ (a : ℕ × Change) (b : ℕ × Change). nat_lt a.0 b.0) (t.0, made_of t.0) ws in
+      omega (arith, rest, one)
+
+  abbrev base : List (ℕ × Change)
+  base = map (λ (w : ℕ × Option (List ℕ)). (w.0, made_of w.0)) (last_writes e.ops)
+
+  base_are : AllByRecursion IsWritten base
+  base_are = all_of IsWritten base (λ p h. let r = map_has (λ (w : ℕ × Option (List ℕ)). (w.0, made_of w.0)) (last_writes e.ops) p h in subst IsWritten r.2 (written_some r.0 r.1))
+
+  pub each_change : AllByRecursion IsWritten (last_changes e)
+  each_change = puts_are e.tables base given_some base_are
+
+  pub changes_rise : IsRising 0 (last_changes e)
+  changes_rise = rising_of 0 (last_changes e) (changes_ascending e) each_change (all_from_zero (last_changes e))
+
+  pub changes_are : (test : ℕ × Change → Bool) → length e.ops + length e.tables ≤ 64 → IsWrites versions.Second (filter test (last_changes e))
+  changes_are test few =
+      let made = puts_length e.tables base in
+      let same : length base ≡ length (last_writes e.ops) = mapped_length (λ (w : ℕ × Option (List ℕ)). (w.0, made_of w.0)) (last_writes e.ops) in
+      let q = ops_length e.ops [] in
+      let f = length_filter test (last_changes e) in
+      (omega (arith, few, made, same, q, f), writes_filter 0 test (last_changes e) changes_rise)
+
+-- ---- tables that calls bring
+
+shares_ascend : (above least : ℕ) (table : Table) → least ≤ suc above → AreShares above table → IsAscendingTable least table
+shares_ascend above least [] low h = tt
+shares_ascend above least (s ∷ ss) low h = let higher = h.0.higher in (omega (arith, low, higher), h.0.site_fits, (h.0.some, h.0.fits), shares_ascend s.0 (suc s.0) ss (omega arith) h.1)
+
+pub table_of_call : (table : Table) → IsCallTable table → IsTable table
+table_of_call table h = (h.held, h.few, shares_ascend 0 1 table (omega arith) h.shares_are)

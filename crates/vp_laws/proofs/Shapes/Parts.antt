@@ -4,9 +4,7 @@ use Rattle.std.specs.Prelude.{Option, Some, None, IfSome, filter, not, option_ma
 use Rattle.std.specs.List.{AllByRecursion}
 use Rattle.vp_base.specs.Identifiers.{IsView, IsTxn}
 use Rattle.vp_bytes.specs.Fields.{IsSite, IsRecord, IsMaybeView, IsRequest}
-use Rattle.vp_bytes.specs.Doubts.{IsDoubt}
 use Rattle.vp_base.specs.Calls.{IsNumbered}
-use Rattle.vp_wire.specs.Grammar.{IsMessage}
 use Rattle.vp_catalog.specs.Document.{IsCatalogue}
 use Rattle.vp_model.specs.Types.{Change, ViewId, TxnId, View, Stored, Message, Input, Part, Refreshing, Doubt, Sent}
 use Rattle.vp_model.specs.Types.log_record
@@ -23,7 +21,7 @@ use Rattle.vp_model.specs.Messages.{put_part, with_part, grant, with_vote, with_
 use Rattle.vp_model.specs.Step.{known}
 use Rattle.vp_laws.proofs.Lists.Members.{Has, find_has, all_of}
 use Rattle.vp_laws.proofs.Moves.Table.{Comes, Requests, Asks, Joined, SendsBack, sent_back_for, AsksAgain}
-use Rattle.vp_laws.specs.Shapes.{IsInput, IsStored, AreCopies, IsLock, IsPart, IsRefreshing, IsShaped, IsSent}
+use Rattle.vp_laws.specs.Shapes.{IsMessage, IsShort, IsDoubt, IsInput, IsStored, AreCopies, IsLock, IsPart, IsRefreshing, IsShaped, IsSent}
 use Rattle.vp_laws.proofs.Lists.Items.{all_at, all_filter, all_put, all_map}
 use Rattle.vp_laws.proofs.Shapes.Numbers.{each_site, ascending_filter}
 use Rattle.vp_laws.proofs.Shapes.Doubts.{put_doubts, fewer_doubts}
@@ -40,8 +38,8 @@ module _ (catalogue : Catalogue) (k : IsCatalogue catalogue) (x : SiteState) (sx
   begins : F (begin_step x)
   begins = starts catalogue k x sx given came
 
-  answers_with : (message : Message) (to : ℕ) (o : Stepped) → F o → IsSite to → IsMessage message → F (send message to o)
-  answers_with message to o p s i = sends catalogue k x sx given came message to o p s i
+  answers_with : (message : Message) (to : ℕ) (o : Stepped) → F o → IsSite to → IsMessage message → IsShort message → F (send message to o)
+  answers_with message to o p s i small = sends catalogue k x sx given came message to o p s i small
 
   -- ---- refresh
 
@@ -53,12 +51,12 @@ module _ (catalogue : Catalogue) (k : IsCatalogue catalogue) (x : SiteState) (sx
       let r : IsRecord rec = held_is catalogue k o.site.id o.site.here.copies s.copies_are.held rec h in
       let a = with_locks catalogue x o p (with_guard rec) (with_lock_is rec true owner.Refresh o.site.here.locks tt s.locks_are) in
       let b = with_refresh catalogue x _ a (put (λ a b. a.rec == b.rec) (λ a b. nat_lt a.rec b.rec) (record { rec = rec; answers = [] })) (all_put IsRefreshing (λ a b. a.rec == b.rec) (λ a b. nat_lt a.rec b.rec) (record { rec = rec; answers = [] }) o.site.refresh (r, tt) s.refresh_are) in
-      sends_all catalogue k x sx given came (message.RefreshRequest view.id rec) (other_holders catalogue o.site rec) _ b (each_site _ (others_ascend catalogue k o.site.id o.site.held rec)) (v, r)
+      sends_all catalogue k x sx given came (message.RefreshRequest view.id rec) (other_holders catalogue o.site rec) _ b (each_site _ (others_ascend catalogue k o.site.id o.site.held rec)) (v, r) tt
 
   takes_newer : (rec : ℕ) (own best : Stored) (o : Stepped) → IsRecord rec → IsStored best → F o → F (take_newer rec own best o)
   takes_newer rec own best o r i p =
       let a = with_copies catalogue x o p (replace_at rec best) (replace_is catalogue o.site.id rec best o.site.here.copies i p.site_is.copies_are) in
-      take-cases F rec own best o (with_gives catalogue x _ a _ (gives_entry x.id _ a.gives (log_record.Copy rec best) (r, i.0, i.1))) p
+      take-cases F rec own best o (with_gives catalogue x _ a _ (gives_entry x.id _ a.gives (log_record.Copy rec best) (r, i))) p
 
   pub ends_refresh : (rec : ℕ) (r : Refreshing) (own : Stored) (o : Stepped) → refreshing_of rec o.site.refresh ≡ Some r → value_at r.rec o.site.copies ≡ Some own → F o → F (end_refresh catalogue r own o)
   unfolding end_refresh unlist
@@ -72,7 +70,7 @@ module _ (catalogue : Catalogue) (k : IsCatalogue catalogue) (x : SiteState) (sx
   pub keeps_answer : (from : ℕ) (view : ViewId) (rec : ℕ) (stored : Stored) → Comes given from (message.RefreshAnswer view rec stored) → F (change_refresh (map (with_answer rec from stored)) (begin_step x))
   keeps_answer from view rec stored c =
       let m = (came_is given from (message.RefreshAnswer view rec stored) came c).1 in
-      with_refresh catalogue x _ begins (map (with_answer rec from stored)) (all_map IsRefreshing IsRefreshing (with_answer rec from stored) (λ r i. answer_is rec from stored r (m.1.1, m.1.2) i) x.refresh sx.refresh_are)
+      with_refresh catalogue x _ begins (map (with_answer rec from stored)) (all_map IsRefreshing IsRefreshing (with_answer rec from stored) (λ r i. answer_is rec from stored r m.1.1 i) x.refresh sx.refresh_are)
 
   -- ---- parts
 
@@ -97,23 +95,23 @@ module _ (catalogue : Catalogue) (k : IsCatalogue catalogue) (x : SiteState) (sx
       by_test (λ (q : ParticipantState). AllByRecursion IsPart q.parts × (q.doubts ≡ p.doubts)) _ p (record p { parts = put_part (record { txn = txn; view = view; voted = false }) p.parts }) (λ e. (h, refl))
       (λ e. (all_put IsPart (λ (a : Part) (b : Part). same_txn a.txn b.txn) (λ (a : Part) (b : Part). txn_before a.txn b.txn) (record { txn = txn; view = view; voted = false }) p.parts (t, v) h, refl))
 
-  grants : (from : ℕ) (txn : TxnId) (view : ViewId) (rec : ℕ) (exclusive : Bool) (answer : Message) → IsSite from → IsTxn txn → IsView view → IsMessage answer → F (grant txn view rec exclusive answer from (begin_step x))
+  grants : (from : ℕ) (txn : TxnId) (view : ViewId) (rec : ℕ) (exclusive : Bool) (answer : Message) → IsSite from → IsTxn txn → IsView view → IsMessage answer → IsShort answer → F (grant txn view rec exclusive answer from (begin_step x))
   unfolding grant
-  grants from txn view rec exclusive answer s t v i =
+  grants from txn view rec exclusive answer s t v i small =
       let a = with_locks catalogue x _ begins (with_lock rec exclusive (owner.Txn txn)) (with_lock_is rec exclusive (owner.Txn txn) x.here.locks t sx.locks_are) in
       let q = part_is txn view x.participant t v sx.parts_are in
       let b = with_participant catalogue x _ a (with_part txn view) q.0 (rw q.1 sx.doubts_are) in
-      answers_with answer from _ b s i
+      answers_with answer from _ b s i small
 
   pub grants_read : (from : ℕ) (txn : TxnId) (view : ViewId) (number rec : ℕ) (stored : Stored) → Comes given from (message.ReadRequest txn view number rec) → value_at rec x.copies ≡ Some stored → F (grant txn view rec false (message.ReadAnswer txn number stored.value) from (begin_step x))
   grants_read from txn view number rec stored c e =
       let m = came_is given from (message.ReadRequest txn view number rec) came c in
-      grants from txn view rec false (message.ReadAnswer txn number stored.value) m.0 m.1.0.0 m.1.0.1 (numbered txn view number m.1.0, (copy_is x.here.copies rec stored sx.copies_are.stored e).0)
+      grants from txn view rec false (message.ReadAnswer txn number stored.value) m.0 m.1.0.0 m.1.0.1 (numbered txn view number m.1.0, (copy_is x.here.copies rec stored sx.copies_are.stored e).0) tt
 
   pub grants_write : (from : ℕ) (txn : TxnId) (view : ViewId) (number rec : ℕ) → Comes given from (message.WriteRequest txn view number rec) → F (grant txn view rec true (message.WriteAnswer txn number) from (begin_step x))
   grants_write from txn view number rec c =
       let m = came_is given from (message.WriteRequest txn view number rec) came c in
-      grants from txn view rec true (message.WriteAnswer txn number) m.0 m.1.0.0 m.1.0.1 (numbered txn view number m.1.0)
+      grants from txn view rec true (message.WriteAnswer txn number) m.0 m.1.0.0 m.1.0.1 (numbered txn view number m.1.0) tt
 
   part_of_is : (txn : TxnId) (part : Part) → part_of txn x.parts ≡ Some part → IsPart part
   part_of_is txn part e = all_at IsPart x.parts sx.parts_are part (find_has (λ part. same_txn part.txn txn) x.parts part e)
@@ -124,22 +122,32 @@ module _ (catalogue : Catalogue) (k : IsCatalogue catalogue) (x : SiteState) (sx
   back_is from _ (SendsBack.answer_refresh view rec stored c e d v) =
       let m = (came_is given from (message.RefreshRequest view rec) came c).1 in
       let i = copy_is x.here.copies rec stored sx.copies_are.stored v in
-      (m.0, (m.1, i.0, i.1))
+      (m.0, (m.1, i))
   back_is from _ (SendsBack.refuse_view txn view number a e) = (numbered txn view number (asks_is from txn view number a), now_is x.held sx.views_are.held_is)
   back_is from _ (SendsBack.refuse_lock txn view number rec exclusive holder r e n c) = (numbered txn view number (requests_is from txn view number rec exclusive r), conflict_is rec exclusive txn x.here.locks holder sx.locks_are c)
   back_is from _ (SendsBack.doubt_again txn view number reads writes c e n d) = (came_is given from (message.Prepare txn view number reads writes) came c).1.0.0
   back_is from _ (SendsBack.vote_again txn view number reads writes part c e n f v) = (part_of_is txn part f).0
   back_is from _ (SendsBack.answer_inquiry txn c s n) = (came_is given from (message.Inquire txn) came c).1
 
+  back_short : (from : ℕ) (m : Message) → SendsBack x given from m → IsShort m
+  back_short from _ (SendsBack.stale id c e) = tt
+  back_short from _ (SendsBack.accept_again id c e) = tt
+  back_short from _ (SendsBack.answer_refresh view rec stored c e d v) = tt
+  back_short from _ (SendsBack.refuse_view txn view number a e) = tt
+  back_short from _ (SendsBack.refuse_lock txn view number rec exclusive holder r e n c) = tt
+  back_short from _ (SendsBack.doubt_again txn view number reads writes c e n d) = tt
+  back_short from _ (SendsBack.vote_again txn view number reads writes part c e n f v) = tt
+  back_short from _ (SendsBack.answer_inquiry txn c s n) = tt
+
   pub sends_back : (from : ℕ) (m : Message) → SendsBack x given from m → F (send m from (begin_step x))
-  sends_back from m t = let q = sent_back_for x given from m t in answers_with m from _ begins (came_is given from q.0 came q.1).0 (back_is from m t)
+  sends_back from m t = let q = sent_back_for x given from m t in answers_with m from _ begins (came_is given from q.0 came q.1).0 (back_is from m t) (back_short from m t)
 
   pub votes_reading : (from : ℕ) (txn : TxnId) (view : ViewId) (number : ℕ) (reads : List ℕ) (writes : List (ℕ × Change)) (part : Part) → Comes given from (message.Prepare txn view number reads writes) → part_of txn x.parts ≡ Some part → F (send (message.Vote part.txn) from (change_participant (with_vote part) (begin_step x)))
   votes_reading from txn view number reads writes part c e =
       let m = came_is given from (message.Prepare txn view number reads writes) came c in
       let i = part_of_is txn part e in
       let a = with_participant catalogue x _ begins (with_vote part) (all_put IsPart (λ (a : Part) (b : Part). same_txn a.txn b.txn) (λ (a : Part) (b : Part). txn_before a.txn b.txn) (record part { voted = true }) x.parts i sx.parts_are) sx.doubts_are in
-      answers_with (message.Vote part.txn) from _ a m.0 i.0
+      answers_with (message.Vote part.txn) from _ a m.0 i.0 tt
 
   pub votes_writing : (from : ℕ) (txn : TxnId) (view : ViewId) (number : ℕ) (reads : List ℕ) (writes : List (ℕ × Change)) (part : Part) → Comes given from (message.Prepare txn view number reads writes) → part_of txn x.parts ≡ Some part → F (send (message.Vote part.txn) from (force (log_record.Yes part.txn part.view writes) (change_participant (with_new_doubt part writes) (begin_step x))))
   votes_writing from txn view number reads writes part c e =
@@ -147,14 +155,14 @@ module _ (catalogue : Catalogue) (k : IsCatalogue catalogue) (x : SiteState) (sx
       let i = part_of_is txn part e in
       let a = with_participant catalogue x _ begins (with_new_doubt part writes) (all_filter IsPart _ x.parts sx.parts_are) (put_doubts (record { txn = part.txn; view = part.view; writes = writes }) x.doubts (i.0, i.1, m.1.2) sx.doubts_are) in
       let b = with_gives catalogue x _ a _ (gives_entry x.id _ a.gives (log_record.Yes part.txn part.view writes) (i.0, i.1, m.1.2)) in
-      answers_with (message.Vote part.txn) from _ b m.0 i.0
+      answers_with (message.Vote part.txn) from _ b m.0 i.0 tt
 
   -- what a part's end leaves, whatever its doubt did
   ended : (from : ℕ) (txn : TxnId) (commit in_view : Bool) (o : Stepped) → IsSite from → IsTxn txn → F o → F (acknowledge from txn commit (change_locks (without_owner (owner.Txn txn)) (change_participant (with_ended in_view txn) o)))
   ended from txn commit in_view o s t p =
       let a = with_participant catalogue x o p (with_ended in_view txn) (all_filter IsPart _ o.site.parts p.site_is.parts_are) (fewer_doubts txn o.site.doubts p.site_is.doubts_are) in
       let b = with_locks catalogue x _ a (without_owner (owner.Txn txn)) (all_filter IsLock _ _ a.site_is.locks_are) in
-      go commit (change_locks (without_owner (owner.Txn txn)) (change_participant (with_ended in_view txn) o)) b (λ o p. answers_with (message.Ack txn) from o p s t)
+      go commit (change_locks (without_owner (owner.Txn txn)) (change_participant (with_ended in_view txn) o)) b (λ o p. answers_with (message.Ack txn) from o p s t tt)
     where
       go : (commit : Bool) (o : Stepped) → F o → ((o : Stepped) → F o → F (send (message.Ack txn) from o)) → F (acknowledge from txn commit o)
       go true o p acks = acks o p
@@ -182,5 +190,9 @@ module _ (catalogue : Catalogue) (k : IsCatalogue catalogue) (x : SiteState) (sx
       let i : IsTxn txn = all_at IsTxn (known o.site.participant) (known_are o.site.participant p.site_is.parts_are p.site_is.doubts_are) txn h in
       (subst IsSite e (i.site_some, i.site_fits), i)
 
+  again_short : (o : Stepped) (to : ℕ) (m : Message) → AsksAgain catalogue x given o to m → IsShort m
+  again_short o to _ (AsksAgain.refresh view r e h v q) = tt
+  again_short o to _ (AsksAgain.inquire txn c h e) = tt
+
   pub asks_again : (o : Stepped) (ms : List Sent) → ((m : Sent) → Has ms m → (m.from ≡ o.site.id) × AsksAgain catalogue x given o m.to m.message) → F o → F (record o { effects = with_sent ms o.effects })
-  asks_again o ms all p = with_gives catalogue x o p _ (gives_sent x.id o.effects p.gives ms (all_of (IsSent x.id) ms (λ m h. let q = all m h in let i = again_is o p m.to m.message q.1 in (q.0 ∙ p.same, i.0, i.1))))
+  asks_again o ms all p = with_gives catalogue x o p _ (gives_sent x.id o.effects p.gives ms (all_of (IsSent x.id) ms (λ m h. let q = all m h in let i = again_is o p m.to m.message q.1 in (q.0 ∙ p.same, i.0, i.1))) (all_of (λ (m : Sent). IsShort m.message) ms (λ m h. again_short o m.to m.message (all m h).1)))

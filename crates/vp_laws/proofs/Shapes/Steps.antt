@@ -4,7 +4,6 @@ use Rattle.std.specs.Prelude.{Option, Some, None, IfSome, ◌==◌, ◌&&◌}
 use Rattle.std.specs.List.{AllByRecursion}
 use Rattle.vp_base.specs.Identifiers.{IsView, IsTxn}
 use Rattle.vp_catalog.specs.Document.{IsCatalogue}
-use Rattle.vp_bytes.specs.Doubts.{IsDoubt}
 use Rattle.vp_model.specs.Types.{Change, View, Input, Doubt}
 use Rattle.vp_model.specs.Types.owner
 use Rattle.vp_model.specs.Words.{has, same_view, opening}
@@ -15,7 +14,7 @@ use Rattle.vp_model.specs.Views.{invite}
 use Rattle.vp_model.specs.Step.{step, start, durable_of, locks_in_doubt, view_at_start}
 use Rattle.vp_laws.proofs.Moves.Table.{Table}
 use Rattle.vp_laws.proofs.Moves.Rows.{step-keeps}
-use Rattle.vp_laws.specs.Shapes.{IsInput, IsDurable, IsLock, IsShaped, AreShaped}
+use Rattle.vp_laws.specs.Shapes.{IsDoubt, IsInput, IsDurable, IsLock, IsShaped, AreShaped}
 use Rattle.vp_laws.proofs.Lists.Items.{all_append}
 use Rattle.vp_laws.proofs.Shapes.Moves.{Forms}
 use Rattle.vp_laws.proofs.Shapes.Views as views
@@ -50,9 +49,9 @@ table catalogue k x sx given came = record {
     begin = λ port view e g u. own.starts_txn catalogue k x sx given came port view e g u;
     answers = λ words port why y. own.says catalogue k x sx given came words port y;
     take_lock = λ t rec exclusive stored h i a v c. own.takes_lock catalogue k x sx given came t rec exclusive h;
-    complete = λ t p operation words l h g y e q. own.completes catalogue k x sx given came t p operation words l h g y q;
+    complete = λ t p deed l h g y e q. own.completes catalogue k x sx given came t p deed l h g y q;
     read_at = λ t p rec q h n r a w c o y. own.reads_at catalogue k x sx given came t p rec q h n r o y;
-    write_at = λ t p rec value l h n w a e o d y v q. own.writes_at catalogue k x sx given came t p rec value l h n w o y q;
+    write_at = λ t p rec deed l h n w a e o d y v q. own.writes_at catalogue k x sx given came t p rec deed l h n w a.fits o y q;
     prepare_parts = λ t p h n g e. own.prepares catalogue k x sx given came t p h n g e;
     still_waits = λ t p from h e m f c. own.still_waits catalogue k x sx given came t p from h e f;
     decide = λ t n d. own.decides catalogue k x sx given came t d;
@@ -73,7 +72,7 @@ steps_are_shaped catalogue site given k shaped came = let p = step_forms catalog
 
 -- ---- starts
 
-doubt_locks : (txn : _) (writes : List (ℕ × Change)) → IsTxn txn → AllByRecursion IsLock (map (λ (w : ℕ × List ℕ). record { rec = w.0; exclusive = true; owner = owner.Txn txn }) writes)
+doubt_locks : (txn : _) (writes : List (ℕ × Change)) → IsTxn txn → AllByRecursion IsLock (map (λ (w : ℕ × Change). record { rec = w.0; exclusive = true; owner = owner.Txn txn }) writes)
 doubt_locks txn [] t = tt
 doubt_locks txn (w ∷ writes) t = (t, doubt_locks txn writes t)
 

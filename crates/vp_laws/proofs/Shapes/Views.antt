@@ -6,7 +6,6 @@ use Rattle.std.proofs.lemmas.Bool.Decides.{nat_tests}
 use Rattle.vp_base.specs.Identifiers.{IsView}
 use Rattle.vp_base.specs.Calls.{IsCall}
 use Rattle.vp_bytes.specs.Fields.{IsSite}
-use Rattle.vp_wire.specs.Grammar.{IsMessage}
 use Rattle.vp_catalog.specs.Document.{IsCatalogue}
 use Rattle.vp_model.specs.Types.{ViewId, View, Call, Message, Input}
 use Rattle.vp_model.specs.Types.answer
@@ -21,7 +20,7 @@ use Rattle.vp_model.specs.Views.{outlasts, without_view, with_invitation, with_v
 use Rattle.vp_model.specs.Messages.{with_wait, accept, with_acceptance, with_accepted, on_accept, with_seen, on_stale, with_heard}
 use Rattle.vp_model.specs.Step.{fix, without_wait, with_monitor, probe_all}
 use Rattle.vp_laws.proofs.Moves.Table.{Comes, next_view}
-use Rattle.vp_laws.specs.Shapes.{IsInput, IsInviting, AreViews, IsLock, IsShaped}
+use Rattle.vp_laws.specs.Shapes.{IsMessage, IsShort, IsInput, IsInviting, AreViews, IsLock, IsShaped}
 use Rattle.vp_laws.proofs.Lists.Items.{all_filter}
 use Rattle.vp_laws.proofs.Shapes.Numbers.{each_site, put_sites, put_some, some_sites}
 use Rattle.vp_laws.proofs.Shapes.Catalogue.{listed_is, other_sites_are}
@@ -50,13 +49,13 @@ module _ (catalogue : Catalogue) (k : IsCatalogue catalogue) (x : SiteState) (sx
   id_is = listed_is catalogue k x.id sx.listed
 
   pub starts : F (begin_step x)
-  starts = record { site_is = sx; same = refl; gives = record { records_are = tt; messages_are = tt; replies_are = tt } }
+  starts = record { site_is = sx; same = refl; gives = record { records_are = tt; messages_are = tt; short_are = tt; replies_are = tt } }
 
-  pub sends : (message : Message) (to : ℕ) (o : Stepped) → F o → IsSite to → IsMessage message → F (send message to o)
-  sends message to o p s i = with_gives catalogue x o p _ (gives_message x.id o.effects p.gives o.site.id message to p.same s i)
+  pub sends : (message : Message) (to : ℕ) (o : Stepped) → F o → IsSite to → IsMessage message → IsShort message → F (send message to o)
+  sends message to o p s i small = with_gives catalogue x o p _ (gives_message x.id o.effects p.gives o.site.id message to p.same s i small)
 
-  pub sends_all : (message : Message) (sites : List ℕ) (o : Stepped) → F o → AllByRecursion IsSite sites → IsMessage message → F (send_all message sites o)
-  sends_all message sites o p s i = with_gives catalogue x o p _ (gives_each x.id o.effects p.gives o.site.id (λ q. message) sites p.same s (λ q. i))
+  pub sends_all : (message : Message) (sites : List ℕ) (o : Stepped) → F o → AllByRecursion IsSite sites → IsMessage message → IsShort message → F (send_all message sites o)
+  sends_all message sites o p s i small = with_gives catalogue x o p _ (gives_each x.id o.effects p.gives o.site.id (λ q. message) sites p.same s (λ q. i) (λ q. small))
 
   pub drops : (o : Stepped) → F o → F (drop_view o)
   unfolding drop_view
@@ -76,7 +75,7 @@ module _ (catalogue : Catalogue) (k : IsCatalogue catalogue) (x : SiteState) (sx
       let own : IsSite o.site.id = listed_is catalogue k o.site.id p.site_is.listed in
       let a = with_views catalogue x o p (with_invitation (next_view x) o.site.id) (record { promise_is = i; seen_fits = v.seen_fits; held_is = v.held_is; waiting_is = v.waiting_is; inviting_is = (i, some_sites (o.site.id ∷ []) refl (own.0, own.1, tt)) }) in
       let b = with_gives catalogue x _ a _ (gives_entry x.id _ a.gives (log_record.Promise (next_view x)) i) in
-      sends_all (message.Invite (next_view x)) (other_sites catalogue o.site.id) _ b (other_sites_are catalogue k o.site.id) i
+      sends_all (message.Invite (next_view x)) (other_sites catalogue o.site.id) _ b (other_sites_are catalogue k o.site.id) i tt
 
   pub accepts : (from : ℕ) (id : ViewId) (o : Stepped) → Comes given from (message.Invite id) → F o → F (accept from id o)
   unfolding accept
@@ -85,7 +84,7 @@ module _ (catalogue : Catalogue) (k : IsCatalogue catalogue) (x : SiteState) (sx
       let m = came_is given from (message.Invite id) came c in
       let a = with_views catalogue x o p (with_wait id) (record { promise_is = m.1; seen_fits = v.seen_fits; held_is = v.held_is; waiting_is = m.1; inviting_is = v.inviting_is }) in
       let b = with_gives catalogue x _ a _ (gives_entry x.id _ a.gives (log_record.Promise id) m.1) in
-      sends (message.Accept id) from _ b m.0 m.1
+      sends (message.Accept id) from _ b m.0 m.1 tt
 
   accepted_is : (from : ℕ) (id : ViewId) (o : Option (ViewId × List ℕ)) → IsSite from → IfSome o IsInviting → IfSome (option_map (with_acceptance from id) o) IsInviting
   accepted_is from id None s i = tt
@@ -119,7 +118,7 @@ module _ (catalogue : Catalogue) (k : IsCatalogue catalogue) (x : SiteState) (sx
   fixes view e =
       let i : IsInviting (view.id, view.members) = some_at IsInviting x.inviting (view.id, view.members) sx.views_are.inviting_is e in
       let a = holds_now view (begin_step x) i.0 starts in
-      sends_all (message.ViewCommit view.id view.members) (filter (λ q. not (q == (hold view (begin_step x)).site.id)) view.members) (hold view (begin_step x)) a (all_filter IsSite _ view.members (each_site view.members i.1.2)) i
+      sends_all (message.ViewCommit view.id view.members) (filter (λ q. not (q == (hold view (begin_step x)).site.id)) view.members) (hold view (begin_step x)) a (all_filter IsSite _ view.members (each_site view.members i.1.2)) i tt
 
   pub waits_no_more : F (change_views without_wait (begin_step x))
   waits_no_more = let v = sx.views_are in with_views catalogue x _ starts without_wait (record { promise_is = v.promise_is; seen_fits = v.seen_fits; held_is = v.held_is; waiting_is = tt; inviting_is = v.inviting_is })
@@ -129,7 +128,7 @@ module _ (catalogue : Catalogue) (k : IsCatalogue catalogue) (x : SiteState) (sx
       let v = sx.views_are in
       let i : IsView view.id = some_at (λ (view : View). IsView view.id) x.held view v.held_is e in
       let a = with_views catalogue x _ starts with_monitor (record { promise_is = v.promise_is; seen_fits = v.seen_fits; held_is = v.held_is; waiting_is = v.waiting_is; inviting_is = v.inviting_is }) in
-      sends_all (message.Probe view.id) (other_sites catalogue x.id) _ a (other_sites_are catalogue k x.id) i
+      sends_all (message.Probe view.id) (other_sites catalogue x.id) _ a (other_sites_are catalogue k x.id) i tt
 
   pub says_inviting : (port : ℕ) (o : Stepped) → given ≡ input.Call port call.Regroup → is_spent x.views ≡ false → F o → F (reply (answer.Inviting (next_view x)) port o)
   says_inviting port o c e p = with_gives catalogue x o p _ (gives_reply x.id o.effects p.gives (answer.Inviting (next_view x)) port (called_is given port call.Regroup came c).0 (next_is x id_is sx.views_are e))

@@ -92,7 +92,7 @@ module _ (catalogue : Catalogue) (k : IsCatalogue catalogue) where
       let i = all_at (λ sent. IsFrame (message_frame sent)) w.sent h.sent_are m sent in
       by_option Kept _ (site_of w m.to) (shows w (shown.Down m.to))
       (λ x up. by_test Kept (is_cut w m.from m.to) (shows w (shown.Parted m.from m.to)) (site_step catalogue m.to x (input.Message m.from m.message) (record w { delivered = w.delivered ++ n ∷ [] }))
-      (λ e. h) (λ e. steps m.to x (input.Message m.from m.message) (record w { delivered = w.delivered ++ n ∷ [] }) up (i.0, i.2) (with_delivered w (w.delivered ++ n ∷ []) h)))
+      (λ e. h) (λ e. steps m.to x (input.Message m.from m.message) (record w { delivered = w.delivered ++ n ∷ [] }) up (i.2.0, i.2.2) (with_delivered w (w.delivered ++ n ∷ []) h)))
       (λ none. h)
 
   crashes : (s : ℕ) (w : WorldState) → W w → Kept (crash s w)

@@ -38,7 +38,7 @@ module _ (catalogue : Catalogue) (x : SiteState) (given : Input) where
     begin = λ port view e g u. inl refl;
     answers = λ words port why y. inl refl;
     take_lock = λ t rec exclusive stored h i a v c. inl refl;
-    complete = λ t p operation words l h g y e r. inl (ap (λ (e : Effects). e.commits) (completes_effects catalogue x given t p operation words l g));
+    complete = λ t p deed l h g y e r. inl (ap (λ (e : Effects). e.commits) (completes_effects catalogue x given t p deed l g));
     read_at = λ t p rec q h n r a w c o y. inl refl;
     write_at = λ t p rec value l h n w a e o d y v r. inl (ap (λ (e : Effects). e.commits) (locked_effects x t rec l d));
     prepare_parts = λ t p h i g e. inl refl;

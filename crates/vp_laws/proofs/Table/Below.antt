@@ -389,7 +389,7 @@ module _ (catalogue : Catalogue) (x : SiteState) (given : Input) (tidy : Tidy x)
       begin = λ port view e g u. hushed (lent_at x) _ refl refl begins;
       answers = λ words port why y. hushed (lent_at x) _ refl refl begins;
       take_lock = λ t rec exclusive stored h i a v c. hushed (lent_at x) _ refl refl begins;
-      complete = λ t p operation words l h g y e q. hushed l _ refl refl q;
+      complete = λ t p deed l h g y e q. hushed l _ refl refl q;
       read_at = λ t p rec q h n r a w c o y. one _ x.id q (message.ReadRequest t.txn t.view p.number rec) refl (same_but _ x refl refl refl refl refl) refl;
       write_at = λ t p rec value l h n w a e o d y v q. writes_at t p rec (other_holders catalogue x rec) l q;
       prepare_parts = λ t p h i g e. plain (lent_at x) _ (letters x.id (prepare_for catalogue t p) t.parts) refl refl (letters_undated x.id (prepare_for catalogue t p) t.parts (λ q. refl)) begins;

@@ -2,21 +2,21 @@
 -- answered the number; or the number is its next one and no call is pending, and after the step the call is pending or answered, or
 -- the transaction has ended.
 use Rattle.std.proofs.Common.{◌≡◌, ◌⊎◌, ◌∙◌, ap, sym, subst, ℕ, ◌+◌, ◌≤◌, Bool, true, false, List, [], ◌∷◌, refl, arith, inl, inr, ⊎_elim, length, length-append}
-use Rattle.std.specs.Prelude.{Option, Some, None, is_some, nat_le, nat_lt, if◌then◌else◌}
+use Rattle.std.specs.Prelude.{Option, Some, None, is_some, nat_le, nat_lt, ◌||◌}
 use Rattle.std.specs.Option.{option_map_or}
 use Rattle.std.proofs.lemmas.Bool.Decides.{nat_tests}
-use Rattle.vp_model.specs.Types.{TxnId, Op, Call, Answer, Reply, Pending, Live, Ending, Finished}
+use Rattle.vp_model.specs.Types.{TxnId, Call, Answer, Reply, Pending, Live, Ending, Finished}
 use Rattle.vp_base.specs.declared.site.Ending.TheVariants.{Aborted, LockHeld}
 use Rattle.vp_model.specs.Types.answer
 use Rattle.vp_model.specs.Types.call
 use Rattle.vp_model.specs.Types.input
 use Rattle.vp_model.specs.Types.op
 use Rattle.vp_model.specs.Words.{same_txn, change_first, without_first, first, is_empty, value_at, for_some}
-use Rattle.vp_model.specs.Catalogue.{Catalogue, find_record, inside, total}
+use Rattle.vp_model.specs.Catalogue.{Catalogue, Table as Weights, find_record}
 use Rattle.vp_model.specs.Site.{CoordinatorState, SiteState, Lent, lent_reply}
-use Rattle.vp_model.specs.Transactions.{last_changes, entry_of, finished_of, last_writes, keep_writes, close, decide, complete}
-use Rattle.vp_model.specs.Refresh.{members_in, is_open, other_holders}
-use Rattle.vp_model.specs.Calls.{handled, handling, with_record, take_lock, lock_here, answer_read, answer_write, read, read_at, write_elsewhere, write, write_at, commit, prepare_parts, new_call, live_call, finished_call, on_txn_call, own_call, on_call}
+use Rattle.vp_model.specs.Transactions.{Deed, deed_answer, last_changes, entry_of, finished_of, last_writes, keep_writes, close, decide, complete}
+use Rattle.vp_model.specs.Refresh.{is_open, other_holders}
+use Rattle.vp_model.specs.Calls.{handled, handling, with_record, take_lock, lock_here, answer_read, read, read_at, change_elsewhere, change, new_change, is_bad_table, is_too_large, short, write_at, commit, prepare_parts, new_call, live_call, finished_call, on_txn_call, own_call, on_call}
 use Rattle.vp_model.specs.Step.{on_input, step}
 use Rattle.vp_model.specs.Told.{is_early_refusal}
 use Rattle.vp_laws.proofs.Lists.Members.{Has, has_one, find_has, find_true}
@@ -24,7 +24,7 @@ use Rattle.vp_model.proofs.SameTxn.{same_txn-is}
 use Rattle.vp_laws.proofs.Lists.Names.{Apart, named, without_gone, change_cases}
 use Rattle.vp_laws.proofs.Moves.Frames.{close-ends, decided-ends, decide-cases}
 use Rattle.vp_laws.proofs.Moves.Table.{lent_at}
-use Rattle.vp_laws.proofs.Moves.Coordinator.{live_of-has, live_of-is, next_number}
+use Rattle.vp_laws.proofs.Moves.Coordinator.{live_of-has, live_of-is, next_number, open_here}
 use Rattle.vp_laws.proofs.Lists.Keeps.{by_option, by_test}
 use Rattle.vp_laws.proofs.Moves.Calls.{done, waiting, reading, writing}
 
@@ -42,6 +42,8 @@ pub data CallSays (x : SiteState) (txn : TxnId) (number : ℕ) (live : List Live
 pub data IsCallOf (txn : TxnId) (number : ℕ) : Call → Type 0 where
   of_read : (name : List ℕ) → IsCallOf txn number (call.Read txn number name)
   of_write : (name value : List ℕ) → IsCallOf txn number (call.Write txn number name value)
+  of_delete : (name : List ℕ) → IsCallOf txn number (call.Delete txn number name)
+  of_weigh : (name : List ℕ) (table : Weights) → IsCallOf txn number (call.Weigh txn number name table)
   of_commit : IsCallOf txn number (call.Commit txn number)
   of_abort : IsCallOf txn number (call.Abort txn number)
 
@@ -92,9 +94,9 @@ module _ (catalogue : Catalogue) (x : SiteState) (port : ℕ) (txn : TxnId) (num
         (λ e. takes _ (rw (ap (λ (c : CoordinatorState). c.live) (decided-ends x.id (handling t p) (lent_at x)).coordinator) (gone x.live refl)))
         (λ e. takes _ (rw (ap (λ (c : CoordinatorState). c.live) (decided-ends x.id (handling t p) (keep_writes catalogue x.id (handling t p) (lent_at x))).coordinator) (gone x.live refl)))
 
-    completes : (operation : Op) (words : Answer) (l : Lent) → l.live ≡ x.live → Q (complete t p operation words l)
+    completes : (deed : Deed) (l : Lent) → l.live ≡ x.live → Q (complete t p deed l)
     unfolding complete
-    completes operation words l same = takes _ (goes (done t operation words) refl (inr (length-append t.answers (words ∷ []))) l.live same)
+    completes deed l same = takes _ (goes (done t p deed) refl (inr (length-append t.answers (deed_answer t.txn p.number deed ∷ []))) l.live same)
 
     locks : (name : List ℕ) (rec : ℕ) (exclusive : Bool) (rest : Lent → Lent) → Q (rest (take_lock t.txn rec exclusive (lent_at x))) → Q (lock_here x.id t p name rec exclusive rest (lent_at x))
     unfolding lock_here
@@ -108,44 +110,36 @@ module _ (catalogue : Catalogue) (x : SiteState) (port : ℕ) (txn : TxnId) (num
     unfolding read take_lock read_at
     reads name rec a =
         by_option Q (λ value. answer_read t p rec value (lent_at x)) (value_at rec (last_writes t.ops)) (elsewhere name rec)
-        (λ value e. completes (op.Read rec value) (answer.Value t.txn p.number value) (lent_at x) refl)
+        (λ value e. completes (Deed.operates (op.Read rec value)) (lent_at x) refl)
         (λ n. by_option Q _ _ _
-        (λ stored e. locks name rec false (answer_read t p rec stored.value) (completes _ _ (take_lock t.txn rec false (lent_at x)) refl))
+        (λ stored e. locks name rec false (answer_read t p rec stored.value) (completes _ (take_lock t.txn rec false (lent_at x)) refl))
         (λ none. by_first Q (first (other_holders catalogue x rec)) (read_at x.id t p rec) (lent_at x) (holders rec a none) (λ q. takes _ (goes (reading t p rec q) refl (inl refl) x.live refl))))
 
-    writes_elsewhere : (rec : ℕ) (value : List ℕ) (l : Lent) → l.live ≡ x.live → Q (write_elsewhere catalogue x.id x.held t p rec value l)
-    unfolding write_elsewhere write_at
-    writes_elsewhere rec value l same =
-        by_test Q (is_empty (other_holders catalogue x rec)) _ _ (λ e. completes _ _ l same)
+    changes_elsewhere : (rec : ℕ) (deed : Deed) (l : Lent) → l.live ≡ x.live → Q (change_elsewhere catalogue x.id x.held t p rec deed l)
+    unfolding change_elsewhere write_at
+    changes_elsewhere rec deed l same =
+        by_test Q (is_empty (other_holders catalogue x rec)) _ _ (λ e. completes deed l same)
         (λ e. takes _ (goes (writing t p (other_holders catalogue x rec)) refl (inl refl) l.live same))
 
-    abbrev not_written : (name value : List ℕ) (rec : ℕ) → Lent
-    not_written name value rec =
-        option_map_or (λ stored. lock_here x.id t p name rec true (write_elsewhere catalogue x.id x.held t p rec value) (lent_at x)) (value_at rec x.copies) (write_elsewhere catalogue x.id x.held t p rec value (lent_at x))
+    changes : (name : List ℕ) (asked : ℕ → Deed) (rec : ℕ) → Q (change catalogue x.id x.held t p name asked rec (lent_at x))
+    unfolding change take_lock
+    changes name asked rec = by_option Q _ (value_at rec (last_changes (entry_of t))) _
+        (λ before e. completes (asked rec) (lent_at x) refl)
+        (λ n. by_option Q _ (value_at rec x.copies) _
+        (λ stored e. locks name rec true (change_elsewhere catalogue x.id x.held t p rec (asked rec)) (changes_elsewhere rec (asked rec) (take_lock t.txn rec true (lent_at x)) refl))
+        (λ none. changes_elsewhere rec (asked rec) (lent_at x) refl))
 
-    writes : (name value : List ℕ) (rec : ℕ) → Q (write catalogue x.id x.held t p name value rec (lent_at x))
-    unfolding write take_lock
-    writes name value rec =
-        by_option Q (λ before. answer_write t p rec value (lent_at x)) (value_at rec (last_changes (entry_of t))) (not_written name value rec)
-        (λ before e. completes (op.Write rec value) (answer.Written t.txn p.number) (lent_at x) refl)
-        (λ n. by_option Q (λ stored. lock_here x.id t p name rec true (write_elsewhere catalogue x.id x.held t p rec value) (lent_at x)) (value_at rec x.copies) (write_elsewhere catalogue x.id x.held t p rec value (lent_at x))
-        (λ stored e. locks name rec true (write_elsewhere catalogue x.id x.held t p rec value) (writes_elsewhere rec value (take_lock t.txn rec true (lent_at x)) refl))
-        (λ none. writes_elsewhere rec value (lent_at x) refl))
-
-    abbrev no_weight : (name : List ℕ) (rec : ℕ) → Lent
-    no_weight name rec = lent_reply (answer.Inaccessible t.txn p.number name (inside catalogue rec (members_in x.held)) (total catalogue rec)) p.port (lent_at x)
-
-    abbrev if_usable : (name : List ℕ) (use_record : ℕ → Lent → Lent) (rec : ℕ) → Lent
-    if_usable name use_record rec = if is_open catalogue x rec then use_record rec (lent_at x) else no_weight name rec
-
-    abbrev found : (name : List ℕ) (use_record : ℕ → Lent → Lent) (rec : ℕ) → Lent
-    found name use_record rec = if nat_le 64 (length t.ops) then lent_reply (answer.TooManyOps t.txn p.number) p.port (lent_at x) else if_usable name use_record rec
-
-    uses : (name : List ℕ) (use_record : ℕ → Lent → Lent) → ((rec : ℕ) → is_open catalogue x rec ≡ true → Q (use_record rec (lent_at x))) → Q (with_record catalogue x.held t p name use_record (lent_at x))
+    uses : (name : List ℕ) (asked : ℕ → Deed) (use_record : ℕ → Lent → Lent) → ((rec : ℕ) → is_open catalogue x rec ≡ true → Q (use_record rec (lent_at x))) → Q (with_record catalogue x.held t p name asked use_record (lent_at x))
     unfolding with_record
-    uses name use_record used = by_option Q (found name use_record) (find_record catalogue name) (lent_reply (answer.NoRecord t.txn p.number) p.port (lent_at x))
-        (λ rec e. by_test Q (nat_le 64 (length t.ops)) (lent_reply (answer.TooManyOps t.txn p.number) p.port (lent_at x)) (if_usable name use_record rec) (λ many. refused _ refl) (λ few. by_test Q (is_open catalogue x rec) (use_record rec (lent_at x)) (no_weight name rec) (λ a. used rec a) (λ not_usable. refused _ refl)))
+    uses name asked use_record used = by_option Q _ (find_record catalogue name) _
+        (λ rec e. by_test Q (is_bad_table catalogue (asked rec)) _ _ (λ bad. refused _ refl)
+        (λ table. by_test Q (nat_le 64 (length t.answers) || is_too_large t (asked rec)) _ _ (λ many. refused _ refl)
+        (λ fits. by_option Q _ (short catalogue x.held rec (asked rec)) _ (λ weights s. refused _ refl) (λ enough. used rec (open_here catalogue x rec (asked rec) enough)))))
         (λ none. refused _ refl)
+
+    new_changes : (name : List ℕ) (asked : ℕ → Deed) → Q (new_change catalogue x.id x.held t p name asked (lent_at x))
+    unfolding new_change
+    new_changes name asked = uses name asked _ (λ rec a. changes name asked rec)
 
     commits : Q (commit catalogue x.id t p (lent_at x))
     unfolding commit prepare_parts
@@ -153,8 +147,10 @@ module _ (catalogue : Catalogue) (x : SiteState) (port : ℕ) (txn : TxnId) (num
 
     new_call_says : (words : Call) → IsCallOf txn number words → Q (new_call catalogue x.id x.held t p words (lent_at x))
     unfolding new_call
-    new_call_says words (IsCallOf.of_read name) = uses name _ (λ rec a. reads name rec a)
-    new_call_says words (IsCallOf.of_write name value) = uses name _ (λ rec a. writes name value rec)
+    new_call_says words (IsCallOf.of_read name) = uses name (λ rec. Deed.operates (op.Read rec None)) _ (λ rec a. reads name rec a)
+    new_call_says words (IsCallOf.of_write name value) = new_changes name (λ rec. Deed.operates (op.Write rec (Some value)))
+    new_call_says words (IsCallOf.of_delete name) = new_changes name (λ rec. Deed.operates (op.Write rec None))
+    new_call_says words (IsCallOf.of_weigh name table) = new_changes name (λ rec. Deed.weighs rec table)
     new_call_says words IsCallOf.of_commit = commits
     new_call_says words IsCallOf.of_abort = closes Aborted
 
@@ -179,5 +175,7 @@ module _ (catalogue : Catalogue) (x : SiteState) (port : ℕ) (txn : TxnId) (num
   unfolding step on_input on_call own_call
   call_said words (IsCallOf.of_read name) = said (call.Read txn number name) (IsCallOf.of_read name)
   call_said words (IsCallOf.of_write name value) = said (call.Write txn number name value) (IsCallOf.of_write name value)
+  call_said words (IsCallOf.of_delete name) = said (call.Delete txn number name) (IsCallOf.of_delete name)
+  call_said words (IsCallOf.of_weigh name table) = said (call.Weigh txn number name table) (IsCallOf.of_weigh name table)
   call_said words IsCallOf.of_commit = said (call.Commit txn number) IsCallOf.of_commit
   call_said words IsCallOf.of_abort = said (call.Abort txn number) IsCallOf.of_abort

@@ -1,15 +1,16 @@
 -- Where each copy and each kept answer to a refresh comes from in a step.
-use Rattle.std.proofs.Common.{◌≡◌, ◌⊎◌, ◌∙◌, ap, sym, subst, ℕ, Bool, true, false, cond, List, [], ◌∷◌, map, refl, inl, inr, ⊎_elim}
+use Rattle.std.proofs.Common.{arith, ◌≢◌, ◌≡◌, ◌⊎◌, ◌∙◌, ap, sym, subst, ℕ, Bool, true, false, cond, List, [], ◌∷◌, map, refl, inl, inr, ⊎_elim}
 use Rattle.std.specs.Prelude.{Option, Some, None, filter, find, option_map, not, ◌==◌, nat_lt}
 use Rattle.std.proofs.lemmas.Bool.{eqb-true}
+use Rattle.std.proofs.lemmas.Bool.Decides.{nat_tests}
 use Rattle.vp_model.specs.Types.{Change, ViewId, TxnId, View, Commit, Input, Stored, Live, Ending, Refreshing, Doubt}
 use Rattle.vp_model.specs.Types.log_record
 use Rattle.vp_model.specs.Types.input
 use Rattle.vp_model.specs.Types.message
-use Rattle.vp_model.specs.Words.{same_txn, put_at, view_before, replace_at, value_at, has}
-use Rattle.vp_model.specs.Catalogue.{Catalogue}
+use Rattle.vp_model.specs.Words.{same_txn, put_at, view_before, change_at, replace_at, keys, value_at, has}
+use Rattle.vp_model.specs.Catalogue.{Catalogue, holders}
 use Rattle.vp_model.specs.Locks.{without_guard}
-use Rattle.vp_model.specs.Durable.{doubt_of, with_writes}
+use Rattle.vp_model.specs.Durable.{changed, doubt_of, with_writes}
 use Rattle.vp_model.specs.Site.{Here, SiteState, Lent, Stepped, begin_step, put_back, force, change_copies}
 use Rattle.vp_model.specs.Transactions.{last_changes, entry_of, writes_held, close, keep_writes, decide, complete}
 use Rattle.vp_model.specs.Refresh.{newer, newest, take_newer, unlist, end_refresh, start_refresh, refreshing_of, unanswered}
@@ -18,9 +19,11 @@ use Rattle.vp_model.specs.Calls.{start_txn, take_lock, read_at, write_at, prepar
 use Rattle.vp_model.specs.Messages.{holds_view, with_answer, accept, on_accept, on_stale, grant, end_here}
 use Rattle.vp_model.specs.Step.{fix, mark_calls, ask_again, resend_one, inquire, step}
 use Rattle.vp_laws.specs.Decisions.{dated_at}
-use Rattle.vp_laws.proofs.Lists.Members.{Has, has_none, has_one, has_first, has_more, map_has, filter_has, find_has, find_true, both_true}
+use Rattle.vp_laws.proofs.Lists.Members.{Has, has_cons, has_none, has_one, has_first, has_more, map_has, filter_has, find_has, find_true, both_true}
 use Rattle.vp_model.proofs.SameTxn.{same_txn-is}
-use Rattle.vp_laws.proofs.Lists.Changes.{put_has}
+use Rattle.vp_laws.proofs.Lists.Changes.{mapped_has, put_has}
+use Rattle.vp_laws.proofs.Lists.Pairs.{Differ, kept_differ}
+use Rattle.vp_laws.proofs.Journal.LastChanges.{changes_differ}
 use Rattle.vp_laws.proofs.Lists.Views.{is_view_is}
 use Rattle.vp_laws.proofs.Moves.Frames.{close-ends, close-commits, decided-ends, decided-commits, decide-cases}
 use Rattle.vp_laws.proofs.Moves.LocalViews.{Tidy, none_refreshed}
@@ -35,8 +38,8 @@ pub data AnswerNow (catalogue : Catalogue) (x : SiteState) (given : Input) (rec 
 -- a copy was there, is of a doubt that commits, of an entry of this step, or of an answer to a refresh
 pub data CopyNow (catalogue : Catalogue) (x : SiteState) (given : Input) (commits : List Commit) (a : ℕ × Stored) : Type 0 where
   still : Has x.copies a → CopyNow catalogue x given commits a
-  outcome : (from : ℕ) (d : Doubt) (w : ℕ × List ℕ) → Comes given from (message.Outcome d.txn true) → Has x.doubts d → Has d.writes w → dated_at d.view w ≡ a → CopyNow catalogue x given commits a
-  entered : (e : Commit) (w : ℕ × List ℕ) → Has commits e → Has (writes_held catalogue x.id (last_changes e)) w → dated_at e.view w ≡ a → CopyNow catalogue x given commits a
+  outcome : (from : ℕ) (d : Doubt) (w : ℕ × Change) → Comes given from (message.Outcome d.txn true) → Has x.doubts d → Has d.writes w → (old : Stored) → Has x.copies (w.0, old) → dated_at d.view w old ≡ a → CopyNow catalogue x given commits a
+  entered : (e : Commit) (w : ℕ × Change) → Has commits e → Has (writes_held catalogue x.id (last_changes e)) w → (old : Stored) → Has x.copies (w.0, old) → dated_at e.view w old ≡ a → CopyNow catalogue x given commits a
   refreshed : (k : ℕ × Stored) → AnswerNow catalogue x given a.0 k → k.1 ≡ a.1 → CopyNow catalogue x given commits a
 
 pub record Copies (catalogue : Catalogue) (x : SiteState) (given : Input) (o : Stepped) : Type 0 where
@@ -51,12 +54,42 @@ replaced_from n v pairs a h = let r = map_has (λ (p : ℕ × Stored). cond (p.0
     go true p k e = inl (sym e)
     go false p k e = inr (rw (← e) k)
 
-written_from : (date : ViewId) (writes : List (ℕ × Change)) (copies : List (ℕ × Stored)) (a : ℕ × Stored) → Has (with_writes date writes copies) a → ((w : ℕ × List ℕ) × Has writes w × (dated_at date w ≡ a)) ⊎ Has copies a
-written_from date [] copies a h = inr h
-written_from date (w ∷ writes) copies a h = ⊎_elim
-    (λ (q : (v : ℕ × List ℕ) × Has writes v × (dated_at date v ≡ a)). inl (q.0, has_more w writes q.0 q.1, q.2))
-    (λ old. ⊎_elim (λ (new : a ≡ dated_at date w). inl (w, has_first w writes, sym new)) (λ before. inr before) (replaced_from w.0 (record { value = w.1; date = date }) copies a old))
-    (written_from date writes (replace_at w.0 (record { value = w.1; date = date }) copies) a h)
+changed_from : (n : ℕ) (f : Stored → Stored) (pairs : List (ℕ × Stored)) (a : ℕ × Stored) → Has (change_at n f pairs) a → ((old : Stored) × Has pairs (n, old) × ((n, f old) ≡ a)) ⊎ (Has pairs a × (n ≢ a.0))
+changed_from n f pairs a h = let r = map_has (λ (p : ℕ × Stored). cond (p.0 == n) (n, f p.1) p) pairs a h in go (r.0.0 == n) r.0 refl r.1 r.2
+  where
+    differs : (c b : ℕ) → (c == b) ≡ false → b ≢ c
+    differs c b e = grind (arith, nat_tests, e)
+
+    pair : (p : ℕ × Stored) → p.0 ≡ n → p ≡ (n, p.1)
+    pair p e = rw (← e) refl
+
+    go : (b : Bool) (p : ℕ × Stored) → (p.0 == n) ≡ b → Has pairs p → cond b (n, f p.1) p ≡ a → ((old : Stored) × Has pairs (n, old) × ((n, f old) ≡ a)) ⊎ (Has pairs a × (n ≢ a.0))
+    go true p t k e = inl (p.1, subst (Has pairs) (pair p (eqb-true p.0 n t)) k, e)
+    go false p t k e = inr (rw (← e) k, (λ z. differs p.0 n t (z ∙ ap (λ (q : ℕ × Stored). q.0) (sym e))))
+
+-- after changes of different records a copy was changed by one of them, or is as it was and none of them changes it
+pub written_from : (date : ViewId) (writes : List (ℕ × Change)) → Differ (keys writes) → (copies : List (ℕ × Stored)) (a : ℕ × Stored) → Has (with_writes date writes copies) a → ((w : ℕ × Change) × Has writes w × (old : Stored) × Has copies (w.0, old) × (dated_at date w old ≡ a)) ⊎ (Has copies a × (Has (keys writes) a.0 → ⊥))
+written_from date [] apart copies a h = inr (h, (λ k. has_none a.0 k))
+written_from date (w ∷ writes) apart copies a h = ⊎_elim
+    (λ (q : (v : ℕ × Change) × Has writes v × (old : Stored) × Has between (v.0, old) × (dated_at date v old ≡ a)). ⊎_elim
+    (λ (twice : (old : Stored) × Has copies (w.0, old) × ((w.0, changed date w.1 old) ≡ (q.0.0, q.2))). absurd (apart.0 (subst (Has (keys writes)) (sym (ap (λ (p : ℕ × Stored). p.0) twice.2)) (mapped_has (λ (p : ℕ × Change). p.0) writes q.0 q.1))))
+    (λ (before : Has copies (q.0.0, q.2) × (w.0 ≢ q.0.0)). inl (q.0, has_more w writes q.0 q.1, q.2, before.0, q.4))
+    (changed_from w.0 (changed date w.1) copies (q.0.0, q.2) q.3))
+    (λ (old : Has between a × (Has (keys writes) a.0 → ⊥)). ⊎_elim
+    (λ (new : (was : Stored) × Has copies (w.0, was) × ((w.0, changed date w.1 was) ≡ a)). inl (w, has_first w writes, new.0, new.1, new.2))
+    (λ (before : Has copies a × (w.0 ≢ a.0)). inr (before.0, (λ k. ⊎_elim (λ (one : w.0 ≡ a.0). before.1 one) (λ more. old.1 more) (has_cons w.0 (keys writes) a.0 k))))
+    (changed_from w.0 (changed date w.1) copies a old.0))
+    (written_from date writes apart.1 between a h)
+  where
+    between : List (ℕ × Stored)
+    between = change_at w.0 (changed date w.1) copies
+
+pub held_differ : (catalogue : Catalogue) (id : ℕ) (e : Commit) → Differ (keys (writes_held catalogue id (last_changes e)))
+held_differ catalogue id e = kept_differ (λ (w : ℕ × Change). has (holders catalogue w.0) id) (last_changes e) (changes_differ e)
+
+-- a doubt whose commit comes changes no record twice
+abbrev pub OnceEach : SiteState → Input → Type 0
+OnceEach x given = (from : ℕ) (d : Doubt) → Comes given from (message.Outcome d.txn true) → Has x.doubts d → Differ (keys d.writes)
 
 pub value_pair : (n : ℕ) (pairs : List (ℕ × Stored)) (v : Stored) → value_at n pairs ≡ Some v → Has pairs (n, v)
 value_pair n pairs v e = go (find (λ (p : ℕ × Stored). p.0 == n) pairs) refl e
@@ -81,7 +114,7 @@ newest_from own (a ∷ answers) = ⊎_elim
     one_of true = inr refl
     one_of false = inl refl
 
-module _ (catalogue : Catalogue) (x : SiteState) (given : Input) (tidy : Tidy x) (listed : (r : Refreshing) → Has x.refresh r → (v : View) × (x.held ≡ Some v)) where
+module _ (catalogue : Catalogue) (x : SiteState) (given : Input) (tidy : Tidy x) (listed : (r : Refreshing) → Has x.refresh r → (v : View) × (x.held ≡ Some v)) (once : OnceEach x given) where
   abbrev P : Stepped → Type 0
   P = Copies catalogue x given
 
@@ -167,11 +200,17 @@ module _ (catalogue : Catalogue) (x : SiteState) (given : Input) (tidy : Tidy x)
   ends_here from txn false (Some d) f c = same (begin_step x) _ refl refl refl refl starts
   ends_here from txn true (Some d) f c = record {
     copies = λ a h. ⊎_elim
-        (λ (q : (w : ℕ × List ℕ) × Has d.writes w × (dated_at d.view w ≡ a)). CopyNow.outcome from d q.0 (c ∙ ap (λ (t : TxnId). input.Message from (message.Outcome t true)) (sym (same_txn-is d.txn txn (find_true (λ (d : Doubt). same_txn d.txn txn) x.doubts d f)))) (find_has (λ (d : Doubt). same_txn d.txn txn) x.doubts d f) q.1 q.2)
-        (λ old. CopyNow.still old)
-        (written_from d.view d.writes x.copies a h);
+        (λ (q : (w : ℕ × Change) × Has d.writes w × (old : Stored) × Has x.copies (w.0, old) × (dated_at d.view w old ≡ a)). CopyNow.outcome from d q.0 comes there q.1 q.2 q.3 q.4)
+        (λ (old : Has x.copies a × (Has (keys d.writes) a.0 → ⊥)). CopyNow.still old.0)
+        (written_from d.view d.writes (once from d comes there) x.copies a h);
     answers = starts.answers;
   }
+    where
+      there : Has x.doubts d
+      there = find_has (λ (d : Doubt). same_txn d.txn txn) x.doubts d f
+
+      comes : Comes given from (message.Outcome d.txn true)
+      comes = c ∙ ap (λ (t : TxnId). input.Message from (message.Outcome t true)) (sym (same_txn-is d.txn txn (find_true (λ (d : Doubt). same_txn d.txn txn) x.doubts d f)))
 
   abbrev K : Lent → Type 0
   K = Back x P
@@ -188,9 +227,9 @@ module _ (catalogue : Catalogue) (x : SiteState) (given : Input) (tidy : Tidy x)
       (λ e. record { copies = λ a h. CopyNow.still (rw (ap (λ (h : Here). h.copies) (decided-ends x.id t (lent_at x)).here) at h); answers = starts.answers })
       (λ e. let l = keep_writes catalogue x.id t (lent_at x) in record {
         copies = λ a h. ⊎_elim
-            (λ (q : (w : ℕ × List ℕ) × Has (writes_held catalogue x.id (last_changes (entry_of t))) w × (dated_at t.view w ≡ a)). CopyNow.entered (entry_of t) q.0 (rw (decided-commits x.id t l) (has_one _)) q.1 q.2)
-            (λ old. CopyNow.still old)
-            (written_from t.view (writes_held catalogue x.id (last_changes (entry_of t))) x.copies a (rw (ap (λ (h : Here). h.copies) (decided-ends x.id t l).here) at h));
+            (λ (q : (w : ℕ × Change) × Has (writes_held catalogue x.id (last_changes (entry_of t))) w × (old : Stored) × Has x.copies (w.0, old) × (dated_at t.view w old ≡ a)). CopyNow.entered (entry_of t) q.0 (rw (decided-commits x.id t l) (has_one _)) q.1 q.2 q.3 q.4)
+            (λ (old : Has x.copies a × (Has (keys (writes_held catalogue x.id (last_changes (entry_of t)))) a.0 → ⊥)). CopyNow.still old.0)
+            (written_from t.view (writes_held catalogue x.id (last_changes (entry_of t))) (held_differ catalogue x.id (entry_of t)) x.copies a (rw (ap (λ (h : Here). h.copies) (decided-ends x.id t l).here) at h));
         answers = starts.answers;
       })
 
@@ -222,7 +261,7 @@ module _ (catalogue : Catalogue) (x : SiteState) (given : Input) (tidy : Tidy x)
       begin = λ port view e g u. quiet (lent_at x) _ refl refl starts;
       answers = λ words port why y. quiet (lent_at x) _ refl refl starts;
       take_lock = λ t rec exclusive stored h i a v c. quiet (lent_at x) _ refl refl starts;
-      complete = λ t p operation words l h g y e q. quiet l _ refl refl q;
+      complete = λ t p deed l h g y e q. quiet l _ refl refl q;
       read_at = λ t p rec q h n r a w c o y. quiet (lent_at x) _ refl refl starts;
       write_at = λ t p rec value l h n w a e o d y v q. quiet l _ refl refl q;
       prepare_parts = λ t p h i g e. quiet (lent_at x) _ refl refl starts;
@@ -235,5 +274,5 @@ module _ (catalogue : Catalogue) (x : SiteState) (given : Input) (tidy : Tidy x)
     resend_one = λ d o c h p. same o _ refl refl refl refl p;
   }
 
-pub copies-step : (catalogue : Catalogue) (x : SiteState) (given : Input) → Tidy x → ((r : Refreshing) → Has x.refresh r → (v : View) × (x.held ≡ Some v)) → Copies catalogue x given (step catalogue x given)
-copies-step catalogue x given tidy listed = step-keeps catalogue x given (Copies catalogue x given) (table catalogue x given tidy listed) (starts catalogue x given tidy listed)
+pub copies-step : (catalogue : Catalogue) (x : SiteState) (given : Input) → Tidy x → ((r : Refreshing) → Has x.refresh r → (v : View) × (x.held ≡ Some v)) → OnceEach x given → Copies catalogue x given (step catalogue x given)
+copies-step catalogue x given tidy listed once = step-keeps catalogue x given (Copies catalogue x given) (table catalogue x given tidy listed once) (starts catalogue x given tidy listed once)

@@ -3,7 +3,7 @@
 use Rattle.std.proofs.Common.{◌≡◌, ◌∙◌, ap, sym, subst, ℕ, Bool, true, false, List, [], ◌∷◌, refl, inl, inr}
 use Rattle.std.specs.Prelude.{Option, Some, None, not, ◌&&◌}
 use Rattle.std.specs.List.{Contains}
-use Rattle.vp_model.specs.Types.{TxnId, ViewId, View, Stored, LogRecord, Input, Refreshing, Doubt}
+use Rattle.vp_model.specs.Types.{Change, TxnId, ViewId, View, Stored, LogRecord, Input, Refreshing, Doubt}
 use Rattle.vp_model.specs.Types.log_record
 use Rattle.vp_model.specs.Types.input
 use Rattle.vp_model.specs.Types.message
@@ -20,7 +20,7 @@ use Rattle.vp_laws.proofs.Lists.Members.{Has, has_of, contains, has_one, has_lef
 use Rattle.vp_laws.proofs.Moves.LocalViews.{Tidy}
 use Rattle.vp_laws.proofs.Moves.Table.{Comes}
 use Rattle.vp_laws.proofs.Table.Outcomes.{find_none}
-use Rattle.vp_laws.proofs.Table.Copies.{AnswerNow, CopyNow, copies-step}
+use Rattle.vp_laws.proofs.Table.Copies.{AnswerNow, CopyNow, OnceEach, copies-step}
 use Rattle.vp_model.proofs.SameTxn.{same_txn-self}
 use Rattle.vp_laws.proofs.Lists.Keeps.{by_some, by_test}
 use Rattle.vp_laws.proofs.Moves.Frames.{take-cases}
@@ -64,8 +64,8 @@ pub outcome_forces : (catalogue : Catalogue) (x : SiteState) (given : Input) (fr
 outcome_forces catalogue x given from commit d comes h =
     contains _ _ (subst (λ (g : Input). Has (step catalogue x g).effects.records (log_record.Outcome d.txn commit)) (sym comes) (outcome_forced catalogue x from d.txn commit d h refl))
 
-pub copies_come : (catalogue : Catalogue) (x : SiteState) (given : Input) → Tidy x → ((r : Refreshing) → Has x.refresh r → (v : View) × (x.held ≡ Some v)) → (copy : ℕ × Stored) → Contains (step catalogue x given).site.copies copy → CopyComes catalogue x given copy
-copies_come catalogue x given tidy listed copy there = go ((copies-step catalogue x given tidy listed).copies copy (has_of _ copy there))
+pub copies_come : (catalogue : Catalogue) (x : SiteState) (given : Input) → Tidy x → ((r : Refreshing) → Has x.refresh r → (v : View) × (x.held ≡ Some v)) → OnceEach x given → (copy : ℕ × Stored) → Contains (step catalogue x given).site.copies copy → CopyComes catalogue x given copy
+copies_come catalogue x given tidy listed once copy there = go ((copies-step catalogue x given tidy listed once).copies copy (has_of _ copy there))
   where
     came : (from n : ℕ) (view : ViewId) (stored : Stored) (k : ℕ × Stored) → Comes given from (message.RefreshAnswer view n stored) → (from, stored) ≡ k → k.1 ≡ copy.1 → n ≡ copy.0 → given ≡ input.Message k.0 (message.RefreshAnswer view copy.0 copy.1)
     came from n view stored k c e is on =
@@ -75,7 +75,7 @@ copies_come catalogue x given tidy listed copy there = go ((copies-step catalogu
 
     go : CopyNow catalogue x given (step catalogue x given).effects.commits copy → CopyComes catalogue x given copy
     go (CopyNow.still h) = CopyComes.kept (contains _ copy h)
-    go (CopyNow.outcome from d w comes h wrote is) = CopyComes.doubted d w (contains _ d h) (outcome_forces catalogue x given from true d comes h) (contains _ w wrote) (sym is)
-    go (CopyNow.entered e w h wrote is) = CopyComes.entered e w (contains _ e h) (contains _ w (filter_has (λ (w : ℕ × List ℕ). has (holders catalogue w.0) x.id) (last_changes e) w wrote).0) (sym is)
+    go (CopyNow.outcome from d w comes h wrote old was is) = CopyComes.doubted d w old (contains _ d h) (outcome_forces catalogue x given from true d comes h) (contains _ w wrote) (contains _ (w.0, old) was) (sym is)
+    go (CopyNow.entered e w h wrote old was is) = CopyComes.entered e w old (contains _ e h) (contains _ w (filter_has (λ (w : ℕ × Change). has (holders catalogue w.0) x.id) (last_changes e) w wrote).0) (contains _ (w.0, old) was) (sym is)
     go (CopyNow.refreshed k (AnswerNow.was r h on kept) is) = CopyComes.refreshed r k.0 (contains _ r h) on (inl (contains _ _ (subst (λ (s : Stored). Has r.answers (k.0, s)) is kept)))
     go (CopyNow.refreshed k (AnswerNow.came from view r stored c e holds h on un) is) = CopyComes.refreshed r k.0 (contains _ r h) on (inr (view, came from copy.0 view stored k c e is refl))

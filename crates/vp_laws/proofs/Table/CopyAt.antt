@@ -4,22 +4,22 @@ use Rattle.std.proofs.Common.{◌≡◌, ◌≢◌, ◌⊎◌, ◌∙◌, ap, sy
 use Rattle.std.specs.Prelude.{Option, Some, None, filter, not, ◌==◌, nat_lt}
 use Rattle.std.proofs.lemmas.Bool.{eqb-true}
 use Rattle.std.proofs.lemmas.Bool.Decides.{nat_tests}
-use Rattle.vp_model.specs.Types.{Change, ViewId, TxnId, View, Commit, Op, Input, Stored, Live, Ending, Refreshing, Doubt}
+use Rattle.vp_model.specs.Types.{Change, ViewId, TxnId, View, Commit, Input, Stored, Live, Ending, Refreshing, Doubt}
 use Rattle.vp_model.specs.Types.log_record
 use Rattle.vp_model.specs.Types.input
 use Rattle.vp_model.specs.Types.message
 use Rattle.vp_model.specs.Words.{same_txn, put_at, view_before, replace_at, value_at, has, keys, is_empty}
 use Rattle.vp_model.specs.Catalogue.{Catalogue}
 use Rattle.vp_model.specs.Locks.{without_guard}
-use Rattle.vp_model.specs.Durable.{doubt_of, without_doubt, with_writes}
+use Rattle.vp_model.specs.Durable.{doubt_of, without_doubt}
 use Rattle.vp_model.specs.Site.{Here, SiteState, Lent, Stepped, begin_step, put_back, force, change_copies}
-use Rattle.vp_model.specs.Transactions.{last_changes, entry_of, last_writes, writes_held, close, keep_writes, decide, complete}
+use Rattle.vp_model.specs.Transactions.{last_changes, entry_of, writes_held, close, keep_writes, decide, complete}
 use Rattle.vp_model.specs.Refresh.{newer, newest, take_newer, unlist, end_refresh, start_refresh, refreshing_of, unanswered, is_doubtful}
 use Rattle.vp_model.specs.Views.{drop_view, start_inviting, hold}
 use Rattle.vp_model.specs.Calls.{start_txn, take_lock, read_at, write_at, prepare_parts}
 use Rattle.vp_model.specs.Messages.{holds_view, with_answer, accept, on_accept, on_stale, grant, end_here}
 use Rattle.vp_model.specs.Step.{fix, mark_calls, ask_again, resend_one, inquire}
-use Rattle.vp_laws.proofs.Lists.Members.{Has, has_none, has_one, has_one_is, has_first, has_more, has_cons, map_has, filter_has, find_has, find_true, any_false, both_true, has_test}
+use Rattle.vp_laws.proofs.Lists.Members.{Has, has_none, has_one, has_one_is, has_cons, map_has, filter_has, find_has, find_true, any_false, both_true, has_test}
 use Rattle.vp_model.proofs.SameTxn.{same_txn-is, same_txn-clash}
 use Rattle.vp_laws.proofs.Lists.Changes.{put_has}
 use Rattle.vp_laws.proofs.Lists.Views.{AtMost, AtMost-refl, AtMost-trans, Precedes-at_most, from_before, is_view_is}
@@ -27,7 +27,7 @@ use Rattle.vp_laws.proofs.Moves.Frames.{close-ends, close-commits, decided-ends,
 use Rattle.vp_laws.proofs.Moves.LocalViews.{Tidy, none_refreshed}
 use Rattle.vp_laws.proofs.Moves.Table.{Comes, Left, lent_at, Back, Table}
 use Rattle.vp_laws.specs.Decisions.{dated_at}
-use Rattle.vp_laws.proofs.Table.Copies.{AnswerNow, replaced_from, value_pair, newest_from}
+use Rattle.vp_laws.proofs.Table.Copies.{AnswerNow, OnceEach, replaced_from, written_from, held_differ, value_pair, newest_from}
 use Rattle.vp_laws.proofs.Journal.UpTo.{up_to_from}
 
 -- no doubt on the record has been made a copy, and no entry of this step wrote it here
@@ -40,8 +40,8 @@ pub record Untaken (catalogue : Catalogue) (x : SiteState) (given : Input) (doub
 -- a copy was there and is untaken, or is of a doubt that commits, which is gone, or of an entry of this step
 pub data OwnCopy (catalogue : Catalogue) (x : SiteState) (given : Input) (doubts : List Doubt) (commits : List Commit) (a : ℕ × Stored) : Type 0 where
   still : Has x.copies a → Untaken catalogue x given doubts commits a.0 → OwnCopy catalogue x given doubts commits a
-  outcome : (from : ℕ) (d : Doubt) (w : ℕ × List ℕ) → Comes given from (message.Outcome d.txn true) → Has x.doubts d → Has d.writes w → dated_at d.view w ≡ a → ((u : Doubt) → Has doubts u → u.txn ≢ d.txn) → OwnCopy catalogue x given doubts commits a
-  entered : (e : Commit) (w : ℕ × List ℕ) → Has commits e → Has (writes_held catalogue x.id (last_changes e)) w → dated_at e.view w ≡ a → OwnCopy catalogue x given doubts commits a
+  outcome : (from : ℕ) (d : Doubt) (w : ℕ × Change) → Comes given from (message.Outcome d.txn true) → Has x.doubts d → Has d.writes w → (old : Stored) → Has x.copies (w.0, old) → dated_at d.view w old ≡ a → ((u : Doubt) → Has doubts u → u.txn ≢ d.txn) → OwnCopy catalogue x given doubts commits a
+  entered : (e : Commit) (w : ℕ × Change) → Has commits e → Has (writes_held catalogue x.id (last_changes e)) w → (old : Stored) → Has x.copies (w.0, old) → dated_at e.view w old ≡ a → OwnCopy catalogue x given doubts commits a
 
 -- no doubt among these writes the record
 abbrev pub Certain : List Doubt → ℕ → Type 0
@@ -99,17 +99,7 @@ replaced_not n v pairs a h = let r = map_has (λ (p : ℕ × Stored). cond (p.0 
     go true p t k e = inl (sym e)
     go false p t k e = inr (rw (← e) k, (λ z. differs p.0 n t (z ∙ ap (λ (q : ℕ × Stored). q.0) (sym e))))
 
-written_or_not : (date : ViewId) (writes : List (ℕ × Change)) (copies : List (ℕ × Stored)) (a : ℕ × Stored) → Has (with_writes date writes copies) a → ((w : ℕ × List ℕ) × Has writes w × (dated_at date w ≡ a)) ⊎ (Has copies a × (Has (keys writes) a.0 → ⊥))
-written_or_not date [] copies a h = inr (h, (λ k. has_none a.0 k))
-written_or_not date (w ∷ writes) copies a h = ⊎_elim
-    (λ (q : (v : ℕ × List ℕ) × Has writes v × (dated_at date v ≡ a)). inl (q.0, has_more w writes q.0 q.1, q.2))
-    (λ (old : Has (replace_at w.0 (record { value = w.1; date = date }) copies) a × (Has (keys writes) a.0 → ⊥)). ⊎_elim
-    (λ (new : a ≡ dated_at date w). inl (w, has_first w writes, sym new))
-    (λ (before : Has copies a × (w.0 ≢ a.0)). inr (before.0, (λ k. ⊎_elim (λ (one : w.0 ≡ a.0). before.1 one) (λ more. old.1 more) (has_cons w.0 (keys writes) a.0 k))))
-    (replaced_not w.0 (record { value = w.1; date = date }) copies a old.0))
-    (written_or_not date writes (replace_at w.0 (record { value = w.1; date = date }) copies) a h)
-
-module _ (catalogue : Catalogue) (x : SiteState) (given : Input) (tidy : Tidy x) (listed : (r : Refreshing) → Has x.refresh r → (v : View) × (x.held ≡ Some v)) where
+module _ (catalogue : Catalogue) (x : SiteState) (given : Input) (tidy : Tidy x) (listed : (r : Refreshing) → Has x.refresh r → (v : View) × (x.held ≡ Some v)) (once : OnceEach x given) where
   abbrev P : Stepped → Type 0
   P = CopiesAt catalogue x given
 
@@ -233,14 +223,20 @@ module _ (catalogue : Catalogue) (x : SiteState) (given : Input) (tidy : Tidy x)
   ends_here from txn true (Some d) f c = record {
     id = refl;
     copies = λ a h. ⊎_elim
-        (λ (q : (w : ℕ × List ℕ) × Has d.writes w × (dated_at d.view w ≡ a)). CopyAt.here (OwnCopy.outcome from d q.0 (c ∙ ap (λ (t : TxnId). input.Message from (message.Outcome t true)) (sym is_named)) (find_has (λ (d : Doubt). same_txn d.txn txn) x.doubts d f) q.1 q.2 gone))
+        (λ (q : (w : ℕ × Change) × Has d.writes w × (old : Stored) × Has x.copies (w.0, old) × (dated_at d.view w old ≡ a)). CopyAt.here (OwnCopy.outcome from d q.0 comes there q.1 q.2 q.3 q.4 gone))
         (λ (old : Has x.copies a × (Has (keys d.writes) a.0 → ⊥)). CopyAt.here (OwnCopy.still old.0 (record { outcome = λ other u k g z. absurd (old.1 (subst (λ (d : Doubt). Has (keys d.writes) a.0) (only u other k g) z)); entered = λ e h z. has_none e h })))
-        (written_or_not d.view d.writes x.copies a h);
+        (written_from d.view d.writes (once from d comes there) x.copies a h);
     answers = starts.answers;
   }
     where
       is_named : d.txn ≡ txn
       is_named = same_txn-is d.txn txn (find_true (λ (d : Doubt). same_txn d.txn txn) x.doubts d f)
+
+      there : Has x.doubts d
+      there = find_has (λ (d : Doubt). same_txn d.txn txn) x.doubts d f
+
+      comes : Comes given from (message.Outcome d.txn true)
+      comes = c ∙ ap (λ (t : TxnId). input.Message from (message.Outcome t true)) (sym is_named)
 
       gone : (u : Doubt) → Has (without_doubt txn x.doubts) u → u.txn ≢ d.txn
       gone u h same = same_txn-clash u.txn txn (filter_has (λ (d : Doubt). not (same_txn d.txn txn)) x.doubts u h).1 (same ∙ is_named)
@@ -267,19 +263,19 @@ module _ (catalogue : Catalogue) (x : SiteState) (given : Input) (tidy : Tidy x)
         id = refl;
         copies = λ a h. CopyAt.here (OwnCopy.still (rw (ap (λ (h : Here). h.copies) (decided-ends x.id t (lent_at x)).here) at h) (record {
           outcome = λ from d c f k. find_has (λ (u : Doubt). same_txn u.txn d.txn) x.doubts d f;
-          entered = λ u g k. wrote_none u (has_one_is (entry_of t) u (rw (decided-commits x.id t (lent_at x)) at g)) (is_none (last_writes t.ops) e) a.0 k;
+          entered = λ u g k. wrote_none u (has_one_is (entry_of t) u (rw (decided-commits x.id t (lent_at x)) at g)) (is_none (last_changes (entry_of t)) e) a.0 k;
         }));
         answers = starts.answers;
       })
       (λ e. let l = keep_writes catalogue x.id t (lent_at x) in record {
         id = refl;
         copies = λ a h. ⊎_elim
-            (λ (q : (w : ℕ × List ℕ) × Has (writes_held catalogue x.id (last_changes (entry_of t))) w × (dated_at t.view w ≡ a)). CopyAt.here (OwnCopy.entered (entry_of t) q.0 (rw (decided-commits x.id t l) (has_one _)) q.1 q.2))
+            (λ (q : (w : ℕ × Change) × Has (writes_held catalogue x.id (last_changes (entry_of t))) w × (old : Stored) × Has x.copies (w.0, old) × (dated_at t.view w old ≡ a)). CopyAt.here (OwnCopy.entered (entry_of t) q.0 (rw (decided-commits x.id t l) (has_one _)) q.1 q.2 q.3 q.4))
             (λ (old : Has x.copies a × (Has (keys (writes_held catalogue x.id (last_changes (entry_of t)))) a.0 → ⊥)). CopyAt.here (OwnCopy.still old.0 (record {
               outcome = λ from d c f k. find_has (λ (u : Doubt). same_txn u.txn d.txn) x.doubts d f;
-              entered = λ u g k. old.1 (subst (λ (ops : List Op). Has (keys (writes_held catalogue x.id (last_writes ops))) a.0) (sym (ap (λ (u : Commit). u.ops) (has_one_is (entry_of t) u (rw (decided-commits x.id t l) at g)))) k);
+              entered = λ u g k. old.1 (subst (λ (u : Commit). Has (keys (writes_held catalogue x.id (last_changes u))) a.0) (sym (has_one_is (entry_of t) u (rw (decided-commits x.id t l) at g))) k);
             })))
-            (written_or_not t.view (writes_held catalogue x.id (last_changes (entry_of t))) x.copies a (rw (ap (λ (h : Here). h.copies) (decided-ends x.id t l).here) at h));
+            (written_from t.view (writes_held catalogue x.id (last_changes (entry_of t))) (held_differ catalogue x.id (entry_of t)) x.copies a (rw (ap (λ (h : Here). h.copies) (decided-ends x.id t l).here) at h));
         answers = starts.answers;
       })
     where
@@ -287,9 +283,9 @@ module _ (catalogue : Catalogue) (x : SiteState) (given : Input) (tidy : Tidy x)
       is_none [] e = refl
       is_none (w ∷ ws) e = cc
 
-      wrote_none : (u : Commit) → entry_of t ≡ u → last_writes t.ops ≡ [] → (rec : ℕ) → Has (keys (writes_held catalogue x.id (last_changes u))) rec → ⊥
+      wrote_none : (u : Commit) → entry_of t ≡ u → last_changes (entry_of t) ≡ [] → (rec : ℕ) → Has (keys (writes_held catalogue x.id (last_changes u))) rec → ⊥
       wrote_none u is none rec k =
-          let same : last_writes u.ops ≡ [] = ap (λ (u : Commit). last_writes u.ops) (sym is) ∙ none in
+          let same : last_changes u ≡ [] = ap last_changes (sym is) ∙ none in
           has_none rec (subst (λ (ws : List (ℕ × Change)). Has (keys (writes_held catalogue x.id ws)) rec) same k)
 
   pub table : Table catalogue x given P
@@ -320,7 +316,7 @@ module _ (catalogue : Catalogue) (x : SiteState) (given : Input) (tidy : Tidy x)
       begin = λ port view e g u. quiet (lent_at x) _ refl refl starts;
       answers = λ words port why y. quiet (lent_at x) _ refl refl starts;
       take_lock = λ t rec exclusive stored h i a v c. quiet (lent_at x) _ refl refl starts;
-      complete = λ t p operation words l h g y e q. quiet l _ refl refl q;
+      complete = λ t p deed l h g y e q. quiet l _ refl refl q;
       read_at = λ t p rec q h n r a w c o y. quiet (lent_at x) _ refl refl starts;
       write_at = λ t p rec value l h n w a e o d y v q. quiet l _ refl refl q;
       prepare_parts = λ t p h i g e. quiet (lent_at x) _ refl refl starts;

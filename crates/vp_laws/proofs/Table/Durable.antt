@@ -90,7 +90,7 @@ module _ (catalogue : Catalogue) (x : SiteState) (given : Input) where
       begin = λ port view e g u. refl;
       answers = λ words port why y. refl;
       take_lock = λ t rec exclusive stored q i a v c. refl;
-      complete = λ t p operation words l q g y e h. h;
+      complete = λ t p deed l q g y e h. h;
       read_at = λ t p rec q l n r a w c o y. refl;
       write_at = λ t p rec value l q n w a e o d y v h. h;
       prepare_parts = λ t p q i g e. refl;

@@ -1,7 +1,8 @@
 -- How transactions end: one that ends is not live any more, and is sent, kept and entered as what it was.
 use Rattle.std.proofs.Common.{◌≡◌, ◌≢◌, ◌⊎◌, ◌∙◌, ap, sym, subst, ℕ, ◌+◌, ◌≤◌, Bool, true, false, cond, List, [], ◌∷◌, ◌++◌, map, refl, arith, inl, inr, ⊎_elim}
-use Rattle.std.specs.Prelude.{Some, None, filter, not, ◌==◌}
+use Rattle.std.specs.Prelude.{Some, filter, not, ◌==◌}
 use Rattle.std.proofs.lemmas.Bool.Decides.{nat_tests}
+use Rattle.vp_laws.proofs.Moves.Calls.{done}
 use Rattle.vp_model.specs.Types.{TxnId, View, Message, Sent, Commit, Input, Live, Ending, Finished, Decision}
 use Rattle.vp_base.specs.declared.site.Ending.TheVariants.{Committed}
 use Rattle.vp_model.specs.Types.message
@@ -337,7 +338,7 @@ module _ (catalogue : Catalogue) (x : SiteState) (given : Input) (led : Led x) (
     begin = λ port view e g u. begun_now view;
     answers = λ words port why y. begins;
     take_lock = λ t rec exclusive stored h i a v c. begins;
-    complete = λ t p operation words l h g y e r. moves_on (record t { ops = t.ops ++ operation ∷ []; answers = t.answers ++ words ∷ []; pending = None }) t l.coordinator l.effects.messages l.effects.commits (rw e h) refl r;
+    complete = λ t p deed l h g y e r. moves_on (done t p deed) t l.coordinator l.effects.messages l.effects.commits (rw e h) refl r;
     read_at = λ t p rec q h n r a w c o y. more _ [] (letter x.id q (message.ReadRequest t.txn t.view p.number rec) ∷ []) [] (letters_tell x.id (λ q. message.ReadRequest t.txn t.view p.number rec) (q ∷ []) (λ q. refl))
         (moves_on (record t { remote = t.remote ++ (q, rec) ∷ []; parts = put_number q t.parts; pending = Some (record p { missing = q ∷ [] }) }) t x.coordinator [] [] h refl begins);
     write_at = λ t p rec value l h n w a e o d y v r. more _ l.effects.messages (letters x.id (λ q. message.WriteRequest t.txn t.view p.number rec) (other_holders catalogue x rec)) l.effects.commits (letters_tell x.id (λ q. message.WriteRequest t.txn t.view p.number rec) (other_holders catalogue x rec) (λ q. refl))

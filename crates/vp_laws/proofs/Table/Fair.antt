@@ -6,16 +6,15 @@ use Rattle.vp_base.specs.declared.site.Ending.TheVariants.{Committed}
 use Rattle.vp_model.specs.Types.answer
 use Rattle.vp_model.specs.Catalogue.{Catalogue, find_record, inside, total}
 use Rattle.vp_model.specs.Site.{CoordinatorState, SiteState}
-use Rattle.vp_model.specs.Transactions.{answer_of, answers_after, put_live, with_finished}
-use Rattle.vp_model.specs.Refresh.{members_in, is_usable_in}
-use Rattle.vp_model.specs.Calls.{begun, with_begun, kept_answer}
+use Rattle.vp_model.specs.Transactions.{Deed, answer_of, answers_after, put_live, with_finished}
+use Rattle.vp_model.specs.Calls.{short, begun, with_begun, kept_answer}
 use Rattle.vp_model.specs.Answers.{with_acknowledged}
 use Rattle.vp_model.specs.Step.{mark, step}
 use Rattle.vp_laws.proofs.Lists.Members.{Has, has_none, has_one, has_left, has_right, has_cases, has_one_is, map_has}
 use Rattle.vp_laws.proofs.Lists.Changes.{without_first_has, change_first_has, at_most_has}
 use Rattle.vp_laws.proofs.Lists.Names.{named}
-use Rattle.vp_laws.proofs.Moves.Table.{next_view, next_name, Handled}
-use Rattle.vp_laws.proofs.Table.Kept.{AnswersKept, kept_has, completed, is_report}
+use Rattle.vp_laws.proofs.Moves.Table.{Tries, next_view, next_name, Handled}
+use Rattle.vp_laws.proofs.Table.Kept.{AnswersKept, kept_has, deed_report, is_report}
 use Rattle.vp_laws.proofs.Moves.Reasons.{IsCallOf, Operates, Takes, Why, Tells, is_plain, told_to, last_reply, Goes, Front}
 use Rattle.vp_laws.proofs.Moves.FrontSteps.{step-front}
 use Rattle.vp_laws.proofs.Moves.Calls.{done, waiting, reading, writing}
@@ -44,7 +43,7 @@ pub data FinishedFrom (catalogue : Catalogue) (x : SiteState) (given : Input) (a
 -- an answer needs no cause, or has one, or is repeated to a call of its transaction
 pub data ReplyFrom (catalogue : Catalogue) (x : SiteState) (given : Input) (after : SiteState) : Answer → Type 0 where
   free : (a : Answer) → is_free a ≡ true → ReplyFrom catalogue x given after a
-  inaccessible : (t : Live) (p : Pending) (name : List ℕ) (rec : ℕ) (exclusive : Bool) → Takes x given t p → Operates p.call name exclusive → find_record catalogue name ≡ Some rec → is_usable_in catalogue x.held rec ≡ false → ReplyFrom catalogue x given after (answer.Inaccessible t.txn p.number name (inside catalogue rec (members_in x.held)) (total catalogue rec))
+  inaccessible : (t : Live) (p : Pending) (name : List ℕ) (rec : ℕ) (exclusive : Bool) (deed : Deed) (weights : ℕ × ℕ) → Takes x given t p → Operates p.call name exclusive → find_record catalogue name ≡ Some rec → Tries p.call rec deed → short catalogue x.held rec deed ≡ Some weights → ReplyFrom catalogue x given after (answer.Inaccessible t.txn p.number name weights.0 weights.1)
   repeated : (f : Finished) (number : ℕ) (a : Answer) → Has x.finished f → kept_answer number f.answers ≡ Some a → IsCallOf given f.txn number → ReplyFrom catalogue x given after a
   ended : (f : Finished) (number : ℕ) → Has x.finished f → nat_le number (length f.answers) ≡ false → IsCallOf given f.txn number → ReplyFrom catalogue x given after (answer_of f.txn number f.ending)
   closed : (t : Live) (why : Ending) (p : Pending) → Handled x t → Why catalogue x given after t why → t.pending ≡ Some p → ReplyFrom catalogue x given after (answer_of t.txn p.number why)
@@ -91,7 +90,7 @@ module _ (catalogue : Catalogue) (x : SiteState) (given : Input) (after : SiteSt
 
   tells : (port : ℕ) (words : Answer) → Tells catalogue x given port words → ReplyFrom catalogue x given after words
   tells _ words (Tells.plain w e port called c is) = ReplyFrom.free w (plain_free w e)
-  tells _ words (Tells.inaccessible t p name rec exclusive at op f a) = ReplyFrom.inaccessible t p name rec exclusive at op f a
+  tells _ _ (Tells.inaccessible t p name rec exclusive deed weights at op f a e) = ReplyFrom.inaccessible t p name rec exclusive deed weights at op f a e
   tells _ words (Tells.again t number w h e c) = ReplyFrom.free w (report_free w (kept.live t h w (kept_has number t.answers w e)))
   tells _ words (Tells.finished_again f number w h e c) = ReplyFrom.repeated f number w h e c
   tells _ words (Tells.ended f number h e c) = ReplyFrom.ended f number h e c
@@ -155,7 +154,7 @@ module _ (catalogue : Catalogue) (x : SiteState) (given : Input) (after : SiteSt
   front = record {
     begin = λ port view held c. begins_now port view;
     tells = λ words port t. replies x.coordinator port words refl (λ u h. was_live _ u h) (tells port words t);
-    complete = λ t p operation words l h d z. replies (put_live (done t operation words) x.coordinator) p.port words refl (moved _ t (done t operation words) h refl refl) (ReplyFrom.free words (report_free words (completed catalogue x given t p operation words l z)));
+    complete = λ t p deed l h d z. replies (put_live (done t p deed) x.coordinator) p.port _ refl (moved _ t (done t p deed) h refl refl) (ReplyFrom.free _ (report_free _ (deed_report t.txn p.number deed)));
     goes = λ t u p at g. goes_on t u p at.live g;
     still = λ t p sites a. silent (put_live (waiting t p sites) x.coordinator) refl (moved [] t (waiting t p sites) a.live refl refl);
     decide = λ t c n d w v f s. commits t c _ n v f;

@@ -49,7 +49,7 @@ module _ (catalogue : Catalogue) (x : SiteState) (given : Input) where
     begin = λ port view e g u. starts;
     answers = λ words port why y. starts;
     take_lock = λ t rec exclusive stored h i a v c. starts;
-    complete = λ t p operation words l h g y e r. r;
+    complete = λ t p deed l h g y e r. r;
     read_at = λ t p rec q h n r a w c o y. starts;
     write_at = λ t p rec value l h n w a e o d y v r. r;
     prepare_parts = λ t p h i g e. starts;

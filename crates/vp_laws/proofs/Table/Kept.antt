@@ -2,18 +2,19 @@
 use Rattle.std.proofs.Common.{◌≡◌, ◌⊎◌, ap, sym, subst, ℕ, Bool, true, false, List, [], ◌∷◌, inl, inr, refl, ⊎_elim}
 use Rattle.std.specs.Prelude.{Option, Some, None, option_map, option_to_list}
 use Rattle.std.proofs.lemmas.Option.{slice_get_within, get_or_from_slice_get}
-use Rattle.vp_model.specs.Types.{Op, Answer, Reply, Commit, Input, Pending, Live, Ending, Finished}
+use Rattle.vp_model.specs.Types.{TxnId, Answer, Reply, Commit, Input, Pending, Live, Ending, Finished}
 use Rattle.vp_base.specs.declared.site.Ending.TheVariants.{Committed}
 use Rattle.vp_model.specs.Types.answer
+use Rattle.vp_model.specs.Types.op
 use Rattle.vp_model.specs.Catalogue.{Catalogue}
-use Rattle.vp_model.specs.Site.{CoordinatorState, SiteState, Lent}
-use Rattle.vp_model.specs.Transactions.{answer_of, answers_after, put_live, with_finished}
+use Rattle.vp_model.specs.Site.{CoordinatorState, SiteState}
+use Rattle.vp_model.specs.Transactions.{Deed, deed_answer, answer_of, answers_after, put_live, with_finished}
 use Rattle.vp_model.specs.Calls.{begun, kept_answer}
 use Rattle.vp_model.specs.Step.{mark, step}
 use Rattle.vp_laws.proofs.Lists.Members.{Has, has_of, has_none, has_cases, has_one_is, map_has}
 use Rattle.vp_laws.proofs.Lists.Changes.{without_first_has, change_first_has, at_most_has}
 use Rattle.vp_laws.proofs.Lists.Names.{named}
-use Rattle.vp_laws.proofs.Moves.Table.{next_name, Handled, Completes}
+use Rattle.vp_laws.proofs.Moves.Table.{next_name, Handled}
 use Rattle.vp_laws.proofs.Moves.Reasons.{Goes, Front}
 use Rattle.vp_laws.proofs.Moves.FrontSteps.{step-front}
 use Rattle.vp_laws.proofs.Moves.Calls.{done, waiting}
@@ -21,7 +22,10 @@ use Rattle.vp_laws.proofs.Moves.Calls.{done, waiting}
 -- the answer reports an operation
 abbrev pub is_report : Answer → Bool
 is_report (answer.Value txn number value) = true
+is_report (answer.Absent txn number) = true
 is_report (answer.Written txn number) = true
+is_report (answer.Deleted txn number) = true
+is_report (answer.Weighed txn number) = true
 is_report _ = false
 
 -- a kept answer reports an operation, or is the transaction's end
@@ -37,14 +41,13 @@ pub record AnswersKept (c : CoordinatorState) : Type 0 where
 pub kept_has : (number : ℕ) (answers : List Answer) (a : Answer) → kept_answer number answers ≡ Some a → Has answers a
 kept_has number answers a e = has_of answers a (_, slice_get_within answers _ a e, get_or_from_slice_get answers _ a a e)
 
--- the answer to an operation reports it
-pub completed : (catalogue : Catalogue) (x : SiteState) (given : Input) (t : Live) (p : Pending) (operation : Op) (words : Answer) (l : Lent) → Completes catalogue x given t p operation words l → is_report words ≡ true
-completed catalogue x given t p operation words l (Completes.own_write rec value n r u w o e is) = rw e refl
-completed catalogue x given t p operation words l (Completes.own_copy rec stored n r u w c f o e is) = rw e refl
-completed catalogue x given t p operation words l (Completes.write_again rec before value n w u v o e is) = rw e refl
-completed catalogue x given t p operation words l (Completes.write_alone rec value n w u v z o e is) = rw e refl
-completed catalogue x given t p operation words l (Completes.read_answered from rec value c last r o e is) = rw e refl
-completed catalogue x given t p operation words l (Completes.write_answered from rec value c last w o e is) = rw e refl
+-- the answer to a call that is done reports it
+pub deed_report : (txn : TxnId) (number : ℕ) (deed : Deed) → is_report (deed_answer txn number deed) ≡ true
+deed_report txn number (Deed.operates (op.Read rec None)) = refl
+deed_report txn number (Deed.operates (op.Read rec (Some value))) = refl
+deed_report txn number (Deed.operates (op.Write rec None)) = refl
+deed_report txn number (Deed.operates (op.Write rec (Some value))) = refl
+deed_report txn number (Deed.weighs rec table) = refl
 
 module _ (catalogue : Catalogue) (x : SiteState) (given : Input) (after : SiteState) (kept : AnswersKept x.coordinator) where
   abbrev G : CoordinatorState → List Reply → List Commit → Type 0
@@ -88,8 +91,8 @@ module _ (catalogue : Catalogue) (x : SiteState) (given : Input) (after : SiteSt
       finished = kept.finished;
     };
     tells = λ words port t. kept;
-    complete = λ t p operation words l h d z. let report = completed catalogue x given t p operation words l z in
-        moved (done t operation words) (λ a q. ⊎_elim (λ old. kept.live t h a old) (λ new. rw (← has_one_is words a new) report) (has_cases t.answers (words ∷ []) a q));
+    complete = λ t p deed l h d z. let words = deed_answer t.txn p.number deed in
+        moved (done t p deed) (λ a q. ⊎_elim (λ old. kept.live t h a old) (λ new. rw (← has_one_is words a new) (deed_report t.txn p.number deed)) (has_cases t.answers (words ∷ []) a q));
     goes = λ t u p at g. moved u (goes_on t u p at.live g);
     still = λ t p sites a. moved (waiting t p sites) (kept.live t a.live);
     decide = λ t c n d w v f s. after_end t Committed c (reports_of t n) (record { live = rw v kept.live; finished = rw f kept.finished });

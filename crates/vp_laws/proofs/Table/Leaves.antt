@@ -276,7 +276,7 @@ module _ (catalogue : Catalogue) (x : SiteState) (given : Input) where
       begin = λ port view e g u. same_site _;
       answers = λ words port why y. same_site _;
       take_lock = λ t rec exclusive stored h i a v c. same_site _;
-      complete = λ t p operation words l h g y e q. same_site _;
+      complete = λ t p deed l h g y e q. same_site _;
       read_at = λ t p rec q h n r a w c o y. same_site _;
       write_at = λ t p rec value l h n w a e o d y v q. same_site _;
       prepare_parts = λ t p h i g e. same_site _;

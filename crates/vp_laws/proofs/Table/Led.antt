@@ -3,7 +3,8 @@
 -- members.
 use Rattle.std.proofs.Common.{◌≡◌, ◌≢◌, ◌⊎◌, ◌∙◌, ap, sym, ℕ, ◌+◌, ◌≤◌, Bool, true, false, List, [], ◌∷◌, ◌++◌, refl, arith, inl, inr, ⊎_elim, append-nil}
 use Rattle.std.specs.Prelude.{Option, Some, None, is_some, ◌&&◌, ◌==◌, not, filter}
-use Rattle.vp_model.specs.Types.{ViewId, TxnId, View, Stored, Op, Answer, Message, Sent, Commit, Input, Refreshing, Pending, Live, Ending, Doubt, Decision}
+use Rattle.vp_laws.proofs.Moves.Calls.{done}
+use Rattle.vp_model.specs.Types.{ViewId, TxnId, View, Stored, Message, Sent, Commit, Input, Refreshing, Pending, Live, Ending, Doubt, Decision}
 use Rattle.vp_base.specs.declared.site.Ending.TheVariants.{Committed}
 use Rattle.vp_model.specs.Types.owner
 use Rattle.vp_model.specs.Locks.{without_owner}
@@ -12,7 +13,7 @@ use Rattle.vp_model.specs.Words.{same_txn, is_view, has, for_each, put_number}
 use Rattle.vp_model.specs.Catalogue.{Catalogue, holders}
 use Rattle.vp_model.specs.Durable.{doubt_of}
 use Rattle.vp_model.specs.Site.{ViewState, CoordinatorState, ParticipantState, SiteState, Lent, Stepped, begin_step, lent, put_back, letters}
-use Rattle.vp_model.specs.Transactions.{entry_of, with_finished, close, put_live, decided, keep_writes, complete, wait_for}
+use Rattle.vp_model.specs.Transactions.{Deed, entry_of, with_finished, close, put_live, decided, keep_writes, complete, wait_for}
 use Rattle.vp_model.specs.Refresh.{members, newest, take_newer, unlist, end_refresh, start_refresh, other_holders}
 use Rattle.vp_model.specs.Views.{other_sites, drop_view, start_inviting, hold}
 use Rattle.vp_model.specs.Calls.{begun, with_begun, start_txn, take_lock, read_at, write_at, prepare_parts, prepare_for}
@@ -193,13 +194,13 @@ module _ (catalogue : Catalogue) (x : SiteState) (given : Input) (tidy : Tidy x)
           let q = l.live u (rw e h) in
           (q.0, q.1, q.2 ∙ sym same_view, (λ p g. ⊎_elim (λ old. q.3 p old) (λ new. new) (parts q.0 q.1 p g)))
 
-  completes : (t : Live) (p : Pending) (operation : Op) (words : Answer) (l : Lent) → Has x.live t → l.live ≡ x.live → K l → K (complete t p operation words l)
+  completes : (t : Live) (p : Pending) (deed : Deed) (l : Lent) → Has x.live t → l.live ≡ x.live → K l → K (complete t p deed l)
   unfolding complete
-  completes t p operation words l h e q = record {
+  completes t p deed l h e q = record {
     id = refl;
     life = refl;
     seq = q.seq;
-    led = led_put (record t { ops = t.ops ++ operation ∷ []; answers = t.answers ++ words ∷ []; pending = None }) t (put_back (begin_step x) l).site e h refl refl (λ v g q k. inl k) q.led;
+    led = led_put (done t p deed) t (put_back (begin_step x) l).site e h refl refl (λ v g q k. inl k) q.led;
     sent = q.sent;
     commits = q.commits;
   }
@@ -462,7 +463,7 @@ module _ (catalogue : Catalogue) (x : SiteState) (given : Input) (tidy : Tidy x)
       begin = λ port view e g u. begins_one port view e;
       answers = λ words port why y. plain (lent_at x) _ refl refl refl refl begins;
       take_lock = λ t rec exclusive stored h i a v c. plain (lent_at x) _ refl refl refl refl begins;
-      complete = λ t p operation words l h g y e q. completes t p operation words l h e q;
+      complete = λ t p deed l h g y e q. completes t p deed l h e q;
       read_at = λ t p rec q h n r a w c o y. reads_at t p rec q h o;
       write_at = λ t p rec value l h n w a e o d y v q. writes_at t p rec l h v q;
       prepare_parts = λ t p h i g e. prepares t p h;

@@ -163,7 +163,7 @@ module _ (catalogue : Catalogue) (x : SiteState) (given : Input) (tidy : Tidy x)
       begin = λ port view e g u. quiet (lent_at x) _ refl starts;
       answers = λ words port why y. quiet (lent_at x) _ refl starts;
       take_lock = λ t rec exclusive stored h i a v c. quiet (lent_at x) _ refl starts;
-      complete = λ t p operation words l h g y e q. quiet l _ refl q;
+      complete = λ t p deed l h g y e q. quiet l _ refl q;
       read_at = λ t p rec q h n r a w c o y. quiet (lent_at x) _ refl starts;
       write_at = λ t p rec value l h n w a e o d y v q. quiet l _ refl q;
       prepare_parts = λ t p h i g e. quiet (lent_at x) _ refl starts;

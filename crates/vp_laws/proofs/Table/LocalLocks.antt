@@ -4,6 +4,8 @@ use Rattle.std.specs.Prelude.{Option, Some, None, filter, not, ◌==◌, ◌&&�
 use Rattle.std.specs.List.{list_any}
 use Rattle.std.proofs.lemmas.Bool.Decides.{nat_tests}
 use Rattle.std.proofs.lemmas.Bool.{or_right}
+use Rattle.vp_laws.proofs.Journal.Changed.{HasChanged}
+use Rattle.vp_model.specs.Transactions.{Deed}
 use Rattle.vp_model.specs.Types.{ViewId, TxnId, View, Lock, Part, Pending, Live, Refreshing, Doubt}
 use Rattle.vp_model.specs.Types.op
 use Rattle.vp_model.specs.Types.owner
@@ -19,7 +21,7 @@ use Rattle.vp_laws.proofs.Lists.Names.{Apart, named, without_gone}
 use Rattle.vp_laws.proofs.Lists.Changes.{without_first_has}
 use Rattle.vp_laws.proofs.Lists.LockTables.{NoConflict, IsFree, HasLock, lock_origin, locked, guarded, lock_kept, lock_taken, fewer_locks, lock_stays}
 use Rattle.vp_laws.proofs.Lists.Views.{Precedes}
-use Rattle.vp_laws.proofs.Moves.Table.{Reads, Writes}
+use Rattle.vp_laws.proofs.Moves.Table.{Reads, Changes}
 
 -- the transaction is live here, or has a part or a doubt here
 abbrev pub IsKnown : List Live → List Part → List Doubt → TxnId → Type 0
@@ -32,13 +34,13 @@ LowerDoubt doubts view txn = (d : Doubt) × Has doubts d × (d.txn ≡ txn) × P
 -- what a live transaction has used of the copies here it has locked
 pub record OwnLocks (catalogue : Catalogue) (copied : List ℕ) (locks : List Lock) (t : Live) : Type 0 where
   -- each record that it read and that has a copy here
-  pub read : (rec : ℕ) (value : List ℕ) → Has t.ops (op.Read rec value) → Has copied rec → HasLock rec false (owner.Txn t.txn) locks
-  -- each one that it wrote, exclusively
-  pub wrote : (rec : ℕ) (value : List ℕ) → Has t.ops (op.Write rec value) → Has copied rec → HasLock rec true (owner.Txn t.txn) locks
+  pub read : (rec : ℕ) (value : Option (List ℕ)) → Has t.ops (op.Read rec value) → Has copied rec → HasLock rec false (owner.Txn t.txn) locks
+  -- each one that it changed, exclusively
+  pub wrote : (rec : ℕ) → HasChanged t rec → Has copied rec → HasLock rec true (owner.Txn t.txn) locks
   -- a pending read asks another site only where there is no copy here
   pub reading : (p : Pending) (rec : ℕ) → t.pending ≡ Some p → Reads catalogue p rec → Has copied rec → ⊥
   -- a pending write has its lock on the copy here
-  pub writing : (p : Pending) (rec : ℕ) (value : List ℕ) → t.pending ≡ Some p → Writes catalogue p rec value → Has copied rec → HasLock rec true (owner.Txn t.txn) locks
+  pub writing : (p : Pending) (rec : ℕ) (deed : Deed) → t.pending ≡ Some p → Changes catalogue p rec deed → Has copied rec → HasLock rec true (owner.Txn t.txn) locks
 
 pub record LocksOk (catalogue : Catalogue) (live : List Live) (parts : List Part) (doubts : List Doubt) (refresh : List Refreshing) (held : Option View) (copied : List ℕ) (locks : List Lock) : Type 0 where
   -- two locks of transactions on one record, of which one is exclusive, have one owner
@@ -70,7 +72,7 @@ not_that a b n = rw (same_txn-other a b n) refl
 own_more : (catalogue : Catalogue) (copied : List ℕ) (locks now : List Lock) (t : Live) → ((rec : ℕ) (exclusive : Bool) → HasLock rec exclusive (owner.Txn t.txn) locks → HasLock rec exclusive (owner.Txn t.txn) now) → OwnLocks catalogue copied locks t → OwnLocks catalogue copied now t
 own_more catalogue copied locks now t more h = record {
   read = λ rec value k c. more rec false (h.read rec value k c);
-  wrote = λ rec value k c. more rec true (h.wrote rec value k c);
+  wrote = λ rec k c. more rec true (h.wrote rec k c);
   reading = h.reading;
   writing = λ p rec value e w c. more rec true (h.writing p rec value e w c);
 }

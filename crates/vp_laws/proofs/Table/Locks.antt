@@ -3,7 +3,8 @@ use Rattle.std.proofs.Common.{◌≡◌, ◌≢◌, ◌⊎◌, ◌∙◌, ap, sy
 use Rattle.std.specs.Prelude.{Option, Some, None, filter, not, ◌==◌, ◌&&◌, ◌||◌, nat_lt}
 use Rattle.std.specs.List.{list_all}
 use Rattle.std.proofs.lemmas.Bool.{eqb-true}
-use Rattle.vp_model.specs.Types.{Change, ViewId, TxnId, View, Message, Input, Stored, Lock, Part, Op, Answer, Pending, Live, Ending, Refreshing, Doubt}
+use Rattle.vp_laws.proofs.Journal.Changed.{changed_by, operation_there, change_there, written_changed, read_alters_none, alters}
+use Rattle.vp_model.specs.Types.{Commit, Change, ViewId, TxnId, View, Message, Input, Stored, Lock, Part, Pending, Live, Ending, Refreshing, Doubt}
 use Rattle.vp_base.specs.declared.site.Ending.TheVariants.{Committed}
 use Rattle.vp_model.specs.Types.input
 use Rattle.vp_model.specs.Types.message
@@ -14,7 +15,7 @@ use Rattle.vp_model.specs.Catalogue.{Catalogue}
 use Rattle.vp_model.specs.Durable.{doubt_of, without_doubt}
 use Rattle.vp_model.specs.Locks.{conflict, holds, with_lock, without_owner, without_guard}
 use Rattle.vp_model.specs.Site.{ViewState, ParticipantState, CoordinatorState, Here, SiteState, Lent, Stepped, begin_step, put_back}
-use Rattle.vp_model.specs.Transactions.{last_changes, entry_of, wait_for, last_writes, writes_held, keep_writes, complete}
+use Rattle.vp_model.specs.Transactions.{Deed, last_changes, entry_of, wait_for, writes_held, keep_writes, complete}
 use Rattle.vp_model.specs.Refresh.{newest, take_newer, unlist, end_refresh, start_refresh, other_holders}
 use Rattle.vp_model.specs.Views.{part_of, drop_view, start_inviting, hold, has_part, has_doubt}
 use Rattle.vp_model.specs.Calls.{begun, start_txn, take_lock, read_at, write_at, prepare_parts}
@@ -31,7 +32,7 @@ use Rattle.vp_laws.proofs.Moves.Frames.{Ends, close-ends, decided-ends, decide-c
 use Rattle.vp_laws.proofs.Lists.LockTables.{same_owner_is, HasLock, free_from_none, lock_kept, lock_taken, lock_stays}
 use Rattle.vp_laws.proofs.Moves.LocalViews.{Tidy, none_refreshed}
 use Rattle.vp_laws.proofs.Table.LocalLocks.{IsKnown, LowerDoubt, OwnLocks, LocksOk, takes, renews, shares_change, views_change, ends, ends_part, leaves, begins_refresh, ends_refresh}
-use Rattle.vp_laws.proofs.Moves.Table.{Comes, Left, Joined, next_name, next_view, lent_at, Handled, Reads, Writes, remaining, Locked, Completes, Back, Table}
+use Rattle.vp_laws.proofs.Moves.Table.{record_of, Comes, Left, Joined, next_name, next_view, lent_at, Handled, Reads, Changes, remaining, Locked, Completes, Back, Table}
 use Rattle.vp_laws.proofs.Moves.Rows.{step-keeps}
 use Rattle.vp_laws.proofs.Table.Led.{Led}
 use Rattle.vp_laws.proofs.Table.Below.{Below}
@@ -39,8 +40,8 @@ use Rattle.vp_laws.proofs.Table.Endings.{NotLive}
 use Rattle.vp_laws.proofs.Table.Shares.{OutcomeComes}
 use Rattle.vp_laws.proofs.Table.Leaves.{Uses, unused, uses_same, invites_only, accepts_only}
 use Rattle.vp_laws.proofs.Lists.Numbers.{one_above}
-use Rattle.vp_laws.proofs.Moves.Calls.{reads_same, writes_same, read_not_write}
-use Rattle.vp_laws.proofs.Lists.Pairs.{last_written, value_key, not_copied}
+use Rattle.vp_laws.proofs.Moves.Calls.{read_not_write_asked, no_commit_writes, same_writes, done, reads_same, writes_same, read_not_write}
+use Rattle.vp_laws.proofs.Lists.Pairs.{not_copied}
 
 -- why a transaction's lock is gone: its outcome came, the site has left its view, or it was of this site and is not live
 pub data Gone (x : SiteState) (given : Input) (o : Stepped) (txn : TxnId) : Type 0 where
@@ -357,7 +358,7 @@ module _ (catalogue : Catalogue) (x : SiteState) (given : Input) (tidy : Tidy x)
   }
     where
       fresh : OwnLocks catalogue (keys x.copies) x.locks (begun (next_name x) view.id)
-      fresh = record { read = λ rec value h c. absurd (has_none _ h); wrote = λ rec value h c. absurd (has_none _ h); reading = λ p rec e r c. cc; writing = λ p rec value e w c. cc }
+      fresh = record { read = λ rec value h c. absurd (has_none _ h); wrote = λ rec h c. absurd (has_none _ h); reading = λ p rec e r c. cc; writing = λ p rec value e w c. cc }
 
   locks_copy : (t : Live) (rec : ℕ) (exclusive : Bool) (l : Lent) → Has x.live t → conflict rec exclusive t.txn x.locks ≡ None → l ≡ take_lock t.txn rec exclusive (lent_at x) → K (take_lock t.txn rec exclusive (lent_at x))
   unfolding take_lock
@@ -376,50 +377,44 @@ module _ (catalogue : Catalogue) (x : SiteState) (given : Input) (tidy : Tidy x)
   write_locked t rec l (Locked.no_copy n e) k c = absurd (not_copied rec x.copies n (rw k at c))
   write_locked t rec l (Locked.locked stored v free e) k c = taken t rec true l e
 
-  -- the operation that is done has its lock
-  abbrev Done : Live → Op → Lent → Type 0
-  Done t operation l = ((rec : ℕ) (value : List ℕ) → operation ≡ op.Read rec value → Has (keys l.copies) rec → HasLock rec false (owner.Txn t.txn) l.locks) × ((rec : ℕ) (value : List ℕ) → operation ≡ op.Write rec value → Has (keys l.copies) rec → HasLock rec true (owner.Txn t.txn) l.locks)
+  -- what is done has its lock
+  abbrev Done : Live → Deed → Lent → Type 0
+  Done t deed l = ((rec : ℕ) (value : Option (List ℕ)) → deed ≡ Deed.operates (op.Read rec value) → Has (keys l.copies) rec → HasLock rec false (owner.Txn t.txn) l.locks) × ((rec : ℕ) → (alters deed rec ≡ true) × (record_of deed ≡ rec) → Has (keys l.copies) rec → HasLock rec true (owner.Txn t.txn) l.locks)
 
-  done_read : (t : Live) (operation : Op) (l : Lent) (rec : ℕ) (value : List ℕ) → operation ≡ op.Read rec value → (Has (keys l.copies) rec → HasLock rec false (owner.Txn t.txn) l.locks) → Done t operation l
-  done_read t operation l rec value e has = ((λ r v f c. let z = sym e ∙ f in let same : rec ≡ r = cc in rw (← same) (has (rw same c))), (λ r v f c. absurd (let z = sym e ∙ f in cc)))
+  done_read : (t : Live) (deed : Deed) (l : Lent) (rec : ℕ) (value : Option (List ℕ)) → deed ≡ Deed.operates (op.Read rec value) → (Has (keys l.copies) rec → HasLock rec false (owner.Txn t.txn) l.locks) → Done t deed l
+  done_read t deed l rec value e has = ((λ r v f c. let z = sym e ∙ f in let same : rec ≡ r = cc in rw (← same) (has (rw same c))), (λ r f c. read_alters_none deed rec r value e f.0))
 
-  done_write : (t : Live) (operation : Op) (l : Lent) (rec : ℕ) (value : List ℕ) → operation ≡ op.Write rec value → (Has (keys l.copies) rec → HasLock rec true (owner.Txn t.txn) l.locks) → Done t operation l
-  done_write t operation l rec value e has = ((λ r v f c. absurd (let z = sym e ∙ f in cc)), (λ r v f c. let z = sym e ∙ f in let same : rec ≡ r = cc in rw (← same) (has (rw same c))))
+  done_change : (t : Live) (p : Pending) (deed : Deed) (l : Lent) (rec : ℕ) → Changes catalogue p rec deed → (Has (keys l.copies) rec → HasLock rec true (owner.Txn t.txn) l.locks) → Done t deed l
+  done_change t p deed l rec w has = ((λ r v f c. read_not_write_asked catalogue p deed r v f w), (λ r f c. let same : rec ≡ r = sym w.on ∙ f.1 in rw (← same) (has (rw same c))))
 
-  written_before : (t : Live) (rec : ℕ) (value : List ℕ) → value_at rec (last_writes t.ops) ≡ Some value → (v : List ℕ) × Has t.ops (op.Write rec v)
-  written_before t rec value e =
-      let q = value_key rec (last_writes t.ops) value e in
-      let r = last_written t.ops q.0 q.1 in
-      (r.0, subst (λ (n : ℕ). Has t.ops (op.Write n r.0)) q.2 r.1)
+  done_locks : (t : Live) (p : Pending) (deed : Deed) (l : Lent) → Completes catalogue x given t p deed l → keys l.copies ≡ keys x.copies → OwnLocks catalogue (keys l.copies) l.locks t → Done t deed l
+  done_locks t p deed l (Completes.own_write rec value next r a v e f) k own = done_read t deed l rec value e (λ c. weaker rec t.txn l.locks (own.wrote rec (written_changed t rec value v) c))
+  done_locks t p deed l (Completes.own_copy rec stored next r a v s free e f) k own = done_read t deed l rec stored.value e (λ c. taken t rec false l f)
+  done_locks t p deed l (Completes.change_again rec before next r a v f) k own = done_change t p deed l rec r (λ c. own.wrote rec (change_there (last_changes (entry_of t)) rec before v) c)
+  done_locks t p deed l (Completes.change_alone rec next r a v n f) k own = done_change t p deed l rec r (λ c. write_locked t rec l f k c)
+  done_locks t p deed l (Completes.read_answered from rec value c last r e f) k own = done_read t deed l rec value e (λ h. absurd (own.reading p rec last.pending r h))
+  done_locks t p deed l (Completes.change_answered from rec c last r f) k own = done_change t p deed l rec r (λ h. own.writing p rec deed last.pending r h)
 
-  done_locks : (t : Live) (p : Pending) (operation : Op) (words : Answer) (l : Lent) → Completes catalogue x given t p operation words l → keys l.copies ≡ keys x.copies → OwnLocks catalogue (keys l.copies) l.locks t → Done t operation l
-  done_locks t p operation words l (Completes.own_write rec value next r a v e w f) k own = done_read t operation l rec value e (λ c. let q = written_before t rec value v in weaker rec t.txn l.locks (own.wrote rec q.0 q.1 c))
-  done_locks t p operation words l (Completes.own_copy rec stored next r a v s free e w f) k own = done_read t operation l rec stored.value e (λ c. taken t rec false l f)
-  done_locks t p operation words l (Completes.write_again rec before value next r a v e w f) k own = done_write t operation l rec value e (λ c. let q = written_before t rec before v in own.wrote rec q.0 q.1 c)
-  done_locks t p operation words l (Completes.write_alone rec value next r a v n e w f) k own = done_write t operation l rec value e (λ c. write_locked t rec l f k c)
-  done_locks t p operation words l (Completes.read_answered from rec value c last r e w f) k own = done_read t operation l rec value e (λ h. absurd (own.reading p rec last.pending r h))
-  done_locks t p operation words l (Completes.write_answered from rec value c last r e w f) k own = done_write t operation l rec value e (λ h. own.writing p rec value last.pending r h)
-
-  own_done : (t : Live) (operation : Op) (words : Answer) (l : Lent) → OwnLocks catalogue (keys l.copies) l.locks t → Done t operation l → OwnLocks catalogue (keys l.copies) l.locks (record t { ops = t.ops ++ operation ∷ []; answers = t.answers ++ words ∷ []; pending = None })
-  own_done t operation words l own new = record {
-    read = λ rec value h c. ⊎_elim (λ old. own.read rec value old c) (λ more. new.0 rec value (has_one_is operation _ more) c) (has_cases t.ops (operation ∷ []) _ h);
-    wrote = λ rec value h c. ⊎_elim (λ old. own.wrote rec value old c) (λ more. new.1 rec value (has_one_is operation _ more) c) (has_cases t.ops (operation ∷ []) _ h);
+  own_done : (t : Live) (p : Pending) (deed : Deed) (l : Lent) → OwnLocks catalogue (keys l.copies) l.locks t → Done t deed l → OwnLocks catalogue (keys l.copies) l.locks (done t p deed)
+  own_done t p deed l own new = record {
+    read = λ rec value h c. ⊎_elim (λ old. own.read rec value old c) (λ more. new.0 rec value more c) (operation_there t.ops deed _ h);
+    wrote = λ rec h c. ⊎_elim (λ old. own.wrote rec old c) (λ more. new.1 rec more c) (changed_by t p deed rec h);
     reading = λ p rec e r c. cc;
     writing = λ p rec value e w c. cc;
   }
 
-  completes : (t : Live) (p : Pending) (operation : Op) (words : Answer) (l : Lent) → Has x.live t → Completes catalogue x given t p operation words l → l.live ≡ x.live → K l → K (complete t p operation words l)
+  completes : (t : Live) (p : Pending) (deed : Deed) (l : Lent) → Has x.live t → Completes catalogue x given t p deed l → l.live ≡ x.live → K l → K (complete t p deed l)
   unfolding complete
-  completes t p operation words l h c e g =
+  completes t p deed l h c e g =
       let there : Has l.live t = rw e h in
       let own = g.ok.own t there in
-      moves_on l _ (record t { ops = t.ops ++ operation ∷ []; answers = t.answers ++ words ∷ []; pending = None }) t refl refl refl there refl (own_done t operation words l own (done_locks t p operation words l c g.copied own)) g
+      moves_on l _ (done t p deed) t refl refl refl there refl (own_done t p deed l own (done_locks t p deed l c g.copied own)) g
 
   -- another pending call
-  own_pending : (t now : Live) (q : Pending) (copied : List ℕ) (locks : List Lock) → now.txn ≡ t.txn → now.ops ≡ t.ops → now.pending ≡ Some q → OwnLocks catalogue copied locks t → ((rec : ℕ) → Reads catalogue q rec → Has copied rec → ⊥) → ((rec : ℕ) (value : List ℕ) → Writes catalogue q rec value → Has copied rec → HasLock rec true (owner.Txn t.txn) locks) → OwnLocks catalogue copied locks now
+  own_pending : (t now : Live) (q : Pending) (copied : List ℕ) (locks : List Lock) → now.txn ≡ t.txn → entry_of now ≡ entry_of t → now.pending ≡ Some q → OwnLocks catalogue copied locks t → ((rec : ℕ) → Reads catalogue q rec → Has copied rec → ⊥) → ((rec : ℕ) (deed : Deed) → Changes catalogue q rec deed → Has copied rec → HasLock rec true (owner.Txn t.txn) locks) → OwnLocks catalogue copied locks now
   own_pending t now q copied locks name ops pending own reads writes = record {
-    read = λ rec value h c. rw name (own.read rec value (rw ops at h) c);
-    wrote = λ rec value h c. rw name (own.wrote rec value (rw ops at h) c);
+    read = λ rec value h c. rw name (own.read rec value (subst (λ (e : Commit). Has e.ops (op.Read rec value)) ops h) c);
+    wrote = λ rec h c. rw name (own.wrote rec (subst (λ (e : Commit). Has (keys (last_changes e)) rec) ops h) c);
     reading = λ p rec e r c. let z = sym pending ∙ e in let same : q ≡ p = cc in reads rec (rw same r) c;
     writing = λ p rec value e w c. let z = sym pending ∙ e in let same : q ≡ p = cc in rw name (writes rec value (rw same w) c);
   }
@@ -428,8 +423,8 @@ module _ (catalogue : Catalogue) (x : SiteState) (given : Input) (tidy : Tidy x)
   reads_on : (p q : Pending) (rec : ℕ) → q.call ≡ p.call → Reads catalogue q rec → Reads catalogue p rec
   reads_on p q rec e r = record { txn = r.txn; number = r.number; name = r.name; words = sym e ∙ r.words; found = r.found }
 
-  writes_on : (p q : Pending) (rec : ℕ) (value : List ℕ) → q.call ≡ p.call → Writes catalogue q rec value → Writes catalogue p rec value
-  writes_on p q rec value e r = record { txn = r.txn; number = r.number; name = r.name; words = sym e ∙ r.words; found = r.found }
+  writes_on : (p q : Pending) (rec : ℕ) (deed : Deed) → q.call ≡ p.call → Changes catalogue q rec deed → Changes catalogue p rec deed
+  writes_on p q rec value e r = same_writes catalogue p q rec value (sym e) r
 
   reads : (t : Live) (p : Pending) (rec q : ℕ) → Has x.live t → Reads catalogue p rec → value_at rec x.copies ≡ None → K (read_at x.id t p rec q (lent_at x))
   unfolding read_at
@@ -439,7 +434,7 @@ module _ (catalogue : Catalogue) (x : SiteState) (given : Input) (tidy : Tidy x)
       (λ rec2 value s c. read_not_write catalogue p rec rec2 value r (writes_on p (record p { missing = q ∷ [] }) rec2 value refl s)))
       starts
 
-  writes : (t : Live) (p : Pending) (rec : ℕ) (value : List ℕ) (l : Lent) → Has x.live t → Writes catalogue p rec value → Locked x t rec l → l.live ≡ x.live → K l → K (write_at x.id t p rec (other_holders catalogue x rec) l)
+  writes : (t : Live) (p : Pending) (rec : ℕ) (deed : Deed) (l : Lent) → Has x.live t → Changes catalogue p rec deed → Locked x t rec l → l.live ≡ x.live → K l → K (write_at x.id t p rec (other_holders catalogue x rec) l)
   unfolding write_at
   writes t p rec value l h w d e g =
       let there : Has l.live t = rw e h in
@@ -453,7 +448,7 @@ module _ (catalogue : Catalogue) (x : SiteState) (given : Input) (tidy : Tidy x)
   unfolding prepare_parts
   asks_votes t p h commit = moves_on (lent_at x) _ (record t { pending = Some (record p { missing = t.parts }) }) t refl refl refl h refl
       (own_pending t _ (record p { missing = t.parts }) (keys x.copies) x.locks refl refl refl (ok.own t h)
-      (λ rec s c. let z = ap is_commit s.words in cc) (λ rec value s c. absurd (let z = ap is_commit s.words in cc)))
+      (λ rec s c. let z = ap is_commit s.words in cc) (λ rec value s c. no_commit_writes catalogue p rec value commit (same_writes catalogue p (record p { missing = t.parts }) rec value refl s)))
       starts
 
   waits : (t : Live) (p : Pending) (from : ℕ) → Has x.live t → t.pending ≡ Some p → K (wait_for t p (remaining from p) (lent_at x))
@@ -540,7 +535,7 @@ module _ (catalogue : Catalogue) (x : SiteState) (given : Input) (tidy : Tidy x)
       begin = λ port view e g u. begins view _ refl refl refl;
       answers = λ words port why y. quiet (lent_at x) _ refl refl refl starts;
       take_lock = λ t rec exclusive stored h i a v c. locks_copy t rec exclusive _ h c refl;
-      complete = λ t p operation words l h g y e q. completes t p operation words l h g e q;
+      complete = λ t p deed l h g y e q. completes t p deed l h g e q;
       read_at = λ t p rec q h n r a w c o y. reads t p rec q h r c;
       write_at = λ t p rec value l h n w a e o d y v q. writes t p rec value l h w d v q;
       prepare_parts = λ t p h i g e. asks_votes t p h g;

@@ -38,6 +38,7 @@ txns_of owner.Refresh = []
 
 abbrev pub names_of : TxnId → Obstacle → List TxnId × List ViewId
 names_of t (obstacle.Held holder) = (t ∷ txns_of holder, [])
+names_of t (obstacle.Barred inside total) = (t ∷ [], [])
 names_of t (obstacle.OtherView None) = (t ∷ [], [])
 names_of t (obstacle.OtherView (Some v)) = (t ∷ [], v ∷ [])
 
@@ -516,7 +517,7 @@ module _ (N : TxnId → Type 0) (A : ViewId → Type 0) where
         begin = λ port view e g u. hushed (lent_at x) _ refl refl refl begins;
         answers = λ words port why y. hushed (lent_at x) _ refl refl refl begins;
         take_lock = λ t rec exclusive stored h i a v c. takes_lock t rec exclusive h;
-        complete = λ t p operation words l h g y e q. hushed l _ refl refl refl q;
+        complete = λ t p deed l h g y e q. hushed l _ refl refl refl q;
         read_at = λ t p rec q h n r a w c o y. plain (lent_at x) _ (letter x.id q (message.ReadRequest t.txn t.view p.number rec) ∷ []) refl refl refl (letter_named x.id q (message.ReadRequest t.txn t.view p.number rec) (asks_named t h)) begins;
         write_at = λ t p rec value l h n w a e o d y v q. writes_at t p rec (other_holders catalogue x rec) l h q;
         prepare_parts = λ t p h i g e. plain (lent_at x) _ (letters x.id (prepare_for catalogue t p) t.parts) refl refl refl (letters_named x.id (prepare_for catalogue t p) t.parts (λ q. asks_named t h)) begins;

@@ -167,7 +167,7 @@ module _ (catalogue : Catalogue) (x : SiteState) (given : Input) where
       begin = λ port view e g u. none _ refl refl;
       answers = λ words port why y. none _ refl refl;
       take_lock = λ t rec exclusive stored q i a v c. none _ refl refl;
-      complete = λ t p operation words l q g y e h. alike (put_back (begin_step x) l) _ refl refl h;
+      complete = λ t p deed l q g y e h. alike (put_back (begin_step x) l) _ refl refl h;
       read_at = λ t p rec q l n r a w c o y. none _ refl refl;
       write_at = λ t p rec value l q n w a e o d y v h. alike (put_back (begin_step x) l) _ refl refl h;
       prepare_parts = λ t p q i g e. none _ refl refl;

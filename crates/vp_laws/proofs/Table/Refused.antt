@@ -1,27 +1,28 @@
 -- A step that refuses a call before it is done changes nothing: no other move gives such a reply.
-use Rattle.std.proofs.Common.{◌≡◌, ◌∙◌, ap, subst, ℕ, Bool, true, false, List, [], ◌∷◌, ◌++◌, refl, arith}
-use Rattle.std.specs.Prelude.{Option, Some, None}
+use Rattle.std.proofs.Common.{length, ◌≡◌, ◌∙◌, ap, subst, ℕ, Bool, true, false, List, [], ◌∷◌, ◌++◌, refl, arith}
+use Rattle.std.specs.Prelude.{◌||◌, nat_le, Option, Some, None}
 use Rattle.std.specs.List.{Contains, list_any}
-use Rattle.vp_model.specs.Types.{TxnId, View, Stored, Op, Owner, Call, Answer, Reply, Input, Pending, Live, Ending, Finished, Refreshing, Doubt}
-use Rattle.vp_base.specs.declared.site.Ending.TheVariants.{Committed, Aborted, LockHeld, ViewChanged, TimedOut}
+use Rattle.vp_model.specs.Types.{Change, TxnId, View, Stored, Owner, Call, Answer, Reply, Input, Pending, Live, Ending, Finished, Refreshing, Doubt}
+use Rattle.vp_base.specs.declared.site.Ending.TheVariants.{Inaccessible, Committed, Aborted, LockHeld, ViewChanged, TimedOut}
 use Rattle.vp_model.specs.Types.answer
+use Rattle.vp_model.specs.Types.op
 use Rattle.vp_model.specs.Types.call
 use Rattle.vp_model.specs.Types.input
 use Rattle.vp_model.specs.Words.{value_at, first, is_empty}
-use Rattle.vp_model.specs.Catalogue.{Catalogue}
+use Rattle.vp_model.specs.Catalogue.{find_record, Catalogue}
 use Rattle.vp_model.specs.Durable.{doubt_of}
 use Rattle.vp_model.specs.Locks.{conflict}
 use Rattle.vp_model.specs.Site.{SiteState, Lent, Stepped, begin_step, lent_reply, surroundings, put_back}
-use Rattle.vp_model.specs.Transactions.{last_writes, answer_of, with_pending_reply, finish, close, close_all, keep_writes, decided, decide, complete}
+use Rattle.vp_model.specs.Transactions.{Deed, deed_answer, last_changes, entry_of, last_writes, answer_of, with_pending_reply, finish, close, close_all, keep_writes, decided, decide, complete}
 use Rattle.vp_model.specs.Refresh.{other_holders, newest, unlist, end_refresh, start_refresh}
 use Rattle.vp_model.specs.Views.{abandon, drop_view, leave, start_inviting, invite, is_spent, highest, hold}
-use Rattle.vp_model.specs.Calls.{handling, start_txn, begin_in, on_begin, with_record, take_lock, lock_here, answer_read, answer_write, read, read_at, write_elsewhere, write_at, write, prepare_parts, commit, new_call, live_call, finished_call, on_txn_call, own_call, on_regroup, on_call}
+use Rattle.vp_model.specs.Calls.{handling, start_txn, begin_in, on_begin, with_record, take_lock, lock_here, answer_read, read, read_at, change_elsewhere, change, new_change, is_bad_table, is_too_large, short, write_at, prepare_parts, commit, new_call, live_call, finished_call, on_txn_call, own_call, on_regroup, on_call}
 use Rattle.vp_model.specs.Messages.{accept, on_accept, on_stale, grant, end_here}
 use Rattle.vp_model.specs.Step.{fix, mark_calls, ask_again, resend_one, inquire, on_input, step}
 use Rattle.vp_laws.specs.Refusals.{is_not_done, RefusalsChangeNothing}
 use Rattle.vp_laws.proofs.Lists.Members.{has_of, has_one_is, any_false, either_false}
 use Rattle.vp_laws.proofs.Moves.Frames.{decide-cases, take-cases}
-use Rattle.vp_laws.proofs.Moves.Table.{next_name, lent_at, Completes, Says, OfCoordinator, Back, Table}
+use Rattle.vp_laws.proofs.Moves.Table.{Closes, next_name, lent_at, Completes, Says, OfCoordinator, Back, Table}
 use Rattle.vp_laws.proofs.Moves.Rows.{step-keeps}
 use Rattle.vp_laws.proofs.Lists.Keeps.{by_option, by_some, by_test}
 
@@ -36,33 +37,55 @@ done_more : (rs : List Reply) (r : Reply) → Done rs → refuses r ≡ false �
 done_more [] r h e = rw e refl
 done_more (q ∷ rs) r h e = let z = either_false (refuses q) (list_any refuses rs) h in rw z.0 (done_more rs r z.1 e)
 
-end_is_done : (txn : TxnId) (number : ℕ) (why : Ending) → is_not_done (answer_of txn number why) ≡ false
-end_is_done txn number Committed = refl
-end_is_done txn number Aborted = refl
-end_is_done txn number (LockHeld name at owner) = refl
-end_is_done txn number (ViewChanged at held now) = refl
-end_is_done txn number (TimedOut at) = refl
+-- an end that no call is refused by before it is done
+abbrev is_late : Ending → Bool
+is_late (Inaccessible name inside total) = false
+is_late _ = true
+
+end_is_done : (txn : TxnId) (number : ℕ) (why : Ending) → is_late why ≡ true → is_not_done (answer_of txn number why) ≡ false
+end_is_done txn number Committed e = refl
+end_is_done txn number Aborted e = refl
+end_is_done txn number (LockHeld name at owner) e = refl
+end_is_done txn number (ViewChanged at held now) e = refl
+end_is_done txn number (TimedOut at) e = refl
+end_is_done txn number (Inaccessible name inside total) e = cc
+
+deed_is_done : (txn : TxnId) (number : ℕ) (deed : Deed) → is_not_done (deed_answer txn number deed) ≡ false
+deed_is_done txn number (Deed.operates (op.Read rec None)) = refl
+deed_is_done txn number (Deed.operates (op.Read rec (Some value))) = refl
+deed_is_done txn number (Deed.operates (op.Write rec None)) = refl
+deed_is_done txn number (Deed.operates (op.Write rec (Some value))) = refl
+deed_is_done txn number (Deed.weighs rec table) = refl
+
+-- no transaction is closed so here
+closes_late : (x : SiteState) (given : Input) (t : Live) (why : Ending) → Closes x given t why → is_late why ≡ true
+closes_late x given t _ (Closes.aborted was p h n e) = refl
+closes_late x given t _ (Closes.held_here was p name rec exclusive holder h n e m c) = refl
+closes_late x given t _ (Closes.held_there p txn number from name holder h e m c) = refl
+closes_late x given t _ (Closes.other_view txn number from now h c) = refl
+closes_late x given t _ (Closes.left h) = refl
+closes_late x given t _ (Closes.timed_out h m) = refl
 
 -- the end of a transaction
-finish_done : (t : Live) (why : Ending) (l : Lent) → Done l.effects.replies → Done (finish t why l).effects.replies
+finish_done : (t : Live) (why : Ending) (l : Lent) → is_late why ≡ true → Done l.effects.replies → Done (finish t why l).effects.replies
 unfolding finish
-finish_done t why l h = go t.pending
+finish_done t why l late h = go t.pending
   where
     go : (p : Option Pending) → Done (with_pending_reply t.txn why p l.effects).replies
     go None = h
-    go (Some p) = done_more l.effects.replies _ h (end_is_done t.txn p.number why)
+    go (Some p) = done_more l.effects.replies _ h (end_is_done t.txn p.number why late)
 
-close_done : (id : ℕ) (t : Live) (why : Ending) (l : Lent) → Done l.effects.replies → Done (close id t why l).effects.replies
+close_done : (id : ℕ) (t : Live) (why : Ending) (l : Lent) → is_late why ≡ true → Done l.effects.replies → Done (close id t why l).effects.replies
 unfolding close
-close_done id t why l h = finish_done t why _ h
+close_done id t why l late h = finish_done t why _ late h
 
-close_all_done : (id : ℕ) (why : Live → Ending) (live : List Live) (l : Lent) → Done l.effects.replies → Done (close_all id why live l).effects.replies
-close_all_done id why [] l h = h
-close_all_done id why (t ∷ live) l h = close_all_done id why live (close id t (why t) l) (close_done id t (why t) l h)
+close_all_done : (id : ℕ) (why : Live → Ending) (live : List Live) (l : Lent) → ((t : Live) → is_late (why t) ≡ true) → Done l.effects.replies → Done (close_all id why live l).effects.replies
+close_all_done id why [] l late h = h
+close_all_done id why (t ∷ live) l late h = close_all_done id why live (close id t (why t) l) late (close_done id t (why t) l (late t) h)
 
 decided_done : (id : ℕ) (t : Live) (l : Lent) → Done l.effects.replies → Done (decided id t l).effects.replies
 unfolding decided
-decided_done id t l h = finish_done t Committed _ h
+decided_done id t l h = finish_done t Committed _ refl h
 
 module _ (catalogue : Catalogue) (x : SiteState) where
   abbrev DoneBy : Lent → Type 0
@@ -77,8 +100,8 @@ module _ (catalogue : Catalogue) (x : SiteState) where
     only : (words : Answer) (port : ℕ) → Q (lent_reply words port (lent_at x))
     nothing : Q (lent_at x)
     begins : (port : ℕ) (view : View) → Q (start_txn (next_name x) port view.id (lent_at x))
-    ends : (t : Live) (why : Ending) → Q (close x.id t why (lent_at x))
-    completes : (t : Live) (p : Pending) (operation : Op) (words : Answer) (l : Lent) → l.effects.replies ≡ [] → is_not_done words ≡ false → Q (complete t p operation words l)
+    ends : (t : Live) (why : Ending) → is_late why ≡ true → Q (close x.id t why (lent_at x))
+    completes : (t : Live) (p : Pending) (deed : Deed) (l : Lent) → l.effects.replies ≡ [] → Q (complete t p deed l)
     reads : (t : Live) (p : Pending) (rec q : ℕ) → Q (read_at x.id t p rec q (lent_at x))
     writes : (t : Live) (p : Pending) (rec : ℕ) (sites : List ℕ) (l : Lent) → l.effects.replies ≡ [] → Q (write_at x.id t p rec sites l)
     prepares : (t : Live) (p : Pending) → Q (prepare_parts catalogue x.id t p (lent_at x))
@@ -92,7 +115,7 @@ module _ (catalogue : Catalogue) (x : SiteState) where
     module _ (t : Live) (p : Pending) where
       of_lock : (name : List ℕ) (rec : ℕ) (exclusive : Bool) (rest : Lent → Lent) → Q (rest (take_lock t.txn rec exclusive (lent_at x))) → Q (lock_here x.id t p name rec exclusive rest (lent_at x))
       unfolding lock_here
-      of_lock name rec exclusive rest h = by_option Q (λ (holder : Owner). close x.id (handling t p) (LockHeld name x.id holder) (lent_at x)) (conflict rec exclusive t.txn x.locks) _ (λ holder e. k.ends (handling t p) (LockHeld name x.id holder)) (λ free. h)
+      of_lock name rec exclusive rest h = by_option Q (λ (holder : Owner). close x.id (handling t p) (LockHeld name x.id holder) (lent_at x)) (conflict rec exclusive t.txn x.locks) _ (λ holder e. k.ends (handling t p) (LockHeld name x.id holder) refl) (λ free. h)
 
       locked_replies : (rec : ℕ) (exclusive : Bool) → (take_lock t.txn rec exclusive (lent_at x)).effects.replies ≡ []
       unfolding take_lock
@@ -100,25 +123,33 @@ module _ (catalogue : Catalogue) (x : SiteState) where
 
       of_read : (name : List ℕ) (rec : ℕ) → Q (read catalogue x.id x.held t p name rec (lent_at x))
       unfolding read
-      of_read name rec = by_option Q (λ (value : List ℕ). answer_read t p rec value (lent_at x)) (value_at rec (last_writes t.ops)) _ (λ value e. k.completes t p _ _ (lent_at x) refl refl)
+      of_read name rec = by_option Q (λ (value : Option (List ℕ)). answer_read t p rec value (lent_at x)) (value_at rec (last_writes t.ops)) _ (λ value e. k.completes t p _ (lent_at x) refl)
           (λ n. by_option Q (λ (stored : Stored). lock_here x.id t p name rec false (answer_read t p rec stored.value) (lent_at x)) (value_at rec x.copies) _
-          (λ stored e. of_lock name rec false (answer_read t p rec stored.value) (k.completes t p _ _ (take_lock t.txn rec false (lent_at x)) (locked_replies rec false) refl))
+          (λ stored e. of_lock name rec false (answer_read t p rec stored.value) (k.completes t p _ (take_lock t.txn rec false (lent_at x)) (locked_replies rec false)))
           (λ none. by_some Q (first (other_holders catalogue x rec)) (read_at x.id t p rec) (lent_at x) (λ q e. k.reads t p rec q) k.nothing))
 
-      of_elsewhere : (rec : ℕ) (value : List ℕ) (l : Lent) → l.effects.replies ≡ [] → Q (write_elsewhere catalogue x.id x.held t p rec value l)
-      unfolding write_elsewhere
-      of_elsewhere rec value l none = by_test Q (is_empty (other_holders catalogue x rec)) (answer_write t p rec value l) (write_at x.id t p rec (other_holders catalogue x rec) l) (λ e. k.completes t p _ _ l none refl) (λ e. k.writes t p rec _ l none)
+      of_elsewhere : (rec : ℕ) (deed : Deed) (l : Lent) → l.effects.replies ≡ [] → Q (change_elsewhere catalogue x.id x.held t p rec deed l)
+      unfolding change_elsewhere
+      of_elsewhere rec deed l none = by_test Q (is_empty (other_holders catalogue x rec)) (complete t p deed l) (write_at x.id t p rec (other_holders catalogue x rec) l) (λ e. k.completes t p deed l none) (λ e. k.writes t p rec _ l none)
 
-      of_write : (name value : List ℕ) (rec : ℕ) → Q (write catalogue x.id x.held t p name value rec (lent_at x))
-      unfolding write
-      of_write name value rec = by_option Q (λ (before : List ℕ). answer_write t p rec value (lent_at x)) (value_at rec (last_writes t.ops)) _ (λ before e. k.completes t p _ _ (lent_at x) refl refl)
-          (λ n. by_option Q (λ (stored : Stored). lock_here x.id t p name rec true (write_elsewhere catalogue x.id x.held t p rec value) (lent_at x)) (value_at rec x.copies) _
-          (λ stored e. of_lock name rec true (write_elsewhere catalogue x.id x.held t p rec value) (of_elsewhere rec value (take_lock t.txn rec true (lent_at x)) (locked_replies rec true)))
-          (λ none. of_elsewhere rec value (lent_at x) refl))
+      of_change : (name : List ℕ) (asked : ℕ → Deed) (rec : ℕ) → Q (change catalogue x.id x.held t p name asked rec (lent_at x))
+      unfolding change
+      of_change name asked rec = by_option Q (λ (before : Change). complete t p (asked rec) (lent_at x)) (value_at rec (last_changes (entry_of t))) _ (λ before e. k.completes t p (asked rec) (lent_at x) refl)
+          (λ n. by_option Q (λ (stored : Stored). lock_here x.id t p name rec true (change_elsewhere catalogue x.id x.held t p rec (asked rec)) (lent_at x)) (value_at rec x.copies) _
+          (λ stored e. of_lock name rec true (change_elsewhere catalogue x.id x.held t p rec (asked rec)) (of_elsewhere rec (asked rec) (take_lock t.txn rec true (lent_at x)) (locked_replies rec true)))
+          (λ none. of_elsewhere rec (asked rec) (lent_at x) refl))
 
-      of_record : (name : List ℕ) (use_record : ℕ → Lent → Lent) → ((rec : ℕ) → Q (use_record rec (lent_at x))) → Q (with_record catalogue x.held t p name use_record (lent_at x))
+      of_record : (name : List ℕ) (asked : ℕ → Deed) (use_record : ℕ → Lent → Lent) → ((rec : ℕ) → Q (use_record rec (lent_at x))) → Q (with_record catalogue x.held t p name asked use_record (lent_at x))
       unfolding with_record
-      of_record name use_record used = grind (arith, k.only, used)
+      of_record name asked use_record used = by_option Q _ (find_record catalogue name) _
+          (λ rec e. by_test Q (is_bad_table catalogue (asked rec)) _ _ (λ bad. k.only _ _)
+          (λ table. by_test Q (nat_le 64 (length t.answers) || is_too_large t (asked rec)) _ _ (λ many. k.only _ _)
+          (λ fits. by_option Q _ (short catalogue x.held rec (asked rec)) _ (λ weights s. k.only _ _) (λ enough. used rec))))
+          (λ none. k.only _ _)
+
+      of_new_change : (name : List ℕ) (asked : ℕ → Deed) → Q (new_change catalogue x.id x.held t p name asked (lent_at x))
+      unfolding new_change
+      of_new_change name asked = of_record name asked _ (of_change name asked)
 
       of_commit : Q (commit catalogue x.id t p (lent_at x))
       unfolding commit
@@ -126,10 +157,12 @@ module _ (catalogue : Catalogue) (x : SiteState) where
 
       of_next : (words : Call) → Q (new_call catalogue x.id x.held t p words (lent_at x))
       unfolding new_call
-      of_next (call.Read txn number name) = of_record name _ (of_read name)
-      of_next (call.Write txn number name value) = of_record name _ (of_write name value)
+      of_next (call.Read txn number name) = of_record name (λ rec. Deed.operates (op.Read rec None)) _ (of_read name)
+      of_next (call.Write txn number name value) = of_new_change name (λ rec. Deed.operates (op.Write rec (Some value)))
+      of_next (call.Delete txn number name) = of_new_change name (λ rec. Deed.operates (op.Write rec None))
+      of_next (call.Weigh txn number name table) = of_new_change name (λ rec. Deed.weighs rec table)
       of_next (call.Commit txn number) = of_commit
-      of_next (call.Abort txn number) = k.ends (handling t p) Aborted
+      of_next (call.Abort txn number) = k.ends (handling t p) Aborted refl
       of_next call.Begin = k.nothing
       of_next call.Regroup = k.nothing
 
@@ -151,6 +184,8 @@ module _ (catalogue : Catalogue) (x : SiteState) where
     of_call port call.Regroup = k.nothing
     of_call port (call.Read txn number name) = of_txn port txn number (call.Read txn number name)
     of_call port (call.Write txn number name value) = of_txn port txn number (call.Write txn number name value)
+    of_call port (call.Delete txn number name) = of_txn port txn number (call.Delete txn number name)
+    of_call port (call.Weigh txn number name table) = of_txn port txn number (call.Weigh txn number name table)
     of_call port (call.Commit txn number) = of_txn port txn number (call.Commit txn number)
     of_call port (call.Abort txn number) = of_txn port txn number (call.Abort txn number)
 
@@ -159,9 +194,9 @@ module _ (catalogue : Catalogue) (x : SiteState) where
     only : (words : Answer) (port : ℕ) → l ≡ lent_reply words port (lent_at x) → Answers l
     done : DoneBy l → Answers l
 
-  completes : (t : Live) (p : Pending) (operation : Op) (words : Answer) (l : Lent) → l.effects.replies ≡ [] → is_not_done words ≡ false → DoneBy (complete t p operation words l)
+  completes : (t : Live) (p : Pending) (deed : Deed) (l : Lent) → l.effects.replies ≡ [] → DoneBy (complete t p deed l)
   unfolding complete
-  completes t p operation words l none e = rw (none, e) refl
+  completes t p deed l none = rw (none, deed_is_done t.txn p.number deed) refl
 
   asks : (t : Live) (p : Pending) (rec : ℕ) (sites : List ℕ) (l : Lent) → l.effects.replies ≡ [] → DoneBy (write_at x.id t p rec sites l)
   unfolding write_at
@@ -173,8 +208,8 @@ module _ (catalogue : Catalogue) (x : SiteState) where
     only = λ words port. Answers.only words port refl;
     nothing = Answers.done refl;
     begins = λ port view. Answers.done refl;
-    ends = λ t why. Answers.done (close_done x.id t why (lent_at x) refl);
-    completes = λ t p operation words l none e. Answers.done (completes t p operation words l none e);
+    ends = λ t why late. Answers.done (close_done x.id t why (lent_at x) late refl);
+    completes = λ t p deed l none. Answers.done (completes t p deed l none);
     reads = λ t p rec q. Answers.done refl;
     writes = λ t p rec sites l none. Answers.done (asks t p rec sites l none);
     prepares = λ t p. Answers.done refl;
@@ -186,7 +221,7 @@ module _ (catalogue : Catalogue) (x : SiteState) where
 
   invites : Done (invite catalogue (begin_step x)).effects.replies
   unfolding invite leave abandon drop_view start_inviting
-  invites = by_test (λ (o : Stepped). Done o.effects.replies) (is_spent x.views) _ _ (λ spent. refl) (λ left. close_all_done x.id (λ t. ViewChanged x.id t.view None) x.live (lent_at x) refl)
+  invites = by_test (λ (o : Stepped). Done o.effects.replies) (is_spent x.views) _ _ (λ spent. refl) (λ left. close_all_done x.id (λ t. ViewChanged x.id t.view None) x.live (lent_at x) (λ t. refl) refl)
 
   abbrev only_this : Reply → Stepped
   only_this r = record { site = x; effects = record { records = []; commits = []; messages = []; replies = r ∷ [] } }
@@ -210,6 +245,8 @@ module _ (catalogue : Catalogue) (x : SiteState) where
   called port call.Regroup = regroups port
   called port (call.Read txn number name) = whole _ (answered port (call.Read txn number name))
   called port (call.Write txn number name value) = whole _ (answered port (call.Write txn number name value))
+  called port (call.Delete txn number name) = whole _ (answered port (call.Delete txn number name))
+  called port (call.Weigh txn number name table) = whole _ (answered port (call.Weigh txn number name table))
   called port (call.Commit txn number) = whole _ (answered port (call.Commit txn number))
   called port (call.Abort txn number) = whole _ (answered port (call.Abort txn number))
 
@@ -229,14 +266,14 @@ module _ (catalogue : Catalogue) (x : SiteState) (given : Input) (none : (port :
   ends_here from txn true (Some d) = refl
   ends_here from txn false (Some d) = refl
 
-  completed : (t : Live) (p : Pending) (operation : Op) (words : Answer) (l : Lent) → Completes catalogue x given t p operation words l → Done (complete t p operation words l).effects.replies
+  completed : (t : Live) (p : Pending) (deed : Deed) (l : Lent) → Completes catalogue x given t p deed l → Done (complete t p deed l).effects.replies
   unfolding complete
-  completed t p operation words l (Completes.own_write rec value next r a v e f g) = absurd (none p.port p.call next.comes)
-  completed t p operation words l (Completes.own_copy rec stored next r a v c free e f g) = absurd (none p.port p.call next.comes)
-  completed t p operation words l (Completes.write_again rec before value next r a v e f g) = absurd (none p.port p.call next.comes)
-  completed t p operation words l (Completes.write_alone rec value next r a v none_else e f g) = absurd (none p.port p.call next.comes)
-  completed t p operation words l (Completes.read_answered from rec value c last r e f g) = rw (f, g) refl
-  completed t p operation words l (Completes.write_answered from rec value c last r e f g) = rw (f, g) refl
+  completed t p deed l (Completes.own_write rec value next r a v e g) = absurd (none p.port p.call next.comes)
+  completed t p deed l (Completes.own_copy rec stored next r a v c free e g) = absurd (none p.port p.call next.comes)
+  completed t p deed l (Completes.change_again rec before next r a v g) = absurd (none p.port p.call next.comes)
+  completed t p deed l (Completes.change_alone rec next r a v none_else g) = absurd (none p.port p.call next.comes)
+  completed t p deed l (Completes.read_answered from rec value c last r e g) = rw (g, deed_is_done t.txn p.number deed) refl
+  completed t p deed l (Completes.change_answered from rec c last r g) = rw (g, deed_is_done t.txn p.number deed) refl
 
   moves : OfCoordinator catalogue x given (Back x P)
   unfolding take_lock read_at write_at prepare_parts mark_calls
@@ -244,13 +281,13 @@ module _ (catalogue : Catalogue) (x : SiteState) (given : Input) (none : (port :
     begin = λ port view e g u. absurd (none port call.Begin g);
     answers = λ words port why says. absurd (by_call says);
     take_lock = λ t rec exclusive stored h i a v c. refl;
-    complete = λ t p operation words l h g y e r. completed t p operation words l g;
+    complete = λ t p deed l h g y e r. completed t p deed l g;
     read_at = λ t p rec q h n r a w c o y. refl;
     write_at = λ t p rec value l h n w a e o d y v r. r;
     prepare_parts = λ t p h i g e. refl;
     still_waits = λ t p from h e m f c. refl;
     decide = λ t n d. decide_done catalogue x t;
-    close = λ t why l n a z y r. close_done x.id t why l r;
+    close = λ t why l n a z y r. close_done x.id t why l (closes_late x given t why y) r;
     mark_calls = λ l c z r. r;
     acknowledge = λ from txn c w. refl;
   }
@@ -264,7 +301,8 @@ module _ (catalogue : Catalogue) (x : SiteState) (given : Input) (none : (port :
       by_call (Says.many t words number c h n) = none _ _ c
       by_call (Says.busy t words number c h n) = none _ _ c
       by_call (Says.skipped t words c h) = none _ _ c
-      by_call (Says.inaccessible t words number name rec c h n m f) = none _ _ c
+      by_call (Says.bad_table t words number c h n) = none _ _ c
+      by_call (Says.inaccessible t words number name rec deed weights c h n m f i s) = none _ _ c
       by_call (Says.again t words said c h k) = none _ _ c
       by_call (Says.again_ended f words said c h k) = none _ _ c
       by_call (Says.over f words txn number c o h) = none _ _ c

@@ -1,15 +1,16 @@
 -- What a step replies: an end of a transaction that it decides or closes now, or that has ended before; and each entry is replied.
 use Rattle.std.proofs.Common.{◌≡◌, ◌∙◌, map, append-nil, ap, sym, subst, ℕ, Bool, true, false, cond, List, [], ◌∷◌, ◌++◌, refl, ⊎_elim}
 use Rattle.std.specs.Prelude.{Option, Some, None}
-use Rattle.vp_model.specs.Types.{TxnId, Commit, Input, Stored, Effects, Op, Answer, Reply, Pending, Live, Ending, Refreshing, Doubt}
+use Rattle.vp_model.specs.Types.{TxnId, Commit, Input, Stored, Effects, Answer, Reply, Pending, Live, Ending, Refreshing, Doubt}
 use Rattle.vp_base.specs.declared.site.Ending.TheVariants.{Committed}
 use Rattle.vp_model.specs.Types.answer
+use Rattle.vp_model.specs.Types.op
 use Rattle.vp_model.specs.Types.log_record
 use Rattle.vp_model.specs.Words.{without_first, view_before, replace_at}
 use Rattle.vp_model.specs.Catalogue.{Catalogue}
 use Rattle.vp_model.specs.Durable.{doubt_of}
 use Rattle.vp_model.specs.Site.{reply, CoordinatorState, SiteState, Lent, Stepped, begin_step, put_back, force, change_copies}
-use Rattle.vp_model.specs.Transactions.{entry_of, answer_of, with_pending_reply, finish, close, keep_writes, decided, decide, complete}
+use Rattle.vp_model.specs.Transactions.{deed_answer, Deed, entry_of, answer_of, with_pending_reply, finish, close, keep_writes, decided, decide, complete}
 use Rattle.vp_model.specs.Refresh.{newest, take_newer, unlist, end_refresh, start_refresh}
 use Rattle.vp_model.specs.Views.{drop_view, start_inviting, invite, hold}
 use Rattle.vp_model.specs.Calls.{start_txn, take_lock, read_at, write_at, prepare_parts}
@@ -67,6 +68,14 @@ close_replies id t why l = reply_replies t.txn why t.pending _
 decided_replies : (id : ℕ) (t : Live) (l : Lent) → (decided id t l).effects.replies ≡ l.effects.replies ++ with_pending t.txn Committed t.pending
 unfolding decided finish
 decided_replies id t l = reply_replies t.txn Committed t.pending _
+
+-- what a call that is done is told is no end
+deed_no_end : (txn : TxnId) (number : ℕ) (deed : Deed) → is_end (deed_answer txn number deed) ≡ false
+deed_no_end txn number (Deed.operates (op.Read rec None)) = refl
+deed_no_end txn number (Deed.operates (op.Read rec (Some value))) = refl
+deed_no_end txn number (Deed.operates (op.Write rec None)) = refl
+deed_no_end txn number (Deed.operates (op.Write rec (Some value))) = refl
+deed_no_end txn number (Deed.weighs rec table) = refl
 
 module _ (catalogue : Catalogue) (x : SiteState) (given : Input) (led : Led x) (apart : Apart x.live) where
   abbrev S : Stepped → Type 0
@@ -154,19 +163,15 @@ module _ (catalogue : Catalogue) (x : SiteState) (given : Input) (led : Led x) (
     };
   }
 
-  pub completed_words : (t : Live) (p : Pending) (operation : Op) (words : Answer) (l : Lent) → Completes catalogue x given t p operation words l → is_end words ≡ false
-  completed_words t p operation words l (Completes.own_write rec value next r a v o e f) = rw e refl
-  completed_words t p operation words l (Completes.own_copy rec stored next r a v c f o e g) = rw e refl
-  completed_words t p operation words l (Completes.write_again rec before value next r a v o e f) = rw e refl
-  completed_words t p operation words l (Completes.write_alone rec value next r a v n o e f) = rw e refl
-  completed_words t p operation words l (Completes.read_answered from rec value c last r o e f) = rw e refl
-  completed_words t p operation words l (Completes.write_answered from rec value c last r o e f) = rw e refl
+  pub completed_words : (t : Live) (p : Pending) (deed : Deed) (l : Lent) → Completes catalogue x given t p deed l → is_end (deed_answer t.txn p.number deed) ≡ false
+  completed_words t p deed l c = deed_no_end t.txn p.number deed
 
-  completes : (t : Live) (p : Pending) (operation : Op) (words : Answer) (l : Lent) → S (put_back (begin_step x) (complete t p operation words l)) → Completes catalogue x given t p operation words l → K (complete t p operation words l)
+  completes : (t : Live) (p : Pending) (deed : Deed) (l : Lent) → S (put_back (begin_step x) (complete t p deed l)) → Completes catalogue x given t p deed l → K (complete t p deed l)
   unfolding complete
-  completes t p operation words l base g =
-      let e = completes_effects catalogue x given t p operation words l g in
-      one _ (record { to = p.port; answer = words }) base (ap (λ (e : Effects). e.commits) e) (ap (λ (e : Effects). e.replies ++ (record { to = p.port; answer = words }) ∷ []) e) (Replies.other (completed_words t p operation words l g))
+  completes t p deed l base g =
+      let e = completes_effects catalogue x given t p deed l g in
+      let words = deed_answer t.txn p.number deed in
+      one _ (record { to = p.port; answer = words }) base (ap (λ (e : Effects). e.commits) e) (ap (λ (e : Effects). e.replies ++ (record { to = p.port; answer = words }) ∷ []) e) (Replies.other (completed_words t p deed l g))
 
   -- a refresh ends: the same replies
   same_taken : (rec : ℕ) (own best : Stored) (o : Stepped) → ((take_newer rec own best o).site.coordinator ≡ o.site.coordinator) × ((take_newer rec own best o).effects.commits ≡ o.effects.commits) × ((take_newer rec own best o).effects.replies ≡ o.effects.replies)
@@ -228,7 +233,7 @@ module _ (catalogue : Catalogue) (x : SiteState) (given : Input) (led : Led x) (
       begin = λ port view e g u. one _ _ (m.begin port view e g u) refl refl (Replies.other refl);
       answers = λ words port why y. one _ _ (m.answers words port why y) refl refl why;
       take_lock = λ t rec exclusive stored h i a v c. quiet _ (m.take_lock t rec exclusive stored h i a v c) refl refl;
-      complete = λ t p operation words l h g y e q. completes t p operation words l (m.complete t p operation words l h g y e q.base) g;
+      complete = λ t p deed l h g y e q. completes t p deed l (m.complete t p deed l h g y e q.base) g;
       read_at = λ t p rec q h n r a w c o y. quiet _ (m.read_at t p rec q h n r a w c o y) refl refl;
       write_at = λ t p rec value l h n w a e o d y v q. let f = locked_effects x t rec l d in quiet _ (m.write_at t p rec value l h n w a e o d y v q.base) (ap (λ (e : Effects). e.commits) f) (ap (λ (e : Effects). e.replies) f);
       prepare_parts = λ t p h i g e. quiet _ (m.prepare_parts t p h i g e) refl refl;

@@ -307,7 +307,7 @@ module _ (catalogue : Catalogue) (x : SiteState) (given : Input) where
       begin = λ port view e g u. hushed (lent_at x) _ refl starts;
       answers = λ words port why y. hushed (lent_at x) _ refl starts;
       take_lock = λ t rec exclusive stored h i a v c. hushed (lent_at x) _ refl starts;
-      complete = λ t p operation words l h g y e q. hushed l _ refl q;
+      complete = λ t p deed l h g y e q. hushed l _ refl q;
       read_at = λ t p rec q h n r a w c o y. asking (lent_at x) _ (λ a. message.ReadRequest t.txn t.view p.number rec) (q ∷ []) refl (λ q. refl) starts;
       write_at = λ t p rec value l h n w a e o d y v q. asking l _ (λ a. message.WriteRequest t.txn t.view p.number rec) (other_holders catalogue x rec) refl (λ q. refl) q;
       prepare_parts = λ t p h i g e. asking (lent_at x) _ (prepare_for catalogue t p) t.parts refl (λ q. refl) starts;

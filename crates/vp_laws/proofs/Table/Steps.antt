@@ -1,14 +1,14 @@
 -- Where each live transaction, each request and each entry of a step comes from.
 use Rattle.std.proofs.Common.{◌≡◌, ◌≢◌, ◌∙◌, ap, sym, subst, ℕ, Bool, true, false, List, [], ◌∷◌, ◌++◌, map, refl, ⊎_elim, append-nil}
 use Rattle.std.specs.Prelude.{Some, None}
-use Rattle.vp_model.specs.Types.{TxnId, View, Sent, Commit, Input, Effects, Op, Answer, Pending, Live, Ending, Message}
+use Rattle.vp_model.specs.Types.{TxnId, View, Sent, Commit, Input, Effects, Pending, Live, Ending, Message}
 use Rattle.vp_base.specs.declared.site.Ending.TheVariants.{Committed}
 use Rattle.vp_model.specs.Types.input
 use Rattle.vp_model.specs.Types.message
 use Rattle.vp_model.specs.Words.{has, is_empty, change_first, value_at}
 use Rattle.vp_model.specs.Catalogue.{Catalogue}
 use Rattle.vp_model.specs.Site.{CoordinatorState, SiteState, Lent, letters}
-use Rattle.vp_model.specs.Transactions.{last_changes, entry_of, put_live, close, with_finished, keep_writes, last_writes, decide, complete}
+use Rattle.vp_model.specs.Transactions.{Deed, last_changes, entry_of, put_live, close, with_finished, keep_writes, last_writes, decide, complete}
 use Rattle.vp_model.specs.Refresh.{is_open, other_holders}
 use Rattle.vp_model.specs.Calls.{begun, start_txn, take_lock, read_at, write_at, prepare_parts, prepare_for}
 use Rattle.vp_model.specs.Answers.{is_decided, with_acknowledged}
@@ -18,7 +18,7 @@ use Rattle.vp_laws.proofs.Lists.Members.{Has, has_none, has_one_is, has_cases, m
 use Rattle.vp_laws.proofs.Lists.Changes.{without_first_has}
 use Rattle.vp_laws.proofs.Lists.Names.{Apart, named, apart_without, change_cases, apart_change, apart_more, apart_mark}
 use Rattle.vp_laws.proofs.Moves.Frames.{Ends, close-ends, close-commits, decided-ends, decided-commits, decide-cases}
-use Rattle.vp_laws.proofs.Moves.Table.{next_name, lent_at, Handled, IsNext, Reads, Writes, Counts, remaining, Locked, Completes, Decides, Closed, OfCoordinator, SendsBack}
+use Rattle.vp_laws.proofs.Moves.Table.{next_name, lent_at, Handled, IsNext, Reads, Changes, Counts, remaining, Locked, Completes, Decides, Closed, OfCoordinator, SendsBack, May}
 use Rattle.vp_laws.proofs.Moves.Rows.{step-keeps}
 use Rattle.vp_laws.proofs.Moves.LocalViews.{letter}
 use Rattle.vp_laws.proofs.Table.Led.{Led}
@@ -36,9 +36,10 @@ pub record AskingRead (catalogue : Catalogue) (x : SiteState) (given : Input) (u
   pub holder : Has (other_holders catalogue x rec) q
 
 -- a first write of a record, which all other holders in the view are asked for
-pub record AskingWrite (catalogue : Catalogue) (x : SiteState) (given : Input) (u : Live) (p : Pending) (rec : ℕ) (value : List ℕ) : Type 0 where
+pub record AskingWrite (catalogue : Catalogue) (x : SiteState) (given : Input) (u : Live) (p : Pending) (rec : ℕ) (deed : Deed) : Type 0 where
   pub next : IsNext given u p
-  pub writes : Writes catalogue p rec value
+  pub writes : Changes catalogue p rec deed
+  pub may : May catalogue x u rec deed
   pub usable : is_open catalogue x rec ≡ true
   pub unwritten : value_at rec (last_changes (entry_of u)) ≡ None
   pub others : is_empty (other_holders catalogue x rec) ≡ false
@@ -53,9 +54,9 @@ pub data LiveNow (catalogue : Catalogue) (x : SiteState) (given : Input) (now : 
   still : Has x.live now → LiveNow catalogue x given now
   marked : (u : Live) → Has x.live u → given ≡ input.Tick → mark u ≡ now → LiveNow catalogue x given now
   waits : (u : Live) (p : Pending) (from : ℕ) → Has x.live u → u.pending ≡ Some p → has p.missing from ≡ true → is_empty (remaining from p) ≡ false → Counts catalogue given u p from → waiting u p (remaining from p) ≡ now → LiveNow catalogue x given now
-  completed : (u : Live) (p : Pending) (operation : Op) (words : Answer) (l : Lent) → Has x.live u → Completes catalogue x given u p operation words l → done u operation words ≡ now → LiveNow catalogue x given now
+  completed : (u : Live) (p : Pending) (deed : Deed) (l : Lent) → Has x.live u → Completes catalogue x given u p deed l → done u p deed ≡ now → LiveNow catalogue x given now
   reads : (u : Live) (p : Pending) (rec q : ℕ) → Has x.live u → AskingRead catalogue x given u p rec q → reading u p rec q ≡ now → LiveNow catalogue x given now
-  writes : (u : Live) (p : Pending) (rec : ℕ) (value : List ℕ) → Has x.live u → AskingWrite catalogue x given u p rec value → writing u p (other_holders catalogue x rec) ≡ now → LiveNow catalogue x given now
+  writes : (u : Live) (p : Pending) (rec : ℕ) (deed : Deed) → Has x.live u → AskingWrite catalogue x given u p rec deed → writing u p (other_holders catalogue x rec) ≡ now → LiveNow catalogue x given now
   prepares : (u : Live) (p : Pending) → Has x.live u → AskingVotes given u p → waiting u p u.parts ≡ now → LiveNow catalogue x given now
   begins : (view : View) → x.held ≡ Some view → begun (next_name x) view.id ≡ now → LiveNow catalogue x given now
 
@@ -68,7 +69,7 @@ pub data SentFor (catalogue : Catalogue) (x : SiteState) (given : Input) (live :
   aside : Aside x m → SentFor catalogue x given live m
   outcome : (txn : TxnId) (commit : Bool) → m.from ≡ x.id → m.message ≡ message.Outcome txn commit → SentFor catalogue x given live m
   reads : (u : Live) (p : Pending) (rec q : ℕ) → Has x.live u → AskingRead catalogue x given u p rec q → Only live (reading u p rec q) → letter x.id q (message.ReadRequest u.txn u.view p.number rec) ≡ m → SentFor catalogue x given live m
-  writes : (u : Live) (p : Pending) (rec : ℕ) (value : List ℕ) (q : ℕ) → Has x.live u → AskingWrite catalogue x given u p rec value → Has (other_holders catalogue x rec) q → Only live (writing u p (other_holders catalogue x rec)) → letter x.id q (message.WriteRequest u.txn u.view p.number rec) ≡ m → SentFor catalogue x given live m
+  writes : (u : Live) (p : Pending) (rec : ℕ) (deed : Deed) (q : ℕ) → Has x.live u → AskingWrite catalogue x given u p rec deed → Has (other_holders catalogue x rec) q → Only live (writing u p (other_holders catalogue x rec)) → letter x.id q (message.WriteRequest u.txn u.view p.number rec) ≡ m → SentFor catalogue x given live m
   prepares : (u : Live) (p : Pending) (q : ℕ) → Has x.live u → AskingVotes given u p → Has u.parts q → Only live (waiting u p u.parts) → letter x.id q (prepare_for catalogue u p q) ≡ m → SentFor catalogue x given live m
 
 -- why a transaction is entered
@@ -76,7 +77,7 @@ pub record EnteredFor (catalogue : Catalogue) (x : SiteState) (given : Input) (e
   pub was : Live
   pub handled : Handled x was
   pub decides : Decides catalogue x given was
-  pub is : record { txn = was.txn; view = was.view; ops = was.ops } ≡ e
+  pub is : entry_of was ≡ e
 
 pub record Steps (catalogue : Catalogue) (x : SiteState) (given : Input) (c : CoordinatorState) (ms : List Sent) (cs : List Commit) : Type 0 where
   pub apart : Apart c.live
@@ -99,14 +100,14 @@ unfolding take_lock
 locked_effects x t rec l (Locked.no_copy n e) = ap (λ (l : Lent). l.effects) e
 locked_effects x t rec l (Locked.locked stored v c e) = ap (λ (l : Lent). l.effects) e
 
-pub completes_effects : (catalogue : Catalogue) (x : SiteState) (given : Input) (t : Live) (p : Pending) (operation : Op) (words : Answer) (l : Lent) → Completes catalogue x given t p operation words l → l.effects ≡ (lent_at x).effects
+pub completes_effects : (catalogue : Catalogue) (x : SiteState) (given : Input) (t : Live) (p : Pending) (deed : Deed) (l : Lent) → Completes catalogue x given t p deed l → l.effects ≡ (lent_at x).effects
 unfolding take_lock
-completes_effects catalogue x given t p operation words l (Completes.own_write rec value next r a v o w e) = ap (λ (l : Lent). l.effects) e
-completes_effects catalogue x given t p operation words l (Completes.own_copy rec stored next r a v c f o w e) = ap (λ (l : Lent). l.effects) e
-completes_effects catalogue x given t p operation words l (Completes.write_again rec before value next r a v o w e) = ap (λ (l : Lent). l.effects) e
-completes_effects catalogue x given t p operation words l (Completes.write_alone rec value next r a v n o w e) = locked_effects x t rec l e
-completes_effects catalogue x given t p operation words l (Completes.read_answered from rec value c last r o w e) = ap (λ (l : Lent). l.effects) e
-completes_effects catalogue x given t p operation words l (Completes.write_answered from rec value c last r o w e) = ap (λ (l : Lent). l.effects) e
+completes_effects catalogue x given t p deed l (Completes.own_write rec value next r a v o e) = ap (λ (l : Lent). l.effects) e
+completes_effects catalogue x given t p deed l (Completes.own_copy rec stored next r a v c f o e) = ap (λ (l : Lent). l.effects) e
+completes_effects catalogue x given t p deed l (Completes.change_again rec before next r a v e) = ap (λ (l : Lent). l.effects) e
+completes_effects catalogue x given t p deed l (Completes.change_alone rec next r a v n e) = locked_effects x t rec l e
+completes_effects catalogue x given t p deed l (Completes.read_answered from rec value c last r o e) = ap (λ (l : Lent). l.effects) e
+completes_effects catalogue x given t p deed l (Completes.change_answered from rec c last r e) = ap (λ (l : Lent). l.effects) e
 
 module _ (catalogue : Catalogue) (x : SiteState) (given : Input) (led : Led x) (apart : Apart x.live) where
   abbrev R : CoordinatorState → List Sent → List Commit → Type 0
@@ -181,15 +182,15 @@ module _ (catalogue : Catalogue) (x : SiteState) (given : Input) (led : Led x) (
           go (SentFor.writes u p rec value q h a k o e) = ap (λ (m : Sent). m.from) (sym e)
           go (SentFor.prepares u p q h a k o e) = ap (λ (m : Sent). m.from) (sym e)
 
-  completes : (t : Live) (p : Pending) (operation : Op) (words : Answer) (l : Lent) → Has x.live t → Completes catalogue x given t p operation words l → l.live ≡ x.live → L (complete t p operation words l)
+  completes : (t : Live) (p : Pending) (deed : Deed) (l : Lent) → Has x.live t → Completes catalogue x given t p deed l → l.live ≡ x.live → L (complete t p deed l)
   unfolding complete
-  completes t p operation words l h g v =
-      let e = completes_effects catalogue x given t p operation words l g in
+  completes t p deed l h g v =
+      let e = completes_effects catalogue x given t p deed l g in
       let ms : l.effects.messages ≡ [] = ap (λ (e : Effects). e.messages) e in
       let cs : l.effects.commits ≡ [] = ap (λ (e : Effects). e.commits) e in
-      rw (ms, cs) (moves_on (done t operation words) l.coordinator [] v (LiveNow.completed t p operation words l h g refl) (λ m k o. absurd (has_none m k)))
+      rw (ms, cs) (moves_on (done t p deed) l.coordinator [] v (LiveNow.completed t p deed l h g refl) (λ m k o. absurd (has_none m k)))
 
-  writes_at : (t : Live) (p : Pending) (rec : ℕ) (value : List ℕ) (l : Lent) → Has x.live t → AskingWrite catalogue x given t p rec value → Locked x t rec l → l.live ≡ x.live → L (write_at x.id t p rec (other_holders catalogue x rec) l)
+  writes_at : (t : Live) (p : Pending) (rec : ℕ) (deed : Deed) (l : Lent) → Has x.live t → AskingWrite catalogue x given t p rec deed → Locked x t rec l → l.live ≡ x.live → L (write_at x.id t p rec (other_holders catalogue x rec) l)
   unfolding write_at
   writes_at t p rec value l h a d v =
       let e = locked_effects x t rec l d in
@@ -220,9 +221,9 @@ module _ (catalogue : Catalogue) (x : SiteState) (given : Input) (led : Led x) (
     };
     answers = λ words port why y. starts;
     take_lock = λ t rec exclusive stored h i a v c. starts;
-    complete = λ t p operation words l h g y e r. completes t p operation words l h g e;
+    complete = λ t p deed l h g y e r. completes t p deed l h g e;
     read_at = λ t p rec q h n r a w c o y. reads_at t p rec q h (record { next = n; reads = r; usable = a; unwritten = w; no_copy = c; holder = o });
-    write_at = λ t p rec value l h n w a e o d y v r. writes_at t p rec value l h (record { next = n; writes = w; usable = a; unwritten = e; others = o }) d v;
+    write_at = λ t p rec value l h n w a e o d y v r. writes_at t p rec value l h (record { next = n; writes = w; may = a; usable = a.usable; unwritten = e; others = o }) d v;
     prepare_parts = λ t p h i g e. asks_votes t p h (record { next = i; commit = g; parts = e });
     still_waits = λ t p from h e m f c. moves_on (waiting t p (remaining from p)) x.coordinator [] refl (LiveNow.waits t p from h e m f c refl) (λ m k o. absurd (has_none m k));
     decide = λ t n d. decides t n d;

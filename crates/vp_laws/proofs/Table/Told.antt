@@ -1,101 +1,140 @@
 -- What a step reports of operations: where each live transaction comes from, with what is reported of it; all other reports repeat
 -- kept answers.
-use Rattle.std.proofs.Common.{◌≡◌, ◌≢◌, ◌⊎◌, ◌∙◌, ap, sym, subst, ℕ, true, false, List, [], ◌∷◌, ◌++◌, map, refl, inl, inr, ⊎_elim}
+use Rattle.std.proofs.Common.{◌≡◌, ◌≢◌, ◌⊎◌, ◌∙◌, ap, sym, subst, ℕ, Bool, true, false, List, [], ◌∷◌, ◌++◌, map, refl, inl, inr, ⊎_elim}
 use Rattle.std.specs.Prelude.{Option, Some, None, option_map, option_to_list, filter_map}
 use Rattle.std.proofs.lemmas.List.{map-append, append-nil}
 use Rattle.std.proofs.lemmas.List.Elements.{filter_map-append}
-use Rattle.vp_model.specs.Types.{TxnId, View, Op, Answer, Reply, Commit, Input, Pending, Live, Ending, Finished}
-use Rattle.vp_base.specs.declared.site.Ending.TheVariants.{Committed, Aborted, LockHeld, ViewChanged, TimedOut}
+use Rattle.vp_model.specs.Types.{TxnId, View, Op, Call, Answer, Reply, Commit, Input, Pending, Live, Ending, Finished}
+use Rattle.vp_base.specs.declared.site.Ending.TheVariants.{Committed, Aborted, LockHeld, ViewChanged, TimedOut, Inaccessible}
 use Rattle.vp_model.specs.Types.answer
 use Rattle.vp_model.specs.Types.call
 use Rattle.vp_model.specs.Types.input
 use Rattle.vp_model.specs.Types.op
-use Rattle.vp_model.specs.Catalogue.{Catalogue}
+use Rattle.vp_model.specs.Catalogue.{Catalogue, Table as Weights, find_record}
 use Rattle.vp_model.specs.Site.{CoordinatorState, SiteState, Lent}
-use Rattle.vp_model.specs.Transactions.{answer_of, put_live, with_finished}
-use Rattle.vp_model.specs.Calls.{begun}
+use Rattle.vp_model.specs.Transactions.{Deed, deed_answer, answer_of, put_live, with_finished}
+use Rattle.vp_model.specs.Calls.{begun, change_asked}
 use Rattle.vp_model.specs.Answers.{with_acknowledged}
 use Rattle.vp_model.specs.Step.{mark, step}
 use Rattle.vp_model.specs.Told.{reported, is_early_refusal, told_by, named_in}
 use Rattle.vp_laws.proofs.Table.ToldLines.{Report}
+use Rattle.vp_laws.proofs.Table.Heard.{Heard, heard}
 use Rattle.vp_laws.specs.Reports.{is_of_kind}
 use Rattle.vp_laws.proofs.Lists.Members.{Has, has_none, has_first, has_more, has_one_is, has_cases, map_has}
 use Rattle.vp_laws.proofs.Lists.Changes.{without_first_has}
 use Rattle.vp_model.proofs.SameTxn.{same_txn-self, same_txn-other}
 use Rattle.vp_laws.proofs.Lists.Names.{Apart, named, change_cases}
-use Rattle.vp_laws.proofs.Moves.Table.{next_view, next_name, Reads, Writes, Completes}
+use Rattle.vp_laws.proofs.Moves.Table.{next_view, next_name, Reads, Changes, Completes}
 use Rattle.vp_laws.proofs.Table.Kept.{kept_has}
 use Rattle.vp_laws.proofs.Table.Endings.{NotLive}
-use Rattle.vp_laws.proofs.Moves.Reasons.{Takes, Tells, is_plain, told_to, last_reply, IsDone, Goes, Front}
+use Rattle.vp_laws.proofs.Moves.Reasons.{Takes, Why, Tells, is_plain, told_to, last_reply, IsDone, Goes, Front}
 use Rattle.vp_laws.proofs.Moves.FrontSteps.{step-front}
 use Rattle.vp_laws.proofs.Table.ToldCalls.{SameCall}
 use Rattle.vp_laws.proofs.Moves.Calls.{done, waiting}
 
--- what an operation that is done is told: its report, which with the call says the operation
-pub record SaysDone (catalogue : Catalogue) (txn : TxnId) (p : Pending) (operation : Op) (words : Answer) : Type 0 where
-  pub report : Option (List ℕ)
-  pub reports : reported txn words ≡ Some (p.number, report)
-  pub others : (u : TxnId) → txn ≢ u → reported u words ≡ None
-  pub tells : told_by catalogue report p.call ≡ Some operation
-  pub late : is_early_refusal words ≡ false
-  pub kind : is_of_kind report p.call ≡ true
-  pub rec : ℕ
-  pub named : named_in catalogue p.call ≡ Some rec
+-- what is reported of a call that is done: with the call it says the operation, and a new table is no operation
+pub data Reported (catalogue : Catalogue) (txn : TxnId) (p : Pending) : Deed → Type 0 where
+  operated : (operation : Op) (report : Option (Option (List ℕ))) (rec : ℕ) → reported txn (deed_answer txn p.number (Deed.operates operation)) ≡ Some (p.number, report) → told_by catalogue report p.call ≡ Some operation → is_of_kind report p.call ≡ true → named_in catalogue p.call ≡ Some rec → Reported catalogue txn p (Deed.operates operation)
+  weighed : (rec : ℕ) (table : Weights) → Reported catalogue txn p (Deed.weighs rec table)
+
+-- what a call that is done is told
+pub record SaysDone (catalogue : Catalogue) (txn : TxnId) (p : Pending) (deed : Deed) : Type 0 where
+  pub reports : Reported catalogue txn p deed
+  pub others : (u : TxnId) → txn ≢ u → heard u (deed_answer txn p.number deed) ≡ None
+  pub late : is_early_refusal (deed_answer txn p.number deed) ≡ false
 
 -- an end reports nothing
-pub end_unreported : (u txn : TxnId) (k : ℕ) (why : Ending) → reported u (answer_of txn k why) ≡ None
-end_unreported u txn k Committed = refl
-end_unreported u txn k Aborted = refl
-end_unreported u txn k (LockHeld name at holder) = refl
-end_unreported u txn k (ViewChanged at held now) = refl
-end_unreported u txn k (TimedOut at) = refl
+pub end_unheard : (u txn : TxnId) (k : ℕ) (why : Ending) → heard u (answer_of txn k why) ≡ None
+end_unheard u txn k Committed = refl
+end_unheard u txn k Aborted = refl
+end_unheard u txn k (LockHeld name at holder) = refl
+end_unheard u txn k (ViewChanged at held now) = refl
+end_unheard u txn k (TimedOut at) = refl
+end_unheard u txn k (Inaccessible name inside total) = refl
 
-pub end_late : (txn : TxnId) (k : ℕ) (why : Ending) → is_early_refusal (answer_of txn k why) ≡ false
-end_late txn k Committed = refl
-end_late txn k Aborted = refl
-end_late txn k (LockHeld name at holder) = refl
-end_late txn k (ViewChanged at held now) = refl
-end_late txn k (TimedOut at) = refl
+-- an end that no call is refused by early
+abbrev pub is_late : Ending → Bool
+is_late (Inaccessible name inside total) = false
+is_late _ = true
 
-read_says : (catalogue : Catalogue) (txn : TxnId) (p : Pending) (rec : ℕ) (value : List ℕ) (operation : Op) (words : Answer) → Reads catalogue p rec → operation ≡ op.Read rec value → words ≡ answer.Value txn p.number value → SaysDone catalogue txn p operation words
-read_says catalogue txn p rec value operation words r e f =
-    let self = same_txn-self txn in
-    record {
-      report = Some value;
-      reports = ap (reported txn) f ∙ rw self refl;
-      others = λ u n. let other = same_txn-other txn u n in ap (reported u) f ∙ rw other refl;
-      tells = rw (r.words, r.found, e) refl;
-      late = rw f refl;
-      kind = rw r.words refl;
-      rec = rec;
-      named = rw r.words r.found;
-    }
+-- nor does it refuse early, but for the end of a transaction that used a record without weight enough
+pub end_late : (txn : TxnId) (k : ℕ) (why : Ending) → is_late why ≡ true → is_early_refusal (answer_of txn k why) ≡ false
+end_late txn k Committed e = refl
+end_late txn k Aborted e = refl
+end_late txn k (LockHeld name at holder) e = refl
+end_late txn k (ViewChanged at held now) e = refl
+end_late txn k (TimedOut at) e = refl
+end_late txn k (Inaccessible name inside total) e = cc
 
-write_says : (catalogue : Catalogue) (txn : TxnId) (p : Pending) (rec : ℕ) (value : List ℕ) (operation : Op) (words : Answer) → Writes catalogue p rec value → operation ≡ op.Write rec value → words ≡ answer.Written txn p.number → SaysDone catalogue txn p operation words
-write_says catalogue txn p rec value operation words r e f =
-    let self = same_txn-self txn in
-    record {
-      report = None;
-      reports = ap (reported txn) f ∙ rw self refl;
-      others = λ u n. let other = same_txn-other txn u n in ap (reported u) f ∙ rw other refl;
-      tells = rw (r.words, r.found, e) refl;
-      late = rw f refl;
-      kind = rw r.words refl;
-      rec = rec;
-      named = rw r.words r.found;
-    }
+deed_others : (txn u : TxnId) (number : ℕ) (deed : Deed) → txn ≢ u → heard u (deed_answer txn number deed) ≡ None
+deed_others txn u number (Deed.operates (op.Read rec None)) n = let other = same_txn-other txn u n in rw other refl
+deed_others txn u number (Deed.operates (op.Read rec (Some value))) n = let other = same_txn-other txn u n in rw other refl
+deed_others txn u number (Deed.operates (op.Write rec None)) n = let other = same_txn-other txn u n in rw other refl
+deed_others txn u number (Deed.operates (op.Write rec (Some value))) n = let other = same_txn-other txn u n in rw other refl
+deed_others txn u number (Deed.weighs rec table) n = let other = same_txn-other txn u n in rw other refl
 
-pub completed_says : (catalogue : Catalogue) (x : SiteState) (given : Input) (t : Live) (p : Pending) (operation : Op) (words : Answer) (l : Lent) → Completes catalogue x given t p operation words l → SaysDone catalogue t.txn p operation words
-completed_says catalogue x given t p operation words l (Completes.own_write rec value next r a v e f g) = read_says catalogue t.txn p rec value operation words r e f
-completed_says catalogue x given t p operation words l (Completes.own_copy rec stored next r a v c free e f g) = read_says catalogue t.txn p rec stored.value operation words r e f
-completed_says catalogue x given t p operation words l (Completes.write_again rec before value next r a v e f g) = write_says catalogue t.txn p rec value operation words r e f
-completed_says catalogue x given t p operation words l (Completes.write_alone rec value next r a v none e f g) = write_says catalogue t.txn p rec value operation words r e f
-completed_says catalogue x given t p operation words l (Completes.read_answered from rec value c last r e f g) = read_says catalogue t.txn p rec value operation words r e f
-completed_says catalogue x given t p operation words l (Completes.write_answered from rec value c last r e f g) = write_says catalogue t.txn p rec value operation words r e f
+deed_late : (txn : TxnId) (number : ℕ) (deed : Deed) → is_early_refusal (deed_answer txn number deed) ≡ false
+deed_late txn number (Deed.operates (op.Read rec None)) = refl
+deed_late txn number (Deed.operates (op.Read rec (Some value))) = refl
+deed_late txn number (Deed.operates (op.Write rec None)) = refl
+deed_late txn number (Deed.operates (op.Write rec (Some value))) = refl
+deed_late txn number (Deed.weighs rec table) = refl
 
--- the reports of a transaction among the replies
+read_reports : (catalogue : Catalogue) (txn : TxnId) (p : Pending) (rec : ℕ) (value : Option (List ℕ)) → Reads catalogue p rec → Reported catalogue txn p (Deed.operates (op.Read rec value))
+read_reports catalogue txn p rec None r = let self = same_txn-self txn in Reported.operated (op.Read rec None) (Some None) rec (rw self refl) (rw (r.words, r.found) refl) (rw r.words refl) (rw r.words r.found)
+read_reports catalogue txn p rec (Some value) r = let self = same_txn-self txn in Reported.operated (op.Read rec (Some value)) (Some (Some value)) rec (rw self refl) (rw (r.words, r.found) refl) (rw r.words refl) (rw r.words r.found)
+
+change_reports : (catalogue : Catalogue) (txn : TxnId) (p : Pending) (deed : Deed) (words : Call) → p.call ≡ words → change_asked catalogue words ≡ Some deed → Reported catalogue txn p deed
+change_reports catalogue txn p deed (call.Write t n name value) e a = go (find_record catalogue name) refl a
+  where
+    go : (o : Option ℕ) → find_record catalogue name ≡ o → option_map (λ rec. Deed.operates (op.Write rec (Some value))) o ≡ Some deed → Reported catalogue txn p deed
+    go None f a = cc
+    go (Some rec) f a = let self = same_txn-self txn in let is : Deed.operates (op.Write rec (Some value)) ≡ deed = cc in subst (Reported catalogue txn p) is (Reported.operated (op.Write rec (Some value)) None rec (rw self refl) (rw (e, f) refl) (rw e refl) (rw e f))
+change_reports catalogue txn p deed (call.Delete t n name) e a = go (find_record catalogue name) refl a
+  where
+    go : (o : Option ℕ) → find_record catalogue name ≡ o → option_map (λ rec. Deed.operates (op.Write rec None)) o ≡ Some deed → Reported catalogue txn p deed
+    go None f a = cc
+    go (Some rec) f a = let self = same_txn-self txn in let is : Deed.operates (op.Write rec None) ≡ deed = cc in subst (Reported catalogue txn p) is (Reported.operated (op.Write rec None) None rec (rw self refl) (rw (e, f) refl) (rw e refl) (rw e f))
+change_reports catalogue txn p deed (call.Weigh t n name table) e a = go (find_record catalogue name) a
+  where
+    go : (o : Option ℕ) → option_map (λ rec. Deed.weighs rec table) o ≡ Some deed → Reported catalogue txn p deed
+    go None a = cc
+    go (Some rec) a = let is : Deed.weighs rec table ≡ deed = cc in subst (Reported catalogue txn p) is (Reported.weighed rec table)
+change_reports catalogue txn p deed (call.Read t n name) e a = cc
+change_reports catalogue txn p deed (call.Commit t n) e a = cc
+change_reports catalogue txn p deed (call.Abort t n) e a = cc
+change_reports catalogue txn p deed call.Begin e a = cc
+change_reports catalogue txn p deed call.Regroup e a = cc
+
+read_says : (catalogue : Catalogue) (txn : TxnId) (p : Pending) (rec : ℕ) (value : Option (List ℕ)) (deed : Deed) → Reads catalogue p rec → deed ≡ Deed.operates (op.Read rec value) → SaysDone catalogue txn p deed
+read_says catalogue txn p rec value deed r e = record { reports = subst (Reported catalogue txn p) (sym e) (read_reports catalogue txn p rec value r); others = λ u n. deed_others txn u p.number deed n; late = deed_late txn p.number deed }
+
+change_says : (catalogue : Catalogue) (txn : TxnId) (p : Pending) (rec : ℕ) (deed : Deed) → Changes catalogue p rec deed → SaysDone catalogue txn p deed
+change_says catalogue txn p rec deed r = record { reports = change_reports catalogue txn p deed p.call refl r.asked; others = λ u n. deed_others txn u p.number deed n; late = deed_late txn p.number deed }
+
+pub completed_says : (catalogue : Catalogue) (x : SiteState) (given : Input) (t : Live) (p : Pending) (deed : Deed) (l : Lent) → Completes catalogue x given t p deed l → SaysDone catalogue t.txn p deed
+completed_says catalogue x given t p deed l (Completes.own_write rec value next r a v e g) = read_says catalogue t.txn p rec value deed r e
+completed_says catalogue x given t p deed l (Completes.own_copy rec stored next r a v c free e g) = read_says catalogue t.txn p rec stored.value deed r e
+completed_says catalogue x given t p deed l (Completes.change_again rec before next r a v g) = change_says catalogue t.txn p rec deed r
+completed_says catalogue x given t p deed l (Completes.change_alone rec next r a v none g) = change_says catalogue t.txn p rec deed r
+completed_says catalogue x given t p deed l (Completes.read_answered from rec value c last r e g) = read_says catalogue t.txn p rec value deed r e
+completed_says catalogue x given t p deed l (Completes.change_answered from rec c last r g) = change_says catalogue t.txn p rec deed r
+
+-- no transaction is closed so here
+pub why_late : (catalogue : Catalogue) (x : SiteState) (given : Input) (after : SiteState) (t : Live) (why : Ending) → Why catalogue x given after t why → is_late why ≡ true
+why_late catalogue x given after t _ (Why.aborted was p at e) = refl
+why_late catalogue x given after t _ (Why.held_here was p name rec exclusive holder at e o f c) = refl
+why_late catalogue x given after t _ (Why.held_there p from name exclusive holder a c o) = refl
+why_late catalogue x given after t _ (Why.other_view p from now a c) = refl
+why_late catalogue x given after t _ (Why.left h e) = refl
+why_late catalogue x given after t _ (Why.timed_out missing h) = refl
+
+-- the reports of a transaction among the replies, and all that they say of calls that are done
 abbrev pub told_of : TxnId → List Reply → List Report
 told_of u rs = filter_map (reported u) (map (λ (r : Reply). r.answer) rs)
+
+abbrev pub heard_of : TxnId → List Reply → List Heard
+heard_of u rs = filter_map (heard u) (map (λ (r : Reply). r.answer) rs)
 
 -- the site keeps the answer
 pub data IsKept (x : SiteState) (a : Answer) : Type 0 where
@@ -104,16 +143,16 @@ pub data IsKept (x : SiteState) (a : Answer) : Type 0 where
 
 -- each reply reports nothing of the transaction, or was given before
 abbrev pub Repeats : SiteState → TxnId → List Reply → Type 0
-Repeats x u rs = (r : Reply) → Has rs r → (reported u r.answer ≡ None) ⊎ IsKept x r.answer
+Repeats x u rs = (r : Reply) → Has rs r → (heard u r.answer ≡ None) ⊎ IsKept x r.answer
 
 -- no reply is an early refusal
 abbrev pub AreLate : List Reply → Type 0
 AreLate rs = (r : Reply) → Has rs r → is_early_refusal r.answer ≡ false
 
 pub data LiveTold (catalogue : Catalogue) (x : SiteState) (given : Input) (rs : List Reply) (t : Live) : Type 0 where
-  was : (u : Live) → Has x.live u → u.txn ≡ t.txn → u.ops ≡ t.ops → u.answers ≡ t.answers → SameCall u.pending t.pending → Repeats x t.txn rs → LiveTold catalogue x given rs t
-  goes : (u : Live) (p q : Pending) → Takes x given u p → u.txn ≡ t.txn → u.ops ≡ t.ops → u.answers ≡ t.answers → t.pending ≡ Some q → p.call ≡ q.call → Repeats x t.txn rs → AreLate rs → LiveTold catalogue x given rs t
-  completed : (u : Live) (p : Pending) (operation : Op) (words : Answer) (l : Lent) → Has x.live u → IsDone x given u p → Completes catalogue x given u p operation words l → done u operation words ≡ t → told_of u.txn rs ≡ told_of u.txn (told_to p.port words ∷ []) → AreLate rs → LiveTold catalogue x given rs t
+  was : (u : Live) → Has x.live u → u.txn ≡ t.txn → u.ops ≡ t.ops → u.tables ≡ t.tables → u.answers ≡ t.answers → SameCall u.pending t.pending → Repeats x t.txn rs → LiveTold catalogue x given rs t
+  goes : (u : Live) (p q : Pending) → Takes x given u p → u.txn ≡ t.txn → u.ops ≡ t.ops → u.tables ≡ t.tables → u.answers ≡ t.answers → t.pending ≡ Some q → p.call ≡ q.call → Repeats x t.txn rs → AreLate rs → LiveTold catalogue x given rs t
+  completed : (u : Live) (p : Pending) (deed : Deed) (l : Lent) → Has x.live u → IsDone x given u p → Completes catalogue x given u p deed l → done u p deed ≡ t → heard_of u.txn rs ≡ heard_of u.txn (told_to p.port (deed_answer u.txn p.number deed) ∷ []) → AreLate rs → LiveTold catalogue x given rs t
   begins : (port : ℕ) (view : View) → given ≡ input.Call port call.Begin → begun (next_name x) view.id ≡ t → Repeats x t.txn rs → LiveTold catalogue x given rs t
 
 pub record ToldNow (catalogue : Catalogue) (x : SiteState) (given : Input) (c : CoordinatorState) (rs : List Reply) (cs : List Commit) : Type 0 where
@@ -121,26 +160,29 @@ pub record ToldNow (catalogue : Catalogue) (x : SiteState) (given : Input) (c : 
   pub others : (u : TxnId) → NotLive x.live u → Repeats x u rs
   pub entered : (e : Commit) → Has cs e → Repeats x e.txn rs
 
-pub plain_unreported : (u : TxnId) (a : Answer) → is_plain a ≡ true → reported u a ≡ None
-plain_unreported u (answer.Value txn number value) e = cc
-plain_unreported u (answer.Written txn number) e = cc
-plain_unreported u _ e = refl
+pub plain_unheard : (u : TxnId) (a : Answer) → is_plain a ≡ true → heard u a ≡ None
+plain_unheard u (answer.Value txn number value) e = cc
+plain_unheard u (answer.Written txn number) e = cc
+plain_unheard u (answer.Absent txn number) e = cc
+plain_unheard u (answer.Deleted txn number) e = cc
+plain_unheard u (answer.Weighed txn number) e = cc
+plain_unheard u _ e = refl
 
 -- what reports nothing of any transaction, and refuses nothing early
 pub record IsSilent (rs : List Reply) : Type 0 where
-  pub reports : (u : TxnId) (r : Reply) → Has rs r → reported u r.answer ≡ None
+  pub reports : (u : TxnId) (r : Reply) → Has rs r → heard u r.answer ≡ None
   pub late : AreLate rs
 
-none_told : (u : TxnId) (rs : List Reply) → ((r : Reply) → Has rs r → reported u r.answer ≡ None) → told_of u rs ≡ []
+none_told : (u : TxnId) (rs : List Reply) → ((r : Reply) → Has rs r → heard u r.answer ≡ None) → heard_of u rs ≡ []
 none_told u [] h = refl
 none_told u (r ∷ rs) h = rw (h r (has_first r rs)) (none_told u rs (λ q k. h q (has_more r rs q k)))
 
-told_more : (u : TxnId) (rs more : List Reply) → ((r : Reply) → Has more r → reported u r.answer ≡ None) → told_of u (rs ++ more) ≡ told_of u rs
+told_more : (u : TxnId) (rs more : List Reply) → ((r : Reply) → Has more r → heard u r.answer ≡ None) → heard_of u (rs ++ more) ≡ heard_of u rs
 told_more u rs more h =
-    ap (filter_map (reported u)) (map-append (λ (r : Reply). r.answer) rs more)
-    ∙ filter_map-append (reported u) (map (λ (r : Reply). r.answer) rs) (map (λ (r : Reply). r.answer) more)
-    ∙ ap (λ (l : List Report). told_of u rs ++ l) (none_told u more h)
-    ∙ append-nil (told_of u rs)
+    ap (filter_map (heard u)) (map-append (λ (r : Reply). r.answer) rs more)
+    ∙ filter_map-append (heard u) (map (λ (r : Reply). r.answer) rs) (map (λ (r : Reply). r.answer) more)
+    ∙ ap (λ (l : List Heard). heard_of u rs ++ l) (none_told u more h)
+    ∙ append-nil (heard_of u rs)
 
 module _ (catalogue : Catalogue) (x : SiteState) (given : Input) where
   repeats_more : (u : TxnId) (rs more : List Reply) → IsSilent more → Repeats x u rs → Repeats x u (rs ++ more)
@@ -150,13 +192,13 @@ module _ (catalogue : Catalogue) (x : SiteState) (given : Input) where
   late_more rs more s h r k = ⊎_elim (λ old. h r old) (λ new. s.late r new) (has_cases rs more r k)
 
   live_more : (rs more : List Reply) (t : Live) → IsSilent more → LiveTold catalogue x given rs t → LiveTold catalogue x given (rs ++ more) t
-  live_more rs more t s (LiveTold.was u h a b c d e) = LiveTold.was u h a b c d (repeats_more t.txn rs more s e)
-  live_more rs more t s (LiveTold.goes u p q at a b c d e f g) = LiveTold.goes u p q at a b c d e (repeats_more t.txn rs more s f) (late_more rs more s g)
-  live_more rs more t s (LiveTold.completed u p operation words l h d c is e g) = LiveTold.completed u p operation words l h d c is (told_more u.txn rs more (s.reports u.txn) ∙ e) (late_more rs more s g)
+  live_more rs more t s (LiveTold.was u h a b gave c d e) = LiveTold.was u h a b gave c d (repeats_more t.txn rs more s e)
+  live_more rs more t s (LiveTold.goes u p q at a b gave c d e f g) = LiveTold.goes u p q at a b gave c d e (repeats_more t.txn rs more s f) (late_more rs more s g)
+  live_more rs more t s (LiveTold.completed u p deed l h d c is e g) = LiveTold.completed u p deed l h d c is (told_more u.txn rs more (s.reports u.txn) ∙ e) (late_more rs more s g)
   live_more rs more t s (LiveTold.begins port view c is e) = LiveTold.begins port view c is (repeats_more t.txn rs more s e)
 
-  pub last_silent : (t : Live) (why : Ending) → IsSilent (last_reply t why)
-  last_silent t why = record { reports = λ u r h. rw (← (last t.pending r h).1) (end_unreported u t.txn (last t.pending r h).0 why); late = λ r h. rw (← (last t.pending r h).1) (end_late t.txn (last t.pending r h).0 why) }
+  pub last_silent : (t : Live) (why : Ending) → is_late why ≡ true → IsSilent (last_reply t why)
+  last_silent t why timely = record { reports = λ u r h. rw (← (last t.pending r h).1) (end_unheard u t.txn (last t.pending r h).0 why); late = λ r h. rw (← (last t.pending r h).1) (end_late t.txn (last t.pending r h).0 why timely) }
     where
       last : (q : Option Pending) (r : Reply) → Has (option_to_list (option_map (λ p. told_to p.port (answer_of t.txn p.number why)) q)) r → (number : ℕ) × (answer_of t.txn number why ≡ r.answer)
       last None r h = absurd (has_none r h)
@@ -177,21 +219,21 @@ module _ (catalogue : Catalogue) (x : SiteState) (given : Input) where
     same_call (Some p) = SameCall.same p p refl refl refl
 
     as_was : (rs : List Reply) (t : Live) → Has x.live t → Repeats x t.txn rs → LiveTold catalogue x given rs t
-    as_was rs t h e = LiveTold.was t h refl refl refl (same_call t.pending) e
+    as_was rs t h e = LiveTold.was t h refl refl refl refl (same_call t.pending) e
 
     starts : G x.coordinator [] []
     starts = record { live = λ t h. as_was [] t h (no_replies t.txn); others = λ u n. no_replies u; entered = λ e h. absurd (has_none e h) }
 
     -- one reply
-    one_reply : (u : TxnId) (port : ℕ) (a : Answer) → (reported u a ≡ None) ⊎ IsKept x a → Repeats x u (told_to port a ∷ [])
-    one_reply u port a h r k = subst (λ (r : Reply). (reported u r.answer ≡ None) ⊎ IsKept x r.answer) (has_one_is (told_to port a) r k) h
+    one_reply : (u : TxnId) (port : ℕ) (a : Answer) → (heard u a ≡ None) ⊎ IsKept x a → Repeats x u (told_to port a ∷ [])
+    one_reply u port a h r k = subst (λ (r : Reply). (heard u r.answer ≡ None) ⊎ IsKept x r.answer) (has_one_is (told_to port a) r k) h
 
-    tells : (u : TxnId) (port : ℕ) (words : Answer) → Tells catalogue x given port words → (reported u words ≡ None) ⊎ IsKept x words
-    tells u _ words (Tells.plain w e port called c is) = inl (plain_unreported u w e)
-    tells u _ words (Tells.inaccessible t p name rec exclusive at operates f a) = inl refl
+    tells : (u : TxnId) (port : ℕ) (words : Answer) → Tells catalogue x given port words → (heard u words ≡ None) ⊎ IsKept x words
+    tells u _ words (Tells.plain w e port called c is) = inl (plain_unheard u w e)
+    tells u _ words (Tells.inaccessible t p name rec exclusive deed weights at op f a e) = inl refl
     tells u _ words (Tells.again t number w h e c) = inr (IsKept.live t h (kept_has number t.answers w e))
     tells u _ words (Tells.finished_again f number w h e c) = inr (IsKept.finished f h (kept_has number f.answers w e))
-    tells u _ words (Tells.ended f number h e c) = inl (end_unreported u f.txn number f.ending)
+    tells u _ words (Tells.ended f number h e c) = inl (end_unheard u f.txn number f.ending)
 
     -- nothing is replied
     silent : (c : CoordinatorState) → ((t : Live) → Has c.live t → LiveTold catalogue x given [] t) → G c [] []
@@ -202,25 +244,26 @@ module _ (catalogue : Catalogue) (x : SiteState) (given : Input) where
     moved u new a k = ⊎_elim (λ (is : a ≡ u). subst (LiveTold catalogue x given []) (sym is) new) (λ old. as_was [] a old.0 (no_replies a.txn)) (change_cases u x.live apart a k)
 
     goes_on : (t u : Live) (p : Pending) → Takes x given t p → Goes t p u → LiveTold catalogue x given [] u
-    goes_on t u p at (Goes.reads rec q) = LiveTold.goes t p (record p { missing = q ∷ [] }) at refl refl refl refl refl (no_replies t.txn) none_early
-    goes_on t u p at (Goes.writes sites) = LiveTold.goes t p (record p { missing = sites }) at refl refl refl refl refl (no_replies t.txn) none_early
-    goes_on t u p at (Goes.prepares sites) = LiveTold.goes t p (record p { missing = sites }) at refl refl refl refl refl (no_replies t.txn) none_early
+    goes_on t u p at (Goes.reads rec q) = LiveTold.goes t p (record p { missing = q ∷ [] }) at refl refl refl refl refl refl (no_replies t.txn) none_early
+    goes_on t u p at (Goes.writes sites) = LiveTold.goes t p (record p { missing = sites }) at refl refl refl refl refl refl (no_replies t.txn) none_early
+    goes_on t u p at (Goes.prepares sites) = LiveTold.goes t p (record p { missing = sites }) at refl refl refl refl refl refl (no_replies t.txn) none_early
 
-    completes : (t : Live) (p : Pending) (operation : Op) (words : Answer) (l : Lent) → Has x.live t → IsDone x given t p → Completes catalogue x given t p operation words l → G (put_live (done t operation words) x.coordinator) (told_to p.port words ∷ []) []
-    completes t p operation words l h d c =
-        let says = completed_says catalogue x given t p operation words l c in
+    completes : (t : Live) (p : Pending) (deed : Deed) (l : Lent) → Has x.live t → IsDone x given t p → Completes catalogue x given t p deed l → G (put_live (done t p deed) x.coordinator) (told_to p.port (deed_answer t.txn p.number deed) ∷ []) []
+    completes t p deed l h d c =
+        let says = completed_says catalogue x given t p deed l c in
+        let words = deed_answer t.txn p.number deed in
         record {
           live = λ a k. ⊎_elim
-              (λ (is : a ≡ done t operation words). LiveTold.completed t p operation words l h d c (sym is) refl (λ r q. subst (λ (r : Reply). is_early_refusal r.answer ≡ false) (has_one_is (told_to p.port words) r q) says.late))
+              (λ (is : a ≡ done t p deed). LiveTold.completed t p deed l h d c (sym is) refl (λ r q. subst (λ (r : Reply). is_early_refusal r.answer ≡ false) (has_one_is (told_to p.port words) r q) says.late))
               (λ old. as_was _ a old.0 (one_reply a.txn p.port words (inl (says.others a.txn (λ e. old.1 (sym e))))))
-              (change_cases (done t operation words) x.live apart a k);
+              (change_cases (done t p deed) x.live apart a k);
           others = λ u n. one_reply u p.port words (inl (says.others u (λ e. n t h e)));
           entered = λ e k. absurd (has_none e k);
         }
 
     commits : (t : Live) (c : CoordinatorState) (cs : List Commit) → c.live ≡ x.live → G (with_finished t Committed c) (last_reply t Committed) cs
     commits t c cs stays =
-        let quiet = last_silent t Committed in
+        let quiet = last_silent t Committed refl in
         record {
           live = λ a k. as_was _ a (rw stays at (without_first_has (named t.txn) c.live a k)) (λ r q. inl (quiet.reports a.txn r q));
           others = λ u n r q. inl (quiet.reports u r q);
@@ -235,18 +278,18 @@ module _ (catalogue : Catalogue) (x : SiteState) (given : Input) where
     }
 
     mark_told : (rs : List Reply) (t : Live) → LiveTold catalogue x given rs t → LiveTold catalogue x given rs (mark t)
-    mark_told rs t (LiveTold.was u h a b c d e) = LiveTold.was u h a b c (marked_same d) e
+    mark_told rs t (LiveTold.was u h a b gave c d e) = LiveTold.was u h a b gave c (marked_same d) e
       where
         marked_same : SameCall u.pending t.pending → SameCall u.pending (mark t).pending
         marked_same (SameCall.none e f) = SameCall.none e (rw f refl)
         marked_same (SameCall.same p q e f g) = SameCall.same p (record q { marked = true }) e (rw f refl) g
-    mark_told rs t (LiveTold.goes u p q at a b c d e f g) = LiveTold.goes u p (record q { marked = true }) at a b c (rw d refl) e f g
-    mark_told rs t (LiveTold.completed u p operation words l h d c is e g) = LiveTold.completed u p operation words l h d c (ap mark is) e g
+    mark_told rs t (LiveTold.goes u p q at a b gave c d e f g) = LiveTold.goes u p (record q { marked = true }) at a b gave c (rw d refl) e f g
+    mark_told rs t (LiveTold.completed u p deed l h d c is e g) = LiveTold.completed u p deed l h d c (ap mark is) e g
     mark_told rs t (LiveTold.begins port view c is e) = LiveTold.begins port view c (ap mark is) e
 
     inviting_silent : (port : ℕ) → IsSilent (told_to port (answer.Inviting (next_view x)) ∷ [])
     inviting_silent port = record {
-      reports = λ u r h. subst (λ (r : Reply). reported u r.answer ≡ None) (has_one_is (told_to port (answer.Inviting (next_view x))) r h) refl;
+      reports = λ u r h. subst (λ (r : Reply). heard u r.answer ≡ None) (has_one_is (told_to port (answer.Inviting (next_view x))) r h) refl;
       late = λ r h. subst (λ (r : Reply). is_early_refusal r.answer ≡ false) (has_one_is (told_to port (answer.Inviting (next_view x))) r h) refl;
     }
 
@@ -264,11 +307,11 @@ module _ (catalogue : Catalogue) (x : SiteState) (given : Input) where
         others = λ u n. one_reply u port words (tells u port words t);
         entered = λ e h. absurd (has_none e h);
       };
-      complete = λ t p operation words l h d c. completes t p operation words l h d c;
+      complete = λ t p deed l h d c. completes t p deed l h d c;
       goes = λ t u p at g. silent (put_live u x.coordinator) (moved u (goes_on t u p at g));
-      still = λ t p sites a. silent (put_live (waiting t p sites) x.coordinator) (moved (waiting t p sites) (LiveTold.was t a.live refl refl refl (SameCall.same p (record p { missing = sites }) a.pending refl refl) (no_replies t.txn)));
+      still = λ t p sites a. silent (put_live (waiting t p sites) x.coordinator) (moved (waiting t p sites) (LiveTold.was t a.live refl refl refl refl (SameCall.same p (record p { missing = sites }) a.pending refl refl) (no_replies t.txn)));
       decide = λ t c n d w v f s. commits t c _ v;
-      close = λ t why c rs n w g. more c (with_finished t why c) rs (last_reply t why) (last_silent t why) (λ a h. without_first_has (named t.txn) c.live a h) g;
+      close = λ t why c rs n w g. more c (with_finished t why c) rs (last_reply t why) (last_silent t why (why_late catalogue x given after t why w)) (λ a h. without_first_has (named t.txn) c.live a h) g;
       marks = λ c rs g. record {
         live = λ a h. let r = map_has mark c.live a h in subst (LiveTold catalogue x given rs) r.2 (mark_told rs r.0 (g.live r.0 r.1));
         others = g.others;

@@ -86,7 +86,7 @@ none_above : (n : ℕ) (rs : List Report) → AllByRecursion (λ (p : Report). p
 none_above n [] h = refl
 none_above n (r ∷ rs) h = let l = h.0 in let z : (r.0 == n + 1) ≡ false = ne_eqb r.0 (n + 1) (λ e. omega arith) in rw z (none_above n rs h.1)
 
-put_above : (n : ℕ) (v : Option (List ℕ)) (rs : List Report) → AllByRecursion (λ (p : Report). p.0 ≤ n) rs → put_at (n + 1) v rs ≡ rs ++ (n + 1, v) ∷ []
+put_above : (n : ℕ) (v : Option (Option (List ℕ))) (rs : List Report) → AllByRecursion (λ (p : Report). p.0 ≤ n) rs → put_at (n + 1) v rs ≡ rs ++ (n + 1, v) ∷ []
 put_above n v [] h = refl
 put_above n v (r ∷ rs) h =
     let l = h.0 in
@@ -94,7 +94,7 @@ put_above n v (r ∷ rs) h =
     let z : nat_lt (n + 1) r.0 ≡ false = le-ltb (n + 1) r.0 (omega arith) in
     rw (y, z) (ap (λ w. r ∷ w) (put_above n v rs h.1))
 
-put_last : (n : ℕ) (v : Option (List ℕ)) (rs : List Report) → AllByRecursion (λ (p : Report). p.0 ≤ n) rs → put_first (n + 1, v) rs ≡ rs ++ (n + 1, v) ∷ []
+put_last : (n : ℕ) (v : Option (Option (List ℕ))) (rs : List Report) → AllByRecursion (λ (p : Report). p.0 ≤ n) rs → put_first (n + 1, v) rs ≡ rs ++ (n + 1, v) ∷ []
 put_last n v rs h = rw (none_above n rs h) (put_above n v rs h)
 
 one_more : (a n : ℕ) → a ≤ n → a ≤ n + 1
@@ -105,7 +105,7 @@ one_told f r operation e = rw e refl
 
 -- an operation is done: the line reports it under the next number, which a call has taken by then
 pub record IsDoneNow (catalogue : Catalogue) (lines : List Line) (l : Line) (u : TxnId) (number : ℕ) (operation : Op) : Type 0 where
-  pub report : Option (List ℕ)
+  pub report : Option (Option (List ℕ))
   pub words : Call
   -- it is reported under this number
   pub reports : reports (lines ++ l ∷ []) u ≡ put_first (number, report) (reports lines u)
@@ -117,6 +117,15 @@ pub record IsDoneNow (catalogue : Catalogue) (lines : List Line) (l : Line) (u :
   pub tells : told_by catalogue report words ≡ Some operation
 
 module _ (catalogue : Catalogue) (lines : List Line) (l : Line) (u : TxnId) where
+  -- a call is done that is no operation: nothing is reported, and its number is taken
+  pub silent_next : (last : ℕ) (pending : Option Pending) (ops : List Op) → TellsCall catalogue lines u last pending ops → reports (lines ++ l ∷ []) u ≡ reports lines u → ((k : ℕ) → last + 1 < k → find (takes u k) (lines ++ l ∷ []) ≡ None) → TellsCall catalogue (lines ++ l ∷ []) u (last + 1) None ops
+  silent_next last pending ops h e free = record {
+    so_far = tells_on catalogue lines l u ops h.so_far e;
+    below = rw e (all_each (λ (p : Report). p.0 ≤ last) (λ (p : Report). p.0 ≤ last + 1) (λ p h. one_more p.0 last h) (reports lines u) h.below);
+    taken = λ q e. cc;
+    untaken = free;
+  }
+
   pub done_next : (last : ℕ) (pending : Option Pending) (ops : List Op) (operation : Op) → TellsCall catalogue lines u last pending ops → IsDoneNow catalogue lines l u (last + 1) operation → TellsCall catalogue (lines ++ l ∷ []) u (last + 1) None (ops ++ operation ∷ [])
   unfolding tell
   done_next last pending ops operation h d =

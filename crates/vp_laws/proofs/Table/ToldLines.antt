@@ -12,15 +12,15 @@ use Rattle.vp_model.specs.Told.{answers_in, reported, put_first, reports, takes,
 use Rattle.vp_model.specs.World.{Moment}
 use Rattle.vp_laws.proofs.Journal.Play.{value_put}
 
--- a number, with the value that was read or none for a write
+-- a number, with the content that was read or none for a change
 abbrev pub Report : Type 0
-Report = ℕ × Option (List ℕ)
+Report = ℕ × Option (Option (List ℕ))
 
 -- the reports with those of these answers
 abbrev pub collected : TxnId → List Answer → List Report → List Report
 collected u answers before = for_each (filter_map (reported u) answers) put_first before
 
-flat_last : {X Y : Type 0} (f : X → List Y) (xs : List X) (x : X) → flat_map f (xs ++ x ∷ []) ≡ flat_map f xs ++ f x
+pub flat_last : {X Y : Type 0} (f : X → List Y) (xs : List X) (x : X) → flat_map f (xs ++ x ∷ []) ≡ flat_map f xs ++ f x
 flat_last f [] x = append-nil (f x)
 flat_last f (y ∷ xs) x = ap (λ z. f y ++ z) (flat_last f xs x) ∙ sym (append_assoc (f y) (flat_map f xs) (f x))
 

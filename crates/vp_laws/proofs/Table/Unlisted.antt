@@ -22,7 +22,7 @@ use Rattle.vp_laws.proofs.Lists.Changes.{mapped_has, put_new, put_old}
 use Rattle.vp_laws.proofs.Lists.Views.{AtMost, AtMost-refl, AtMost-trans, same_site}
 use Rattle.vp_laws.proofs.Moves.LocalViews.{Tidy}
 use Rattle.vp_laws.proofs.Moves.Table.{Comes, Left, Table}
-use Rattle.vp_laws.proofs.Table.Copies.{AnswerNow, value_pair}
+use Rattle.vp_laws.proofs.Table.Copies.{AnswerNow, OnceEach, value_pair}
 use Rattle.vp_laws.proofs.Table.CopyAt.{CopiesAt, newest_each, replaced_not, table as copies_table, starts as copies_start}
 use Rattle.vp_laws.proofs.Moves.Rows.{step-keeps}
 use Rattle.vp_laws.proofs.Journal.UpTo.{up_to_from}
@@ -100,12 +100,12 @@ took rec own best o v = go (view_before own.date best.date) refl
       here = λ c f. let same : own ≡ c = cc in subst (λ (c : Stored). AtMost best.date c.date) same (up_to_from own.date best.date e);
     }
 
-module _ (catalogue : Catalogue) (x : SiteState) (given : Input) (tidy : Tidy x) (listed : (r : Refreshing) → Has x.refresh r → (v : View) × (x.held ≡ Some v)) where
+module _ (catalogue : Catalogue) (x : SiteState) (given : Input) (tidy : Tidy x) (listed : (r : Refreshing) → Has x.refresh r → (v : View) × (x.held ≡ Some v)) (once : OnceEach x given) where
   abbrev P : Stepped → Type 0
   P = Unlisting catalogue x given
 
   abbrev b : Table catalogue x given (CopiesAt catalogue x given)
-  b = copies_table catalogue x given tidy listed
+  b = copies_table catalogue x given tidy listed once
 
   -- in the view of the start, with all that was under refresh then
   first : (e : Stepped) → e.site.held ≡ x.held → ((r : Refreshing) → Has x.refresh r → (q : Refreshing) × Has e.site.refresh q × (q.rec ≡ r.rec)) → CopiesAt catalogue x given e → P e
@@ -211,7 +211,7 @@ module _ (catalogue : Catalogue) (x : SiteState) (given : Input) (tidy : Tidy x)
       begin = λ port view e g u. stays _ refl refl (b.coordinator.begin port view e g u);
       answers = λ words port why y. stays _ refl refl (b.coordinator.answers words port why y);
       take_lock = λ t rec exclusive stored h i a v c. stays _ refl refl (b.coordinator.take_lock t rec exclusive stored h i a v c);
-      complete = λ t p operation words l h g y e q. stays _ refl refl (b.coordinator.complete t p operation words l h g y e q.base);
+      complete = λ t p deed l h g y e q. stays _ refl refl (b.coordinator.complete t p deed l h g y e q.base);
       read_at = λ t p rec q h n r a w c o y. stays _ refl refl (b.coordinator.read_at t p rec q h n r a w c o y);
       write_at = λ t p rec value l h n w a e o d y v q. stays _ refl refl (b.coordinator.write_at t p rec value l h n w a e o d y v q.base);
       prepare_parts = λ t p h i g e. stays _ refl refl (b.coordinator.prepare_parts t p h i g e);
@@ -225,7 +225,7 @@ module _ (catalogue : Catalogue) (x : SiteState) (given : Input) (tidy : Tidy x)
   }
 
   starts : P (begin_step x)
-  starts = stays (begin_step x) refl refl (copies_start catalogue x given tidy listed)
+  starts = stays (begin_step x) refl refl (copies_start catalogue x given tidy listed once)
 
-pub unlisting-step : (catalogue : Catalogue) (x : SiteState) (given : Input) → Tidy x → ((r : Refreshing) → Has x.refresh r → (v : View) × (x.held ≡ Some v)) → Unlisting catalogue x given (step catalogue x given)
-unlisting-step catalogue x given tidy listed = step-keeps catalogue x given (Unlisting catalogue x given) (table catalogue x given tidy listed) (starts catalogue x given tidy listed)
+pub unlisting-step : (catalogue : Catalogue) (x : SiteState) (given : Input) → Tidy x → ((r : Refreshing) → Has x.refresh r → (v : View) × (x.held ≡ Some v)) → OnceEach x given → Unlisting catalogue x given (step catalogue x given)
+unlisting-step catalogue x given tidy listed once = step-keeps catalogue x given (Unlisting catalogue x given) (table catalogue x given tidy listed once) (starts catalogue x given tidy listed once)

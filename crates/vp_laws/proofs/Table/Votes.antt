@@ -1,7 +1,8 @@
 -- Prepares and votes: a prepare belongs to a live transaction whose commit is pending, and a vote answers a prepare.
 use Rattle.std.proofs.Common.{◌≡◌, ◌∙◌, ap, sym, ℕ, Bool, true, false, List, [], ◌∷◌, ◌++◌, map, refl, inl, inr, ⊎_elim, append-nil, subst}
 use Rattle.std.specs.Prelude.{Option, Some, None, is_some, ◌==◌, not, filter}
-use Rattle.vp_model.specs.Types.{Change, ViewId, TxnId, View, Stored, Op, Answer, Message, Sent, Input, Part, Refreshing, Pending, Live, Ending, Doubt}
+use Rattle.vp_laws.proofs.Moves.Calls.{changes_no_commit, done}
+use Rattle.vp_model.specs.Types.{Change, ViewId, TxnId, View, Stored, Message, Sent, Input, Part, Refreshing, Pending, Live, Ending, Doubt}
 use Rattle.vp_base.specs.declared.site.Ending.TheVariants.{Committed}
 use Rattle.vp_model.specs.Types.answer
 use Rattle.vp_model.specs.Types.message
@@ -10,7 +11,7 @@ use Rattle.vp_model.specs.Words.{same_txn, change_first, without_first, for_each
 use Rattle.vp_model.specs.Catalogue.{Catalogue}
 use Rattle.vp_model.specs.Durable.{doubt_of}
 use Rattle.vp_model.specs.Site.{CoordinatorState, reply, SiteState, Lent, Stepped, begin_step, lent, put_back, letters, change_views, change_refresh, send}
-use Rattle.vp_model.specs.Transactions.{last_changes, entry_of, keep_writes, complete, wait_for, writes_held}
+use Rattle.vp_model.specs.Transactions.{Deed, last_changes, entry_of, keep_writes, complete, wait_for, writes_held}
 use Rattle.vp_model.specs.Refresh.{newest, take_newer, unlist, end_refresh, start_refresh, other_holders}
 use Rattle.vp_model.specs.Views.{part_of, other_sites, drop_view, start_inviting, invite, hold}
 use Rattle.vp_model.specs.Calls.{begun, start_txn, take_lock, read_at, write_at, prepare_parts, prepare_for, records_read_at}
@@ -34,7 +35,7 @@ SameCall before now = (p : Pending) → before ≡ Some p → (q : Pending) × (
 
 -- what a live transaction was as the step began
 pub data LiveFrom (x : SiteState) (t : Live) : Type 0 where
-  same : (u : Live) → Has x.live u → t.txn ≡ u.txn → t.view ≡ u.view → t.ops ≡ u.ops → t.remote ≡ u.remote → t.parts ≡ u.parts → SameCall u.pending t.pending → LiveFrom x t
+  same : (u : Live) → Has x.live u → t.txn ≡ u.txn → t.view ≡ u.view → entry_of t ≡ entry_of u → t.remote ≡ u.remote → t.parts ≡ u.parts → SameCall u.pending t.pending → LiveFrom x t
   operating : (u : Live) → Has x.live u → t.txn ≡ u.txn → IsOperating u → LiveFrom x t
   new : t.txn ≡ next_name x → LiveFrom x t
 
@@ -90,13 +91,13 @@ some_not (Some q) p e n = cc
 pub operating_not : (o : Option Pending) (p q : Pending) → o ≡ Some p → o ≡ Some q → is_commit p.call ≡ true → is_commit q.call ≡ false → ⊥
 operating_not o p q a b c d = let same : p ≡ q = cc in let e = ap (λ (p : Pending). is_commit p.call) same in cc
 
-pub completes_operating : (catalogue : Catalogue) (x : SiteState) (given : Input) (t : Live) (p : Pending) (operation : Op) (words : Answer) (l : Lent) → Completes catalogue x given t p operation words l → IsOperating t
-completes_operating catalogue x given t p operation words l (Completes.own_write rec value next r a v o w e) = inl next.idle
-completes_operating catalogue x given t p operation words l (Completes.own_copy rec stored next r a v c f o w e) = inl next.idle
-completes_operating catalogue x given t p operation words l (Completes.write_again rec before value next r a v o w e) = inl next.idle
-completes_operating catalogue x given t p operation words l (Completes.write_alone rec value next r a v n o w e) = inl next.idle
-completes_operating catalogue x given t p operation words l (Completes.read_answered from rec value c last r o w e) = inr (p, last.pending, ap is_commit r.words)
-completes_operating catalogue x given t p operation words l (Completes.write_answered from rec value c last r o w e) = inr (p, last.pending, ap is_commit r.words)
+pub completes_operating : (catalogue : Catalogue) (x : SiteState) (given : Input) (t : Live) (p : Pending) (deed : Deed) (l : Lent) → Completes catalogue x given t p deed l → IsOperating t
+completes_operating catalogue x given t p deed l (Completes.own_write rec value next r a v o e) = inl next.idle
+completes_operating catalogue x given t p deed l (Completes.own_copy rec stored next r a v c f o e) = inl next.idle
+completes_operating catalogue x given t p deed l (Completes.change_again rec before next r a v e) = inl next.idle
+completes_operating catalogue x given t p deed l (Completes.change_alone rec next r a v n e) = inl next.idle
+completes_operating catalogue x given t p deed l (Completes.read_answered from rec value c last r o e) = inr (p, last.pending, ap is_commit r.words)
+completes_operating catalogue x given t p deed l (Completes.change_answered from rec c last r e) = inr (p, last.pending, changes_no_commit catalogue p rec deed r)
 
 module _ (catalogue : Catalogue) (x : SiteState) (given : Input) (led : Led x) (apart : Apart x.live) where
   begins : Votes catalogue x given (begin_step x)
@@ -318,7 +319,7 @@ module _ (catalogue : Catalogue) (x : SiteState) (given : Input) (led : Led x) (
       begin = λ port view e g u. begins_one port view;
       answers = λ words port why y. hushed (lent_at x) _ refl refl begins;
       take_lock = λ t rec exclusive stored h i a v c. hushed (lent_at x) _ refl refl begins;
-      complete = λ t p operation words l h g y e q. put_on (record t { ops = t.ops ++ operation ∷ []; answers = t.answers ++ words ∷ []; pending = None }) t (put_back (begin_step x) l) (put_back (begin_step x) (complete t p operation words l)) [] h (completes_operating catalogue x given t p operation words l g) refl e refl refl (sym (append-nil l.effects.messages)) (λ m k. absurd (has_none m k)) q;
+      complete = λ t p deed l h g y e q. put_on (done t p deed) t (put_back (begin_step x) l) (put_back (begin_step x) (complete t p deed l)) [] h (completes_operating catalogue x given t p deed l g) refl e refl refl (sym (append-nil l.effects.messages)) (λ m k. absurd (has_none m k)) q;
       read_at = λ t p rec q h n r a w c o y. put_on (record t { remote = t.remote ++ (q, rec) ∷ []; parts = put_number q t.parts; pending = Some (record p { missing = q ∷ [] }) }) t (begin_step x) (put_back (begin_step x) (read_at x.id t p rec q (lent_at x))) (letter x.id q (message.ReadRequest t.txn t.view p.number rec) ∷ []) h (inl n.idle) refl refl refl refl refl (letter_still x.id q (message.ReadRequest t.txn t.view p.number rec) refl) begins;
       write_at = λ t p rec value l h n w a e o d y v q. put_on (record t { parts = for_each (other_holders catalogue x rec) put_number t.parts; pending = Some (record p { missing = other_holders catalogue x rec }) }) t (put_back (begin_step x) l) (put_back (begin_step x) (write_at x.id t p rec (other_holders catalogue x rec) l)) (letters x.id (λ q. message.WriteRequest t.txn t.view p.number rec) (other_holders catalogue x rec)) h (inl n.idle) refl v refl refl refl (letters_still x.id (λ q. message.WriteRequest t.txn t.view p.number rec) (other_holders catalogue x rec) (λ q. refl)) q;
       prepare_parts = λ t p h i g e. prepares_parts t p h i.idle g;

@@ -131,7 +131,7 @@ module _ (catalogue : Catalogue) (x : SiteState) (given : Input) (settled : (d :
     begin = λ port view e g u. beside x.coordinator _ [] _ [] refl starts;
     answers = λ words port why y. starts;
     take_lock = λ t rec exclusive stored h i a v c. starts;
-    complete = λ t p operation words l h g y e r. beside l.coordinator _ l.effects.messages _ l.effects.commits refl r;
+    complete = λ t p deed l h g y e r. beside l.coordinator _ l.effects.messages _ l.effects.commits refl r;
     read_at = λ t p rec q h n r a w c o y. beside x.coordinator _ [] _ [] refl starts;
     write_at = λ t p rec value l h n w a e o d y v r. beside l.coordinator _ l.effects.messages _ l.effects.commits refl r;
     prepare_parts = λ t p h i g e. beside x.coordinator _ [] _ [] refl starts;

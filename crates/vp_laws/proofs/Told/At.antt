@@ -100,6 +100,8 @@ called u t k n e = let p = both_true (same_txn t u) (n == k) e in rw (same_txn-i
 pub call_of : (u : TxnId) (k : ℕ) (words : Call) → is_call u k words ≡ true → IsCallOf u k words
 call_of u k (call.Read t n name) e = subst (λ (p : TxnId × ℕ). IsCallOf u k (call.Read p.0 p.1 name)) (called u t k n e) (IsCallOf.of_read name)
 call_of u k (call.Write t n name value) e = subst (λ (p : TxnId × ℕ). IsCallOf u k (call.Write p.0 p.1 name value)) (called u t k n e) (IsCallOf.of_write name value)
+call_of u k (call.Delete t n name) e = subst (λ (p : TxnId × ℕ). IsCallOf u k (call.Delete p.0 p.1 name)) (called u t k n e) (IsCallOf.of_delete name)
+call_of u k (call.Weigh t n name table) e = subst (λ (p : TxnId × ℕ). IsCallOf u k (call.Weigh p.0 p.1 name table)) (called u t k n e) (IsCallOf.of_weigh name table)
 call_of u k (call.Commit t n) e = subst (λ (p : TxnId × ℕ). IsCallOf u k (call.Commit p.0 p.1)) (called u t k n e) IsCallOf.of_commit
 call_of u k (call.Abort t n) e = subst (λ (p : TxnId × ℕ). IsCallOf u k (call.Abort p.0 p.1)) (called u t k n e) IsCallOf.of_abort
 call_of u k call.Begin e = cc

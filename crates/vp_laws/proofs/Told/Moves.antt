@@ -9,11 +9,12 @@ use Rattle.vp_model.specs.Words.{same_txn, value_at, put_at, for_each}
 use Rattle.vp_model.specs.Catalogue.{Catalogue}
 use Rattle.vp_model.specs.Durable.{DurableState}
 use Rattle.vp_model.specs.Site.{SiteState, Lent, Stepped}
-use Rattle.vp_model.specs.Transactions.{answer_of}
+use Rattle.vp_model.specs.Transactions.{with_operation, deed_answer, Deed, answer_of}
 use Rattle.vp_model.specs.Step.{step}
 use Rattle.vp_model.specs.World.{WorldState, Moment}
 use Rattle.vp_model.specs.Told.{answers_in, call_in, reported, put_first, reports, is_call, takes, taken_call}
 use Rattle.vp_laws.proofs.Table.ToldLines.{Report, collected, reports-last, IsReported, reported_lasts, Tells, IsUnheard, tells_on, unheard_on, taken_on}
+use Rattle.vp_laws.proofs.Table.Heard.{heard, unheard_report, same_told}
 use Rattle.vp_laws.proofs.Journal.Play.{value_put}
 use Rattle.vp_laws.proofs.Lists.Members.{Has, has_none, has_cases, has_one_is, map_has}
 use Rattle.vp_laws.proofs.Lists.Changes.{mapped_has}
@@ -25,7 +26,7 @@ use Rattle.vp_laws.proofs.Table.Led.{Led}
 use Rattle.vp_laws.proofs.Table.Endings.{NotLive, Settled}
 use Rattle.vp_laws.proofs.Table.Finished.{EndsNow}
 use Rattle.vp_laws.proofs.Table.Calls.{CallSays, call_said}
-use Rattle.vp_laws.proofs.Table.Told.{SaysDone, completed_says, told_of, IsKept, Repeats, AreLate, LiveTold, ToldNow, told-step, end_unreported}
+use Rattle.vp_laws.proofs.Table.Told.{Reported, SaysDone, completed_says, told_of, heard_of, IsKept, Repeats, AreLate, LiveTold, ToldNow, told-step, end_unheard}
 use Rattle.vp_laws.proofs.Worlds.Scenes.{Scene, scene_of, plain_at, kept_at, acted}
 use Rattle.vp_laws.proofs.Worlds.Events.{Arrives}
 use Rattle.vp_laws.proofs.Worlds.Sites.{NowIs, now_is}
@@ -33,7 +34,7 @@ use Rattle.vp_laws.proofs.Invariant.Views.{SiteOk}
 use Rattle.vp_laws.proofs.Invariant.Names.{UsedTxn}
 use Rattle.vp_laws.proofs.Moves.Reasons.{Takes, IsDone, told_to}
 use Rattle.vp_laws.proofs.Replies.FairStep.{IsStep}
-use Rattle.vp_laws.proofs.Table.ToldCalls.{reach, TellsCall, SameCall, as_pending, call_on, call_taken, taken_now, untaken_on, done_next, begins}
+use Rattle.vp_laws.proofs.Table.ToldCalls.{silent_next, reach, TellsCall, SameCall, as_pending, call_on, call_taken, taken_now, untaken_on, done_next, begins}
 use Rattle.vp_laws.proofs.Told.At.{ToldAt, same_reports, taking, takes_now, call_of, gives_call, call_gives, has_holders}
 use Rattle.vp_laws.proofs.Keeping.Does.{Does, does}
 use Rattle.vp_laws.proofs.Keeping.Endings.{fresh}
@@ -128,7 +129,11 @@ module _ (catalogue : Catalogue) (world : WorldState) (lines : List Line) (m0 : 
   reports_now u = reports-last lines line u ∙ ap (λ (z : List Answer). collected u z (reports lines u)) answered
 
   pub repeats_now : (u : TxnId) → Repeats x u o.effects.replies → reports more u ≡ reports lines u
-  repeats_now u h = reports_now u ∙ same_reports u o.effects.replies (reports lines u) (λ r q v e. ⊎_elim (λ (none : reported u r.answer ≡ None). cc) (λ kept. told.kept s x r.answer up kept u v e) (h r q))
+  repeats_now u h = reports_now u ∙ same_reports u o.effects.replies (reports lines u) (λ r q v e. ⊎_elim (λ none. let z = unheard_report u r.answer none in cc) (λ kept. told.kept s x r.answer up kept u v e) (h r q))
+
+  -- what is heard of a call that is done is reported
+  told_one : (u : Live) (p : Pending) (deed : Deed) → heard_of u.txn o.effects.replies ≡ heard_of u.txn (told_to p.port (deed_answer u.txn p.number deed) ∷ []) → told_of u.txn o.effects.replies ≡ told_of u.txn (told_to p.port (deed_answer u.txn p.number deed) ∷ [])
+  told_one u p deed one = same_told u.txn (map (λ (r : Reply). r.answer) o.effects.replies) (deed_answer u.txn p.number deed ∷ []) one
 
   -- numbers
   took : (u : TxnId) (j : ℕ) → takes u j line ≡ true → CallSays x u j o.site.live o.effects.replies × AreLate o.effects.replies
@@ -210,32 +215,25 @@ module _ (catalogue : Catalogue) (world : WorldState) (lines : List Line) (m0 : 
 
   -- live transactions
   live_told : (a : Live) → Has o.site.live a → LiveTold catalogue x given o.effects.replies a → TellsCall catalogue more a.txn (length a.answers) a.pending a.ops
-  live_told a now (LiveTold.was u h named did same pending repeats) =
+  live_told a now (LiveTold.was u h named did gave same pending repeats) =
       let r : Repeats x u.txn o.effects.replies = subst (λ (txn : TxnId). Repeats x txn o.effects.replies) (sym named) repeats in
       let on = call_on catalogue lines line u.txn (length u.answers) u.ops u.pending (told.live s x u up h) (repeats_now u.txn r) (untaken_same u a h now (sym named) (sym same) pending) in
       moved_tells catalogue more a.pending u.txn a.txn u.ops a.ops u.answers a.answers named did same (as_pending catalogue more u.txn (length u.answers) u.ops u.pending a.pending pending on)
-  live_told a now (LiveTold.goes u p q at named did same pending alike repeats late) =
+  live_told a now (LiveTold.goes u p q at named did gave same pending alike repeats late) =
       let r : Repeats x u.txn o.effects.replies = subst (λ (txn : TxnId). Repeats x txn o.effects.replies) (sym named) repeats in
       let before = subst (λ (o : Option Pending). TellsCall catalogue lines u.txn (length u.answers) o u.ops) (none_of u.pending at.next.idle) (told.live s x u up at.live) in
       let on = call_taken catalogue lines line u.txn (length u.answers) u.ops p before (repeats_now u.txn r) (call_here u p at) (takes_next u p at late) (untaken_beyond u at.live) in
       moved_tells catalogue more a.pending u.txn a.txn u.ops a.ops u.answers a.answers named did same (as_pending catalogue more u.txn (length u.answers) u.ops (Some p) a.pending (SameCall.same p q refl pending alike) on)
-  live_told a now (LiveTold.completed u p operation words l h how c made one late) =
-      let says = completed_says catalogue x given u p operation words l c in
-      let number : p.number ≡ length u.answers + 1 = done_number u p h how in
-      let before = told.live s x u up h in
-      let on = done_next catalogue lines line u.txn (length u.answers) u.pending u.ops operation before (record {
-        report = says.report;
-        words = p.call;
-        reports = reports_now u.txn ∙ ap (λ (z : List Report). for_each z put_first (reports lines u.txn)) (one ∙ single says number);
-        taken = done_call u p h how late;
-        untaken = λ j above. untaken_on lines line u.txn j (its_rest how j above) (untaken_beyond u h j above);
-        tells = says.tells;
-      }) in
+  live_told a now (LiveTold.completed u p deed l h how c made one late) =
+      let says = completed_says catalogue x given u p deed l c in
       subst (λ (a : Live). TellsCall catalogue more a.txn (length a.answers) a.pending a.ops) made
-      (subst (λ (n : ℕ). TellsCall catalogue more u.txn n None (u.ops ++ operation ∷ [])) (sym (length-append u.answers (words ∷ []))) on)
+      (subst (λ (n : ℕ). TellsCall catalogue more u.txn n None (with_operation deed u.ops)) (sym (length-append u.answers (deed_answer u.txn p.number deed ∷ []))) (next deed says.reports (told_one u p deed one)))
     where
-      single : (says : SaysDone catalogue u.txn p operation words) → p.number ≡ length u.answers + 1 → told_of u.txn (told_to p.port words ∷ []) ≡ (length u.answers + 1, says.report) ∷ []
-      single says number = rw (says.reports, number) refl
+      number : p.number ≡ length u.answers + 1
+      number = done_number u p h how
+
+      single : (operation : Op) (report : Option (Option (List ℕ))) → reported u.txn (deed_answer u.txn p.number (Deed.operates operation)) ≡ Some (p.number, report) → told_of u.txn (told_to p.port (deed_answer u.txn p.number (Deed.operates operation)) ∷ []) ≡ (length u.answers + 1, report) ∷ []
+      single operation report is = rw (is, number) refl
 
       its_rest : IsDone x given u p → (j : ℕ) → length u.answers + 1 < j → find (takes u.txn j) lines ≡ None
       its_rest how j above = (told.live s x u up h).untaken j (within u.pending j above)
@@ -243,6 +241,19 @@ module _ (catalogue : Catalogue) (world : WorldState) (lines : List Line) (m0 : 
           within : (q : Option Pending) (j : ℕ) → length u.answers + 1 < j → reach (length u.answers) q < j
           within None j above = omega (arith, above)
           within (Some q) j above = omega (arith, above)
+
+      next : (d : Deed) → Reported catalogue u.txn p d → told_of u.txn o.effects.replies ≡ told_of u.txn (told_to p.port (deed_answer u.txn p.number d) ∷ []) → TellsCall catalogue more u.txn (length u.answers + 1) None (with_operation d u.ops)
+      next (Deed.operates operation) (Reported.operated _ report rec is tells kind named) one = done_next catalogue lines line u.txn (length u.answers) u.pending u.ops operation (told.live s x u up h) (record {
+        report = report;
+        words = p.call;
+        reports = reports_now u.txn ∙ ap (λ (z : List Report). for_each z put_first (reports lines u.txn)) (one ∙ single operation report is);
+        taken = done_call u p h how late;
+        untaken = λ j above. untaken_on lines line u.txn j (its_rest how j above) (untaken_beyond u h j above);
+        tells = tells;
+      })
+      next (Deed.weighs rec table) (Reported.weighed _ _) one = silent_next catalogue lines line u.txn (length u.answers) u.pending u.ops (told.live s x u up h)
+          (reports_now u.txn ∙ ap (λ (z : List Report). for_each z put_first (reports lines u.txn)) one)
+          (λ j above. untaken_on lines line u.txn j (its_rest how j above) (untaken_beyond u h j above))
   live_told a now (LiveTold.begins port view c made repeats) =
       let name = next_name x in
       let unheard = told.fresh name (λ used. fresh w s x up ok.id name used refl) in
@@ -313,28 +324,27 @@ module _ (catalogue : Catalogue) (world : WorldState) (lines : List Line) (m0 : 
   unreported : (a : Answer) → ((u : TxnId) → reported u a ≡ None) → IsReported more a
   unreported a none u v e = let z = none u in cc
 
-  done_kept : (u : Live) (p : Pending) (operation : Op) (words : Answer) → SaysDone catalogue u.txn p operation words → told_of u.txn o.effects.replies ≡ told_of u.txn (told_to p.port words ∷ []) → IsReported more words
-  done_kept u p operation words says one txn v e = ⊎_elim
-      (λ (mine : u.txn ≡ txn). subst (λ (n : TxnId). is_some (value_at v.0 (reports more n)) ≡ true) mine (its_own (sym says.reports ∙ ap (λ (n : TxnId). reported n words) mine ∙ e)))
-      (λ (other : u.txn ≢ txn). let z = says.others txn other in cc)
+  done_kept : (u : Live) (p : Pending) (deed : Deed) → SaysDone catalogue u.txn p deed → told_of u.txn o.effects.replies ≡ told_of u.txn (told_to p.port (deed_answer u.txn p.number deed) ∷ []) → IsReported more (deed_answer u.txn p.number deed)
+  done_kept u p deed says one txn v e = ⊎_elim
+      (λ (mine : u.txn ≡ txn). subst (λ (n : TxnId). is_some (value_at v.0 (reports more n)) ≡ true) mine (its_own (ap (λ (n : TxnId). reported n (deed_answer u.txn p.number deed)) mine ∙ e)))
+      (λ (other : u.txn ≢ txn). let z = unheard_report txn _ (says.others txn other) in cc)
       (same_or_not u.txn txn)
     where
-      its_own : Some (p.number, says.report) ≡ Some v → is_some (value_at v.0 (reports more u.txn)) ≡ true
+      its_own : reported u.txn (deed_answer u.txn p.number deed) ≡ Some v → is_some (value_at v.0 (reports more u.txn)) ≡ true
       its_own same =
-          let is_v : (p.number, says.report) ≡ v = cc in
-          let one_report : told_of u.txn (told_to p.port words ∷ []) ≡ v ∷ [] = rw says.reports (ap (λ (v : Report). v ∷ []) is_v) in
+          let one_report : told_of u.txn (told_to p.port (deed_answer u.txn p.number deed) ∷ []) ≡ v ∷ [] = rw same refl in
           let now : reports more u.txn ≡ put_first v (reports lines u.txn) = reports_now u.txn ∙ ap (λ (z : List Report). for_each z put_first (reports lines u.txn)) (one ∙ one_report) in
           rw now (put_there v (reports lines u.txn))
 
   -- what holds of the answers that were kept, of what speaks of no operation and of an operation that is done now, holds of all that are kept
-  module _ (R : Answer → Type 0) (old : (a : Answer) → IsKept x a → R a) (none : (a : Answer) → ((u : TxnId) → reported u a ≡ None) → R a) (doing : (u : Live) (p : Pending) (operation : Op) (words : Answer) (l : Lent) → Has x.live u → IsDone x given u p → Completes catalogue x given u p operation words l → told_of u.txn o.effects.replies ≡ told_of u.txn (told_to p.port words ∷ []) → AreLate o.effects.replies → R words) where
+  module _ (R : Answer → Type 0) (old : (a : Answer) → IsKept x a → R a) (none : (a : Answer) → ((u : TxnId) → heard u a ≡ None) → R a) (doing : (u : Live) (p : Pending) (deed : Deed) (l : Lent) → Has x.live u → IsDone x given u p → Completes catalogue x given u p deed l → heard_of u.txn o.effects.replies ≡ heard_of u.txn (told_to p.port (deed_answer u.txn p.number deed) ∷ []) → AreLate o.effects.replies → R (deed_answer u.txn p.number deed)) where
     live_kept : (v : Live) → LiveTold catalogue x given o.effects.replies v → (a : Answer) → Has v.answers a → R a
-    live_kept v (LiveTold.was u h named did same pending repeats) a there = old a (IsKept.live u h (rw same there))
-    live_kept v (LiveTold.goes u p q at named did same pending alike repeats late) a there = old a (IsKept.live u at.live (rw same there))
-    live_kept v (LiveTold.completed u p operation words l h how c made one late) a there = ⊎_elim
+    live_kept v (LiveTold.was u h named did gave same pending repeats) a there = old a (IsKept.live u h (rw same there))
+    live_kept v (LiveTold.goes u p q at named did gave same pending alike repeats late) a there = old a (IsKept.live u at.live (rw same there))
+    live_kept v (LiveTold.completed u p deed l h how c made one late) a there = ⊎_elim
         (λ before. old a (IsKept.live u h before))
-        (λ added. subst R (has_one_is words a added) (doing u p operation words l h how c one late))
-        (has_cases u.answers (words ∷ []) a (rw (← ap (λ (t : Live). t.answers) made) at there))
+        (λ added. subst R (has_one_is (deed_answer u.txn p.number deed) a added) (doing u p deed l h how c one late))
+        (has_cases u.answers (deed_answer u.txn p.number deed ∷ []) a (rw (← ap (λ (t : Live). t.answers) made) at there))
     live_kept v (LiveTold.begins port view c made repeats) a there = absurd (has_none a (rw (← ap (λ (t : Live). t.answers) made) at there))
 
     ended_kept : (f : Finished) → EndsNow x f → (a : Answer) → Has f.answers a → R a
@@ -345,14 +355,14 @@ module _ (catalogue : Catalogue) (world : WorldState) (lines : List Line) (m0 : 
       where
         of_pending : (p : Option Pending) → Has (option_to_list (option_map (λ (p : Pending). answer_of e.handled.txn p.number e.why) p)) a → R a
         of_pending None h = absurd (has_none a h)
-        of_pending (Some p) h = subst R (has_one_is _ a h) (none (answer_of e.handled.txn p.number e.why) (λ u. end_unreported u e.handled.txn p.number e.why))
+        of_pending (Some p) h = subst R (has_one_is _ a h) (none (answer_of e.handled.txn p.number e.why) (λ u. end_unheard u e.handled.txn p.number e.why))
 
     pub kept_here : (a : Answer) → IsKept o.site a → R a
     kept_here a (IsKept.live v h there) = live_kept v (t.live v h) a there
     kept_here a (IsKept.finished f h there) = ⊎_elim (λ before. old a (IsKept.finished f before there)) (λ now. ended_kept f now a there) (d.finished f h)
 
   reported_here : (a : Answer) → IsKept o.site a → IsReported more a
-  reported_here = kept_here (IsReported more) old_kept unreported (λ u p operation words l h how c one late. done_kept u p operation words (completed_says catalogue x given u p operation words l c) one)
+  reported_here = kept_here (IsReported more) old_kept (λ a none. unreported a (λ u. unheard_report u a (none u))) (λ u p deed l h how c one late. done_kept u p deed (completed_says catalogue x given u p deed l c) (told_one u p deed one))
 
   kept_now : (j : ℕ) (y : SiteState) (a : Answer) → IsKept y a → NowIs w s o.site j y → IsReported more a
   kept_now j y a h (NowIs.other away old) = reported_lasts lines line a (told.kept j y a old h)

@@ -2,7 +2,8 @@
 -- by a write.
 use Rattle.std.proofs.Common.{◌≡◌, ◌≢◌, ◌∙◌, ap, sym, subst, ℕ, ◌+◌, true, false, List, [], ◌∷◌, ◌++◌, map, length, ⊎_elim}
 use Rattle.std.specs.Prelude.{Some, None}
-use Rattle.vp_model.specs.Types.{TxnId, Op, Call, Answer, Event, Input, Line, Reply, Pending, Live}
+use Rattle.vp_model.specs.Transactions.{deed_answer, Deed}
+use Rattle.vp_model.specs.Types.{TxnId, Call, Answer, Event, Input, Line, Reply, Pending, Live}
 use Rattle.vp_model.specs.Catalogue.{Catalogue, start_copies}
 use Rattle.vp_model.specs.Durable.{empty_durable}
 use Rattle.vp_model.specs.Site.{SiteState, Lent}
@@ -10,6 +11,7 @@ use Rattle.vp_model.specs.Step.{step}
 use Rattle.vp_model.specs.Told.{is_step, answers_in, replies_in, reported, taken_call, named_in}
 use Rattle.vp_model.specs.World.{WorldState, Moved, Moment, Run, Schedule, moment, next, one_step, site_step, start_world, moments_of}
 use Rattle.vp_laws.proofs.Table.ToldLines.{Report, lines_in, lines_last, taken_on}
+use Rattle.vp_laws.proofs.Table.Heard.{unheard_report}
 use Rattle.vp_laws.specs.Reports.{is_of_kind, RepliesFitCalls}
 use Rattle.vp_laws.proofs.Lists.Members.{Has, has_of, has_none, has_cases, has_one_is, map_has}
 use Rattle.vp_laws.proofs.Lists.Changes.{mapped_has}
@@ -20,7 +22,7 @@ use Rattle.vp_laws.proofs.Worlds.Occurs.{no_replies, Occurs, occurs, RunLasts, r
 use Rattle.vp_laws.proofs.Replies.FairStep.{IsStep}
 use Rattle.vp_laws.proofs.Moves.Reasons.{IsDone}
 use Rattle.vp_laws.proofs.Moves.Table.{Completes}
-use Rattle.vp_laws.proofs.Table.Told.{SaysDone, completed_says, IsKept, AreLate}
+use Rattle.vp_laws.proofs.Table.Told.{Reported, SaysDone, completed_says, IsKept, AreLate}
 use Rattle.vp_laws.proofs.Table.Reports.{Cause, causes-step}
 use Rattle.vp_laws.proofs.Told.At.{ToldAt}
 use Rattle.vp_laws.proofs.Told.Moves.{same_or_not, done_number, done_call, kept_here}
@@ -78,32 +80,38 @@ module _ (catalogue : Catalogue) (world : WorldState) (lines : List Line) (m0 : 
   old_fits : (a : Answer) → IsKept x a → Fits catalogue more a
   old_fits a k = fits_on catalogue lines m0.line a (h.kept s x a up k)
 
-  done_fits : (t : Live) (p : Pending) (operation : Op) (words : Answer) (l : Lent) → Has x.live t → IsDone x given t p → Completes catalogue x given t p operation words l → AreLate (step catalogue x given).effects.replies → Fits catalogue more words
-  done_fits t p operation words l here how c late u r e = ⊎_elim
+  done_fits : (t : Live) (p : Pending) (deed : Deed) (l : Lent) → Has x.live t → IsDone x given t p → Completes catalogue x given t p deed l → AreLate (step catalogue x given).effects.replies → Fits catalogue more (deed_answer t.txn p.number deed)
+  done_fits t p deed l here how c late u r e = ⊎_elim
       (λ (mine : t.txn ≡ u).
-      let r_is : Some (p.number, says.report) ≡ Some r = sym says.reports ∙ ap (λ (n : TxnId). reported n words) mine ∙ e in
-      let same : (p.number, says.report) ≡ r = cc in (
+      let fits = kind deed says.reports r (ap (λ (n : TxnId). reported n (deed_answer t.txn p.number deed)) mine ∙ e) in (
         p.call,
-        says.rec,
-        ap (λ (n : ℕ). taken_call more u n) (sym (ap (λ (r : Report). r.0) same) ∙ number)
+        fits.1,
+        ap (λ (n : ℕ). taken_call more u n) (fits.0 ∙ number)
             ∙ ap (λ (n : TxnId). taken_call more n (length t.answers + 1)) (sym mine)
             ∙ done_call catalogue world lines m0 s x given up arrives is told t p here how late,
-        says.named,
-        ap (λ (r : Report). is_of_kind r.1 p.call) (sym same) ∙ says.kind,
+        fits.2,
+        fits.3,
       ))
-      (λ (other : t.txn ≢ u). absurd (let z = says.others u other in cc))
+      (λ (other : t.txn ≢ u). absurd (let z = unheard_report u _ (says.others u other) in cc))
       (same_or_not t.txn u)
     where
-      says : SaysDone catalogue t.txn p operation words
-      says = completed_says catalogue x given t p operation words l c
+      says : SaysDone catalogue t.txn p deed
+      says = completed_says catalogue x given t p deed l c
+
+      kind : (d : Deed) → Reported catalogue t.txn p d → (r : Report) → reported t.txn (deed_answer t.txn p.number d) ≡ Some r → (r.0 ≡ p.number) × (rec : ℕ) × (named_in catalogue p.call ≡ Some rec) × (is_of_kind r.1 p.call ≡ true)
+      kind (Deed.operates operation) (Reported.operated _ report rec is tells fit named) r e =
+          let r_is : Some (p.number, report) ≡ Some r = sym is ∙ e in
+          let same : (p.number, report) ≡ r = cc in
+          (ap (λ (r : Report). r.0) (sym same), rec, named, ap (λ (r : Report). is_of_kind r.1 p.call) (sym same) ∙ fit)
+      kind (Deed.weighs rec table) (Reported.weighed _ _) r e = cc
 
       number : p.number ≡ length t.answers + 1
       number = done_number catalogue world lines m0 s x given up arrives is told t p here how
 
   caused : (a : Answer) → Cause catalogue x given (step catalogue x given).effects.replies a → Fits catalogue more a
-  caused a (Cause.nothing none) = silent_fits catalogue more a none
+  caused a (Cause.nothing none) = silent_fits catalogue more a (λ u. unheard_report u a (none u))
   caused a (Cause.kept k) = old_fits a k
-  caused a (Cause.done t p operation l here how c late) = done_fits t p operation a l here how c late
+  caused _ (Cause.done t p deed l here how c late) = done_fits t p deed l here how c late
 
   answers_now : (a : Answer) → Has (answers_in m0.line) a → Fits catalogue more a
   answers_now a said =
@@ -114,7 +122,7 @@ module _ (catalogue : Catalogue) (world : WorldState) (lines : List Line) (m0 : 
   kept_now : (j : ℕ) (y : SiteState) (a : Answer) → IsKept y a → NowIs (scene_of world) s (step catalogue x given).site j y → Fits catalogue more a
   kept_now j y a k (NowIs.other away old) = fits_on catalogue lines m0.line a (h.kept j y a old k)
   kept_now j y a k (NowIs.here here same) =
-      kept_here catalogue world lines m0 s x given up arrives is told (Fits catalogue more) old_fits (silent_fits catalogue more) (λ t p operation words l here how c one late. done_fits t p operation words l here how c late) a (subst (λ (y : SiteState). IsKept y a) (sym same) k)
+      kept_here catalogue world lines m0 s x given up arrives is told (Fits catalogue more) old_fits (λ a none. silent_fits catalogue more a (λ u. unheard_report u a (none u))) (λ t p deed l here how c one late. done_fits t p deed l here how c late) a (subst (λ (y : SiteState). IsKept y a) (sym same) k)
 
   step_fits : FitsAt catalogue (acted (scene_of world) s x (step catalogue x given)) more
   step_fits = record {

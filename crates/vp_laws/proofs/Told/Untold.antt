@@ -3,22 +3,23 @@ use Rattle.std.proofs.Common.{◌≡◌, ◌⊎◌, ◌∙◌, ap, sym, subst, �
 use Rattle.std.specs.Prelude.{Option, Some, None, option_map, option_to_list, nat_le}
 use Rattle.std.specs.List.{AllByRecursion, list_any}
 use Rattle.std.proofs.lemmas.Bool.Decides.{nat_tests}
-use Rattle.vp_model.specs.Types.{TxnId, Op, Obstacle, Answer, Input, Line, Pending, Live, Ending, Finished, Reply}
-use Rattle.vp_base.specs.declared.site.Ending.TheVariants.{Committed, Aborted, LockHeld, ViewChanged, TimedOut}
+use Rattle.vp_model.specs.Types.{TxnId, Obstacle, Call, Answer, Input, Line, Pending, Live, Ending, Finished, Reply}
+use Rattle.vp_base.specs.declared.site.Ending.TheVariants.{Committed, Aborted, LockHeld, ViewChanged, TimedOut, Inaccessible}
 use Rattle.vp_model.specs.Types.answer
 use Rattle.vp_model.specs.Types.call
 use Rattle.vp_model.specs.Types.input
 use Rattle.vp_model.specs.Types.message
-use Rattle.vp_model.specs.Catalogue.{Catalogue}
+use Rattle.vp_model.specs.Catalogue.{Catalogue, Table as Weights}
 use Rattle.vp_model.specs.Site.{SiteState, Lent, Stepped}
-use Rattle.vp_model.specs.Transactions.{answer_of, answers_after}
-use Rattle.vp_model.specs.Calls.{on_call}
+use Rattle.vp_model.specs.Transactions.{Deed, answer_of, answers_after}
+use Rattle.vp_model.specs.Calls.{change_asked, on_call}
 use Rattle.vp_model.specs.Messages.{on_message}
 use Rattle.vp_model.specs.Step.{step, on_input}
 use Rattle.vp_model.specs.Told.{answers_in, reported, reports}
 use Rattle.vp_model.specs.World.{WorldState, Moment}
 use Rattle.vp_model.specs.Justified.{told_from}
 use Rattle.vp_laws.proofs.Table.ToldLines.{Report, reports-silent}
+use Rattle.vp_laws.proofs.Table.Heard.{heard}
 use Rattle.vp_laws.proofs.Table.ToldCalls.{TellsCall}
 use Rattle.vp_laws.proofs.Lists.Members.{Has, has_none, has_cases, has_one_is, map_has}
 use Rattle.vp_laws.proofs.Moves.Table.{Comes, Handled, Completes}
@@ -54,6 +55,7 @@ untold_same lines more txn e n Aborted h = tt
 untold_same lines more txn e n (LockHeld name at holder) h = tt
 untold_same lines more txn e n (ViewChanged at held now) h = subst (λ (rs : List Report). list_any (λ (r : Report). nat_le n r.0) rs ≡ false) (sym e) h
 untold_same lines more txn e n (TimedOut at) h = tt
+untold_same lines more txn e n (Inaccessible name inside total) h = tt
 
 end_same : (lines more : List Line) (f : Finished) → reports more f.txn ≡ reports lines f.txn → UntoldEnd lines f → UntoldEnd more f
 end_same lines more f e h = record {
@@ -92,6 +94,7 @@ same_end txn n k Aborted e = cc
 same_end txn n k (LockHeld name at holder) e = cc
 same_end txn n k (ViewChanged at held now) e = cc
 same_end txn n k (TimedOut at) e = cc
+same_end txn n k (Inaccessible name inside total) e = cc
 
 end_unreport : (txn : TxnId) (n : ℕ) (why : Ending) → is_report (answer_of txn n why) ≡ false
 end_unreport txn n Committed = refl
@@ -99,6 +102,7 @@ end_unreport txn n Aborted = refl
 end_unreport txn n (LockHeld name at holder) = refl
 end_unreport txn n (ViewChanged at held now) = refl
 end_unreport txn n (TimedOut at) = refl
+end_unreport txn n (Inaccessible name inside total) = refl
 
 free_untold : (lines : List Line) (a : Answer) → is_free a ≡ true → Untold lines a
 free_untold lines (answer.ViewChanged txn number at held now) e = cc
@@ -117,7 +121,15 @@ written_holds : (catalogue : Catalogue) (x : SiteState) (port : ℕ) (txn : TxnI
 unfolding step on_input on_call
 written_holds catalogue x port txn number name value = refl
 
-answered_holds : (catalogue : Catalogue) (x : SiteState) (from : ℕ) (txn : TxnId) (number : ℕ) (value : List ℕ) → (step catalogue x (input.Message from (message.ReadAnswer txn number value))).site.held ≡ x.held
+deleted_holds : (catalogue : Catalogue) (x : SiteState) (port : ℕ) (txn : TxnId) (number : ℕ) (name : List ℕ) → (step catalogue x (input.Call port (call.Delete txn number name))).site.held ≡ x.held
+unfolding step on_input on_call
+deleted_holds catalogue x port txn number name = refl
+
+weighed_holds : (catalogue : Catalogue) (x : SiteState) (port : ℕ) (txn : TxnId) (number : ℕ) (name : List ℕ) (table : Weights) → (step catalogue x (input.Call port (call.Weigh txn number name table))).site.held ≡ x.held
+unfolding step on_input on_call
+weighed_holds catalogue x port txn number name table = refl
+
+answered_holds : (catalogue : Catalogue) (x : SiteState) (from : ℕ) (txn : TxnId) (number : ℕ) (value : Option (List ℕ)) → (step catalogue x (input.Message from (message.ReadAnswer txn number value))).site.held ≡ x.held
 unfolding step on_input on_message
 answered_holds catalogue x from txn number value = refl
 
@@ -132,25 +144,32 @@ module _ (catalogue : Catalogue) (x : SiteState) (given : Input) where
   by_read : (p : Pending) (txn : TxnId) (number : ℕ) (name : List ℕ) → given ≡ input.Call p.port p.call → p.call ≡ call.Read txn number name → Holds given
   by_read p txn number name comes words = subst Holds (sym (comes ∙ ap (input.Call p.port) words)) (called_holds catalogue x p.port txn number name)
 
-  by_write : (p : Pending) (txn : TxnId) (number : ℕ) (name value : List ℕ) → given ≡ input.Call p.port p.call → p.call ≡ call.Write txn number name value → Holds given
-  by_write p txn number name value comes words = subst Holds (sym (comes ∙ ap (input.Call p.port) words)) (written_holds catalogue x p.port txn number name value)
+  by_change : (p : Pending) (deed : Deed) (words : Call) → given ≡ input.Call p.port p.call → p.call ≡ words → change_asked catalogue words ≡ Some deed → Holds given
+  by_change p deed (call.Write txn number name value) comes words a = subst Holds (sym (comes ∙ ap (input.Call p.port) words)) (written_holds catalogue x p.port txn number name value)
+  by_change p deed (call.Delete txn number name) comes words a = subst Holds (sym (comes ∙ ap (input.Call p.port) words)) (deleted_holds catalogue x p.port txn number name)
+  by_change p deed (call.Weigh txn number name table) comes words a = subst Holds (sym (comes ∙ ap (input.Call p.port) words)) (weighed_holds catalogue x p.port txn number name table)
+  by_change p deed (call.Read txn number name) comes words a = cc
+  by_change p deed (call.Commit txn number) comes words a = cc
+  by_change p deed (call.Abort txn number) comes words a = cc
+  by_change p deed call.Begin comes words a = cc
+  by_change p deed call.Regroup comes words a = cc
 
-  completes_holds : (t : Live) (p : Pending) (operation : Op) (words : Answer) (l : Lent) → Completes catalogue x given t p operation words l → Holds given
-  completes_holds t p operation words l (Completes.own_write rec value next r a v e f g) = by_read p r.txn r.number r.name next.comes r.words
-  completes_holds t p operation words l (Completes.own_copy rec stored next r a v c free e f g) = by_read p r.txn r.number r.name next.comes r.words
-  completes_holds t p operation words l (Completes.write_again rec before value next r a v e f g) = by_write p r.txn r.number r.name value next.comes r.words
-  completes_holds t p operation words l (Completes.write_alone rec value next r a v none e f g) = by_write p r.txn r.number r.name value next.comes r.words
-  completes_holds t p operation words l (Completes.read_answered from rec value c last r e f g) = subst Holds (sym c) (answered_holds catalogue x from t.txn p.number value)
-  completes_holds t p operation words l (Completes.write_answered from rec value c last r e f g) = subst Holds (sym c) (done_holds catalogue x from t.txn p.number)
+  completes_holds : (t : Live) (p : Pending) (deed : Deed) (l : Lent) → Completes catalogue x given t p deed l → Holds given
+  completes_holds t p deed l (Completes.own_write rec value next r a v e g) = by_read p r.txn r.number r.name next.comes r.words
+  completes_holds t p deed l (Completes.own_copy rec stored next r a v c free e g) = by_read p r.txn r.number r.name next.comes r.words
+  completes_holds t p deed l (Completes.change_again rec before next r a v g) = by_change p deed p.call next.comes refl r.asked
+  completes_holds t p deed l (Completes.change_alone rec next r a v none g) = by_change p deed p.call next.comes refl r.asked
+  completes_holds t p deed l (Completes.read_answered from rec value c last r e g) = subst Holds (sym c) (answered_holds catalogue x from t.txn p.number value)
+  completes_holds t p deed l (Completes.change_answered from rec c last r g) = subst Holds (sym c) (done_holds catalogue x from t.txn p.number)
 
   -- and takes no refusal
-  completes_unrefused : (t : Live) (p : Pending) (operation : Op) (words : Answer) (l : Lent) (from : ℕ) (txn : TxnId) (number : ℕ) (why : Obstacle) → Completes catalogue x given t p operation words l → Comes given from (message.Refuse txn number why) → ⊥
-  completes_unrefused t p operation words l from txn number why (Completes.own_write rec value next r a v e f g) c = let z = next.comes in cc
-  completes_unrefused t p operation words l from txn number why (Completes.own_copy rec stored next r a v k free e f g) c = let z = next.comes in cc
-  completes_unrefused t p operation words l from txn number why (Completes.write_again rec before value next r a v e f g) c = let z = next.comes in cc
-  completes_unrefused t p operation words l from txn number why (Completes.write_alone rec value next r a v none e f g) c = let z = next.comes in cc
-  completes_unrefused t p operation words l from txn number why (Completes.read_answered q rec value k last r e f g) c = cc
-  completes_unrefused t p operation words l from txn number why (Completes.write_answered q rec value k last r e f g) c = cc
+  completes_unrefused : (t : Live) (p : Pending) (deed : Deed) (l : Lent) (from : ℕ) (txn : TxnId) (number : ℕ) (why : Obstacle) → Completes catalogue x given t p deed l → Comes given from (message.Refuse txn number why) → ⊥
+  completes_unrefused t p deed l from txn number why (Completes.own_write rec value next r a v e g) c = let z = next.comes in cc
+  completes_unrefused t p deed l from txn number why (Completes.own_copy rec stored next r a v k free e g) c = let z = next.comes in cc
+  completes_unrefused t p deed l from txn number why (Completes.change_again rec before next r a v g) c = let z = next.comes in cc
+  completes_unrefused t p deed l from txn number why (Completes.change_alone rec next r a v none g) c = let z = next.comes in cc
+  completes_unrefused t p deed l from txn number why (Completes.read_answered q rec value k last r e g) c = cc
+  completes_unrefused t p deed l from txn number why (Completes.change_answered q rec k last r g) c = cc
 
 module _ (catalogue : Catalogue) (world : WorldState) (lines : List Line) (m0 : Moment) (s : ℕ) (x : SiteState) (given : Input) (up : plain_at (scene_of world) s ≡ Some x) (arrives : Arrives (scene_of world) s given) (is : IsStep m0 world s x given (step catalogue x given)) (told : ToldAt catalogue (scene_of world) lines) (h : UntoldAt (scene_of world) lines) where
   abbrev w : Scene
@@ -194,13 +213,13 @@ module _ (catalogue : Catalogue) (world : WorldState) (lines : List Line) (m0 : 
   old_end f there = elsewhere_end f (λ u g. settled.finished f u there g) (h s x f up there)
 
   -- where the step leaves the view, or takes a refusal, it answers no operation
-  no_operation : ((t : Live) (p : Pending) (operation : Op) (words : Answer) (l : Lent) → Has x.live t → Completes catalogue x given t p operation words l → ⊥) → (u : TxnId) → Repeats x u o.effects.replies
-  no_operation none u r there = go (causes-step catalogue x given r there)
+  no_operation : ((t : Live) (p : Pending) (deed : Deed) (l : Lent) → Has x.live t → Completes catalogue x given t p deed l → ⊥) → (u : TxnId) → Repeats x u o.effects.replies
+  no_operation none u r there = go r.answer (causes-step catalogue x given r there)
     where
-      go : Cause catalogue x given o.effects.replies r.answer → (reported u r.answer ≡ None) ⊎ IsKept x r.answer
-      go (Cause.nothing e) = inl (e u)
-      go (Cause.kept q) = inr q
-      go (Cause.done t p operation l live how completes late) = absurd (none t p operation r.answer l live completes)
+      go : (a : Answer) → Cause catalogue x given o.effects.replies a → (heard u a ≡ None) ⊎ IsKept x a
+      go a (Cause.nothing e) = inl (e u)
+      go a (Cause.kept q) = inr q
+      go _ (Cause.done t p deed l live how completes late) = absurd (none t p deed l live completes)
 
   beyond : (t : Live) (n : ℕ) → Has x.live t → length t.answers + 1 ≤ n → Repeats x t.txn o.effects.replies → told_from more t.txn n ≡ false
   beyond t n live above repeats =
@@ -216,9 +235,9 @@ module _ (catalogue : Catalogue) (world : WorldState) (lines : List Line) (m0 : 
   closed_untold t why n (Why.held_here was p name rec exclusive holder at e op f g) above = tt
   closed_untold t why n (Why.held_there p from name exclusive holder a q op) above = tt
   closed_untold t why n (Why.other_view p from now a came) above =
-      beyond t n a.live (above a.live) (no_operation (λ v q operation words l live completes. completes_unrefused catalogue x given v q operation words l from t.txn p.number _ completes came) t.txn)
+      beyond t n a.live (above a.live) (no_operation (λ v q deed l live completes. completes_unrefused catalogue x given v q deed l from t.txn p.number _ completes came) t.txn)
   closed_untold t why n (Why.left live gone) above =
-      beyond t n live (above live) (no_operation (λ v q operation words l there completes. left_holds t live gone (completes_holds catalogue x given v q operation words l completes)) t.txn)
+      beyond t n live (above live) (no_operation (λ v q deed l there completes. left_holds t live gone (completes_holds catalogue x given v q deed l completes)) t.txn)
   closed_untold t why n (Why.timed_out missing live) above = tt
 
   next_number : (t : Live) (p : Pending) → t.pending ≡ Some p → Has x.live t → length t.answers + 1 ≤ p.number
@@ -226,7 +245,7 @@ module _ (catalogue : Catalogue) (world : WorldState) (lines : List Line) (m0 : 
 
   reply_untold : (a : Answer) → ReplyFrom catalogue x given o.site a → Untold more a
   reply_untold a (ReplyFrom.free b e) = free_untold more b e
-  reply_untold a (ReplyFrom.inaccessible t p name rec exclusive at op found e) = tt
+  reply_untold a (ReplyFrom.inaccessible t p name rec exclusive deed weights at op found tries e) = tt
   reply_untold a (ReplyFrom.repeated f place b there q c) = ⊎_elim
       (λ r. report_untold more b r)
       (λ (r : (number : ℕ) × (b ≡ answer_of f.txn number f.ending)). subst (Untold more) (sym r.1) ((old_end f there).answers r.0 (subst (Has f.answers) r.1 (kept_has place f.answers b q))))

@@ -2,7 +2,6 @@
 use Rattle.std.proofs.Common.{◌≡◌, ◌∙◌, ap, sym, subst, ℕ, true, List, refl}
 use Rattle.std.specs.Prelude.{Option, Some, None, option_map, slice_get}
 use Rattle.std.specs.List.{Contains}
-use Rattle.std.proofs.lemmas.Slice.Eq.{bytes_eq-Decides}
 use Rattle.vp_model.specs.Types.{View, Commit, Stored, Doubt}
 use Rattle.vp_model.specs.Words.{keys, value_at, opening}
 use Rattle.vp_model.specs.Catalogue.{Catalogue, holders, accessible, start_values, start_copies}
@@ -24,9 +23,10 @@ use Rattle.vp_laws.proofs.Invariant.Held.{InvHeld}
 use Rattle.vp_laws.proofs.Invariant.Views.{InvViews}
 use Rattle.vp_laws.proofs.Journal.Acts.{after_all}
 use Rattle.vp_laws.proofs.Journal.Order.{order_has}
+use Rattle.vp_laws.proofs.Journal.Play.{same_content-self}
 use Rattle.vp_laws.proofs.Journal.Playing.{serial_value}
 use Rattle.vp_laws.proofs.Journal.UpTo.{up_to_from}
-use Rattle.vp_laws.proofs.Journal.ValuesAfter.{Wrote, writes_over, value_in, value_up_to, leaves_value}
+use Rattle.vp_laws.proofs.Journal.ValuesAfter.{Content, content_of, started, Wrote, writes_over, value_in, value_up_to, leaves_value}
 use Rattle.vp_laws.proofs.Keeping.Stopping.{shared_holder}
 use Rattle.vp_laws.proofs.Copies.Brought.{doubt_on}
 use Rattle.vp_laws.proofs.Copies.Facts.{entry_closes, still_below}
@@ -63,19 +63,28 @@ module _ (catalogue : Catalogue) (w : Scene) (inv : Invariant catalogue w) (site
       let u = inv.copies.above q.0 rec c.0 e v.0 c.1 h wrote (still_below c.0.date copy.date e.view (newest q.0 c.0 q.2 c.1) above) (v.1, v.2) q.3 in
       certain q.0 u.0 q.2 u.1 (doubt_on catalogue w inv.known.shares e q.0 rec u.0 h wrote q.1 u.1 u.2)
 
-  -- so the value of the copy's date is the last one
-  value_last : option_map (λ start. value_in rec start (order w.journal)) (slice_get (start_values catalogue) rec) ≡ Some copy.value
+  -- so the content of the copy's date is the last one
+  value_last : option_map (λ start. value_in rec (started start) (order w.journal)) (slice_get (start_values catalogue) rec) ≡ Some (content_of copy)
   value_last = at_start (slice_get (start_values catalogue) rec) ∙ inv.copies.value s rec copy is (λ d on. certain s d here on.0 on.1)
     where
-      at_start : (o : Option (List ℕ)) → option_map (λ start. value_in rec start (order w.journal)) o ≡ option_map (λ start. value_up_to rec start w.journal copy.date) o
+      at_start : (o : Option (Option (List ℕ))) → option_map (λ start. value_in rec (started start) (order w.journal)) o ≡ option_map (λ start. value_up_to rec (started start) w.journal copy.date) o
       at_start None = refl
-      at_start (Some start) = ap (λ (value : List ℕ). Some value) (after_all (writes_over rec) start copy.date (order w.journal) (λ f h above. leaves_value f rec (none_above f (order_has w.journal f h) above)))
+      at_start (Some start) = ap (λ (content : Content). Some content) (after_all (writes_over rec) (started start) copy.date (order w.journal) (λ f h above. leaves_value f rec (none_above f (order_has w.journal f h) above)))
 
   told : has_value (serial (start_values catalogue) (order w.journal)) rec copy.value ≡ true
-  told = has_it (serial (start_values catalogue) (order w.journal)) inv.order.serial.0 inv.order.serial.1 (serial_value rec (order w.journal) (start_values catalogue) inv.order.serial.0 inv.order.serial.1 ∙ value_last)
+  told = has_it (serial (start_values catalogue) (order w.journal)) inv.order.serial.0 inv.order.serial.1 (reads (slice_get (start_values catalogue) rec) refl)
     where
       has_it : (o : Option Values) (m : Values) → o ≡ Some m → slice_get m rec ≡ Some copy.value → has_value o rec copy.value ≡ true
-      has_it o m e f = rw (e, f) ((bytes_eq-Decides copy.value copy.value).1 refl)
+      has_it o m e f = rw (e, f) (same_content-self copy.value)
+
+      reads : (o : Option (Option (List ℕ))) → slice_get (start_values catalogue) rec ≡ o → slice_get inv.order.serial.0 rec ≡ Some copy.value
+      reads None e =
+          let z = subst (λ (q : Option (Option (List ℕ))). option_map (λ start. value_in rec (started start) (order w.journal)) q ≡ Some (content_of copy)) e value_last in
+          cc
+      reads (Some start) e =
+          let z : Some (value_in rec (started start) (order w.journal)) ≡ Some (content_of copy) = subst (λ (q : Option (Option (List ℕ))). option_map (λ start. value_in rec (started start) (order w.journal)) q ≡ Some (content_of copy)) e value_last in
+          let last : value_in rec (started start) (order w.journal) ≡ content_of copy = cc in
+          serial_value rec (order w.journal) (start_values catalogue) inv.order.serial.0 (started start) inv.order.serial.1 e ∙ ap (λ (content : Content). Some content.value) last
 
 doubts_same : (o : Option Place) → doubts_in o ≡ (kept_in o).doubts
 doubts_same None = refl

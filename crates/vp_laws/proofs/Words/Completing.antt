@@ -15,7 +15,7 @@ use Rattle.vp_model.specs.Words.{same_txn, same_owner, has, is_empty, value_at, 
 use Rattle.vp_model.specs.Catalogue.{Catalogue}
 use Rattle.vp_model.specs.Locks.{conflicting, conflict, least_owner}
 use Rattle.vp_model.specs.Site.{SiteState, Lent}
-use Rattle.vp_model.specs.Transactions.{live_of, last_writes, with_pending_reply, finish, keep_writes, decided, decide, complete}
+use Rattle.vp_model.specs.Transactions.{entry_of, deed_answer, Deed, live_of, last_writes, with_pending_reply, finish, keep_writes, decided, decide, complete}
 use Rattle.vp_model.specs.Refresh.{is_open}
 use Rattle.vp_model.specs.Calls.{take_lock, lock_here, with_record, read, new_call, live_call, on_txn_call, own_call, on_call}
 use Rattle.vp_model.specs.Answers.{with_missing, voted, on_vote, on_answer}
@@ -25,6 +25,7 @@ use Rattle.vp_model.specs.Headline.{is_locked}
 use Rattle.vp_model.specs.World.{Schedule, run_of}
 use Rattle.vp_laws.specs.Votes.{is_commit}
 use Rattle.vp_laws.specs.Completeness.{LastVotesCommit, IsNextOperation, ReadableCopiesAreRead}
+use Rattle.vp_laws.proofs.Journal.Changed.{operation_changed}
 use Rattle.vp_laws.proofs.Lists.Members.{Has, has_of, contains, has_none, has_first, has_more, has_cons, any_false, either_false, both_true, not_true, has_test}
 use Rattle.vp_model.proofs.SameTxn.{same_txn-is, same_txn-self}
 use Rattle.vp_laws.proofs.Lists.Names.{Apart}
@@ -61,7 +62,7 @@ pending_reply txn o p e is none = rw (is, none) refl
 
 -- a decision makes the entry and answers the commit
 record Decided (t : Live) (p : Pending) (l : Lent) : Type 0 where
-  commits : l.effects.commits ≡ (record { txn = t.txn; view = t.view; ops = t.ops }) ∷ []
+  commits : l.effects.commits ≡ (entry_of t) ∷ []
   replies : l.effects.replies ≡ (record { to = p.port; answer = answer.Committed t.txn p.number }) ∷ []
 
 decides : (catalogue : Catalogue) (x : SiteState) (t : Live) (p : Pending) → t.pending ≡ Some p → Decided t p (decide catalogue x.id t (lent_at x))
@@ -78,6 +79,8 @@ vote_decides catalogue x from t p live pending commit missing last = let done = 
     go (call.Commit txn number) e = rw last refl
     go (call.Read txn number name) e = cc
     go (call.Write txn number name value) e = cc
+    go (call.Delete txn number name) e = cc
+    go (call.Weigh txn number name table) e = cc
     go (call.Abort txn number) e = cc
     go call.Begin e = cc
     go call.Regroup e = cc
@@ -118,10 +121,10 @@ module _ (catalogue : Catalogue) (x : SiteState) (t : Live) (port number rec : �
   skips : nat_lt (length t.answers + 1) number ≡ false
   skips = let e = next.next in grind (arith, nat_tests, e)
 
-  many : nat_le 64 (length t.ops) ≡ false
+  many : nat_le 64 (length t.answers) ≡ false
   many = let e = next.few in grind (arith, nat_tests, e)
 
-  read_answers : is_open catalogue x rec ≡ true → value_at rec (last_writes t.ops) ≡ None → value_at rec x.copies ≡ Some copy → conflict rec false t.txn x.locks ≡ None → (step catalogue x (input.Call port (call.Read t.txn number name))).effects.replies ≡ (record { to = port; answer = answer.Value t.txn number copy.value }) ∷ []
+  read_answers : is_open catalogue x rec ≡ true → value_at rec (last_writes t.ops) ≡ None → value_at rec x.copies ≡ Some copy → conflict rec false t.txn x.locks ≡ None → (step catalogue x (input.Call port (call.Read t.txn number name))).effects.replies ≡ (record { to = port; answer = deed_answer t.txn number (Deed.operates (op.Read rec copy.value)) }) ∷ []
   unfolding step on_input on_call own_call on_txn_call live_call new_call with_record read lock_here take_lock complete
   read_answers usable unwritten copied free = rw (live, old, skips, next.idle, next.found, many, usable, unwritten, copied, free) refl
 
@@ -136,15 +139,15 @@ readable_copies_are_read s site port number rec name x t copy up there next copi
     locked l = shut rec l.lock l.on (l.strong refl) (any_false (is_locked rec) x.locks parts.1 l.lock l.has)
 
     -- what the transaction wrote here is locked exclusively
-    written : (value : List ℕ) → value_at rec (last_writes t.ops) ≡ Some value → ⊥
+    written : (value : Option (List ℕ)) → value_at rec (last_writes t.ops) ≡ Some value → ⊥
     written value e =
         let p = value_key rec (last_writes t.ops) value e in
         let w = last_written t.ops p.0 p.1 in
-        locked ((((known_now s).guards.site site x up).own t (has_of x.live t there)).wrote rec w.0 (subst (λ (n : ℕ). Has t.ops (op.Write n w.0)) p.2 w.1) (copied_key rec x.copies copy copied))
+        locked ((((known_now s).guards.site site x up).own t (has_of x.live t there)).wrote rec (operation_changed t rec w.0 (subst (λ (n : ℕ). Has t.ops (op.Write n w.0)) p.2 w.1)) (copied_key rec x.copies copy copied))
 
     unwritten : value_at rec (last_writes t.ops) ≡ None
     unwritten = go (value_at rec (last_writes t.ops)) refl
       where
-        go : (o : Option (List ℕ)) → value_at rec (last_writes t.ops) ≡ o → o ≡ None
+        go : (o : Option (Option (List ℕ))) → value_at rec (last_writes t.ops) ≡ o → o ≡ None
         go None e = refl
         go (Some value) e = absurd (written value e)

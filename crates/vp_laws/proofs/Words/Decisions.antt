@@ -15,6 +15,7 @@ use Rattle.vp_laws.proofs.Lists.Members.{Has, has_of, contains}
 use Rattle.vp_laws.proofs.Moves.LocalViews.{letter}
 use Rattle.vp_laws.proofs.Moves.Table.{Comes}
 use Rattle.vp_laws.proofs.Table.CopiesForced.{copies_come}
+use Rattle.vp_laws.proofs.Keeping.Once.{once_each}
 use Rattle.vp_laws.proofs.Table.Outcomes.{IsForced, doubts-step, outcomes-step}
 use Rattle.vp_laws.proofs.Worlds.Scenes.{scene_of, kept_at}
 use Rattle.vp_laws.proofs.Worlds.Events.{in_each}
@@ -58,7 +59,8 @@ decisions_agreed s m there site x given up may =
     let k = good.0.known in
     record {
       ends = doubts_end s.catalogue x given;
-      copies = copies_come s.catalogue x given (k.views.site site x up).tidy (λ r here. let q = (k.guards.site site x up).lower r here in (q.0, q.1));
+      copies = copies_come s.catalogue x given (k.views.site site x up).tidy (λ r here. let q = (k.guards.site site x up).lower r here in (q.0, q.1))
+          (once_each s.catalogue (scene_of m.before) site x given (k.views.site site x up).kept k.ends k.shares (λ from letter comes. sent_to m.before site given from letter may comes));
       commits = λ txn forced. commit_entered s.catalogue m.before k site x given txn up may forced;
       aborts = λ txn forced.
           let is = moment_of s.catalogue (Invariant s.catalogue) (invariant_last s.catalogue) (λ w. EndedAt w txn) (ended_keeps s.catalogue txn) s.events m h in

@@ -1,5 +1,5 @@
 -- The laws of entries and doubts in the words of the contracts.
-use Rattle.std.proofs.Common.{◌≡◌, ◌≢◌, ◌∙◌, sym, ℕ, false, List, [], ◌∷◌, refl, arith}
+use Rattle.std.proofs.Common.{inl, inr, ◌≡◌, ◌≢◌, ◌∙◌, sym, ℕ, false, List, [], ◌∷◌, refl, arith}
 use Rattle.std.specs.Prelude.{Option, Some, None}
 use Rattle.std.proofs.lemmas.Bool.Decides.{nat_tests}
 use Rattle.std.proofs.lemmas.List.Kept.{AllPairs-cons}
@@ -9,7 +9,7 @@ use Rattle.vp_model.specs.Types.message
 use Rattle.vp_model.specs.Words.{same_txn}
 use Rattle.vp_model.specs.World.{Place, Schedule, run_of, journal_of, place_of}
 use Rattle.vp_model.specs.Headline.{IsOnce}
-use Rattle.vp_laws.specs.Entries.{doubts_in, VotesLeaveDoubts, record_in, EntriesAreAccessible}
+use Rattle.vp_laws.specs.Entries.{doubts_in, VotesLeaveDoubts, record_in, EntriesAreAccessible, TablesAreAccessible}
 use Rattle.vp_laws.proofs.Lists.Members.{has_of, contains, all_of}
 use Rattle.vp_laws.proofs.Worlds.Scenes.{kept_in}
 use Rattle.vp_laws.proofs.Invariant.Ops.{op_used}
@@ -59,5 +59,15 @@ entered s e h =
       contains w.agreed q.0 q.1,
       q.2,
       contains q.0.members e.txn.site q.3,
-      (λ operation k. (inv.refresh.entry e q.0 (record_in operation) there (q.1, q.2) (op_used e.ops operation (has_of e.ops operation k))).usable),
+      (λ operation k. (inv.refresh.entry e q.0 (record_in operation) there (q.1, q.2) (inl (op_used e.ops operation (has_of e.ops operation k)))).usable),
+      (λ rec k. (inv.refresh.entry e q.0 rec there (q.1, q.2) (inr (has_of _ rec k))).usable),
     )
+
+pub weighed : (s : Schedule) → TablesAreAccessible s.catalogue (run_of s).world
+weighed s e rec table h gave =
+    let w = (run_of s).world in
+    let inv = in_last s.catalogue (Invariant s.catalogue) (invariant_last s.catalogue) s.events in
+    let there = has_of w.journal e h in
+    let q = inv.known.led.entry e there in
+    let may = inv.refresh.weighed e q.0 rec table there (q.1, q.2) gave in
+    (q.0, contains w.agreed q.0 q.1, q.2, may.holders, may.enough)

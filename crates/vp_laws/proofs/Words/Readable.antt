@@ -1,13 +1,13 @@
 -- The laws on one copy in the words of the contracts: the entries are a serial run, and each copy that may be read has its content.
 use Rattle.std.proofs.Common.{◌≡◌, ◌∙◌, ap, sym, subst, ℕ, Bool, true, false, cond, List, [], ◌∷◌, map, refl, ⊎_elim}
-use Rattle.std.specs.Prelude.{Option, Some, None, IsSome, IsTrue, find, option_and_then, slice_get, ◌==◌, not}
+use Rattle.std.specs.Prelude.{option_map, Option, Some, None, IsSome, IsTrue, find, option_and_then, slice_get, ◌==◌, not}
 use Rattle.std.specs.List.{list_any}
 use Rattle.std.specs.Option.{option_map_or}
-use Rattle.std.specs.Str.{bytes_eq}
 use Rattle.std.proofs.lemmas.Bool.{eq-eqb, eqb-true}
 use Rattle.std.proofs.lemmas.Slice.Eq.{bytes_eq-Decides}
+use Rattle.vp_laws.proofs.Journal.ValuesAfter.{Content, content_of, value_after}
 use Rattle.vp_model.specs.Types.{View, Stored, Lock, Doubt}
-use Rattle.vp_model.specs.Words.{keys, change_first}
+use Rattle.vp_model.specs.Words.{same_content, keys, change_first}
 use Rattle.vp_model.specs.Catalogue.{Catalogue, sites_of, start_values}
 use Rattle.vp_model.specs.Durable.{DurableState}
 use Rattle.vp_model.specs.Refresh.{is_open}
@@ -25,7 +25,7 @@ use Rattle.vp_laws.proofs.Worlds.Events.{Lasts, in_last, in_each}
 use Rattle.vp_laws.proofs.Table.Unlisted.{IsUnlisted}
 use Rattle.vp_laws.proofs.Invariant.Held.{copy_value, copy_held}
 use Rattle.vp_laws.proofs.Journal.Playing.{content_value}
-use Rattle.vp_laws.proofs.Copies.CopiesKept.{unlisted_none}
+use Rattle.vp_laws.proofs.Copies.Refreshes.{unlisted_none}
 use Rattle.vp_laws.proofs.Copies.Usable.{usable_value}
 use Rattle.vp_laws.proofs.Journal.Contents.{content_there}
 use Rattle.vp_laws.proofs.Invariant.Known.{Known}
@@ -56,10 +56,10 @@ module _ (catalogue : Catalogue) (w : WorldState) (inv : Invariant catalogue (sc
       let e : (a.rec == rec) ≡ true = eq-eqb a.rec rec on in
       let z : is_locked rec a ≡ true = rw (e, strong) refl in cc
 
-  readable_value : (rec : ℕ) (stored : Stored) → Has x.copies (rec, stored) → is_open catalogue x rec ≡ true → list_any (is_locked rec) x.locks ≡ false → slice_get one_copy.0 rec ≡ Some stored.value
-  readable_value rec stored h usable none =
-      content_value catalogue w.journal v.id one_copy.0 rec one_copy.1
-      ∙ usable_value catalogue (scene_of w) k.shares inv.copies s rec x v stored up kept held usable (unlisted_none rec x.refresh unlisted)
+  -- it has the content that the entries of the held view and all lower ones leave
+  pub readable_content : (rec : ℕ) (stored : Stored) → Has x.copies (rec, stored) → is_open catalogue x rec ≡ true → list_any (is_locked rec) x.locks ≡ false → value_after catalogue w.journal v.id rec ≡ Some (content_of stored)
+  readable_content rec stored h usable none =
+      usable_value catalogue (scene_of w) k.shares inv.copies s rec x v stored up kept held usable (unlisted_none rec x.refresh unlisted)
       (copy_value catalogue (scene_of w) s x up kept k.held rec stored h) ((k.views.site s x up).held v held) (subst (Has v.members) (k.views.site s x up).id ((k.views.site s x up).tidy.held v held).3)
       (copy_held catalogue (scene_of w) s x up kept k.held rec (mapped_has (λ (p : ℕ × Stored). p.0) x.copies (rec, stored) h))
       (AtMost-along ((k.below.site s x up).copies (rec, stored) h) refl ((k.views.site s x up).tidy.held v held).0)
@@ -76,8 +76,12 @@ module _ (catalogue : Catalogue) (w : WorldState) (inv : Invariant catalogue (sc
           let lock = (k.guards.site s x up).doubted u rec (subst (λ (d : DurableState). Has d.doubts u) (sym (k.views.site s x up).kept) there) on in
           unlocked rec lock.lock none lock.has lock.on (lock.strong refl)
 
-  same_bytes : (value : List ℕ) → bytes_eq value value ≡ true
-  same_bytes value = (bytes_eq-Decides value value).1 refl
+  readable_value : (rec : ℕ) (stored : Stored) → Has x.copies (rec, stored) → is_open catalogue x rec ≡ true → list_any (is_locked rec) x.locks ≡ false → slice_get one_copy.0 rec ≡ Some stored.value
+  readable_value rec stored h usable none = content_value catalogue w.journal v.id one_copy.0 rec one_copy.1 ∙ ap (option_map (λ (c : Content). c.value)) (readable_content rec stored h usable none)
+
+  same_bytes : (value : Option (List ℕ)) → same_content value value ≡ true
+  same_bytes None = refl
+  same_bytes (Some value) = (bytes_eq-Decides value value).1 refl
 
   copy_true : (copy : ℕ × Stored) → Has x.copies copy → (if_readable : Bool) → is_readable catalogue x copy.0 ≡ if_readable → cond if_readable (has_value (content (start_values catalogue) w.journal v.id) copy.0 copy.1.value) true ≡ true
   copy_true copy h false e = refl
@@ -86,7 +90,7 @@ module _ (catalogue : Catalogue) (w : WorldState) (inv : Invariant catalogue (sc
       let value = readable_value copy.0 copy.1 h t.0 (not_true (list_any (is_locked copy.0) x.locks) t.1) in
       has_it (content (start_values catalogue) w.journal v.id) one_copy.0 copy.0 copy.1.value one_copy.1 value
     where
-      has_it : (o : Option Values) (m : Values) (rec : ℕ) (value : List ℕ) → o ≡ Some m → slice_get m rec ≡ Some value → has_value o rec value ≡ true
+      has_it : (o : Option Values) (m : Values) (rec : ℕ) (value : Option (List ℕ)) → o ≡ Some m → slice_get m rec ≡ Some value → has_value o rec value ≡ true
       has_it o m rec value e f = rw (e, f) (same_bytes value)
 
   copies_true_here : copies_true_in catalogue w.journal x v ≡ true

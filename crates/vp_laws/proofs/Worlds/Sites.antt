@@ -167,20 +167,25 @@ pub record StartKept (d : DurableState) : Type 0 where
   pub doubts : d.doubts ≡ []
   pub decisions : d.decisions ≡ []
   pub dated : (a : ℕ × Stored) → Has d.copies a → a.1.date ≡ opening
+  -- no copy has a table
+  pub tables : (a : ℕ × Stored) → Has d.copies a → a.1.table ≡ None
 
 pub start_dated : (catalogue : Catalogue) (s : ℕ) (a : ℕ × Stored) → Has (start_copies catalogue s) a → a.1.date ≡ opening
-start_dated catalogue s a h = let r = map_has (λ (placed : ℕ × RecordEntry). (placed.0, record { value = placed.1.start; date = opening })) _ a h in ap (λ (c : ℕ × Stored). c.1.date) (sym r.2)
+start_dated catalogue s a h = let r = map_has (λ (placed : ℕ × RecordEntry). (placed.0, record { value = Some placed.1.start; table = None; date = opening })) _ a h in ap (λ (c : ℕ × Stored). c.1.date) (sym r.2)
+
+pub start_tables : (catalogue : Catalogue) (s : ℕ) (a : ℕ × Stored) → Has (start_copies catalogue s) a → a.1.table ≡ None
+start_tables catalogue s a h = let r = map_has (λ (placed : ℕ × RecordEntry). (placed.0, record { value = Some placed.1.start; table = None; date = opening })) _ a h in ap (λ (c : ℕ × Stored). c.1.table) (sym r.2)
 
 pub start_kept : (catalogue : Catalogue) (s : ℕ) → StartKept (kept_at (scene_of (start_world catalogue)) s)
 unfolding start_world apply
 start_kept catalogue s = go (place_of s (map (start_place catalogue) (sites_of catalogue))) refl
   where
     go : (o : Option Place) → place_of s (map (start_place catalogue) (sites_of catalogue)) ≡ o → StartKept (kept_in (place_of s (map (start_place catalogue) (sites_of catalogue))))
-    go None e = rw e (record { doubts = refl; decisions = refl; dated = λ a h. absurd (has_none a h) })
+    go None e = rw e (record { doubts = refl; decisions = refl; dated = λ a h. absurd (has_none a h); tables = λ a h. absurd (has_none a h) })
     go (Some p) e =
         let all = start_at catalogue s (sites_of catalogue) p e in
         let d : p.durable ≡ apply (start_record (empty_durable (start_copies catalogue s))) (empty_durable (start_copies catalogue s)) = ap (λ (p : Place). p.durable) (sym all.1) in
-        rw (e, d) (record { doubts = refl; decisions = refl; dated = start_dated catalogue s })
+        rw (e, d) (record { doubts = refl; decisions = refl; dated = start_dated catalogue s; tables = start_tables catalogue s })
 
 pub start_journal : (catalogue : Catalogue) → (scene_of (start_world catalogue)).journal ≡ []
 unfolding start_world

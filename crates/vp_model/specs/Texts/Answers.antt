@@ -13,6 +13,10 @@ abbrev pub answer_text : Answer → List ℕ
 answer_text (answer.Begun txn view) = codes "begun " ++ (txn_text txn ++ 32 ∷ view_text view)
 answer_text (answer.Value txn number value) = numbered_text (codes "value ") txn number ++ 32 ∷ value
 answer_text (answer.Written txn number) = numbered_text (codes "written ") txn number
+answer_text (answer.Absent txn number) = numbered_text (codes "absent ") txn number
+answer_text (answer.Deleted txn number) = numbered_text (codes "deleted ") txn number
+answer_text (answer.Weighed txn number) = numbered_text (codes "weighed ") txn number
+answer_text (answer.BadTable txn number) = numbered_text (codes "badtable ") txn number
 answer_text (answer.Committed txn number) = numbered_text (codes "committed ") txn number
 answer_text (answer.Aborted txn number) = numbered_text (codes "aborted ") txn number
 answer_text (answer.Inviting view) = codes "inviting " ++ view_text view

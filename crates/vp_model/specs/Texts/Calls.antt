@@ -4,13 +4,15 @@ use Rattle.std.specs.Fmt.{decimal}
 use Rattle.vp_model.specs.Types.{Call, Event}
 use Rattle.vp_model.specs.Types.call
 use Rattle.vp_model.specs.Types.event
-use Rattle.vp_model.specs.Texts.Fields.{call_name_text}
+use Rattle.vp_model.specs.Texts.Fields.{call_name_text, table_text}
 
 abbrev pub call_text : Call → List ℕ
 call_text call.Begin = codes "begin"
 call_text call.Regroup = codes "regroup"
 call_text (call.Read txn number name) = call_name_text txn number ++ (codes " read " ++ name)
 call_text (call.Write txn number name value) = call_name_text txn number ++ (codes " write " ++ (name ++ 32 ∷ value))
+call_text (call.Delete txn number name) = call_name_text txn number ++ (codes " delete " ++ name)
+call_text (call.Weigh txn number name table) = call_name_text txn number ++ (codes " weigh " ++ (name ++ table_text table))
 call_text (call.Commit txn number) = call_name_text txn number ++ codes " commit"
 call_text (call.Abort txn number) = call_name_text txn number ++ codes " abort"
 

@@ -17,6 +17,13 @@ owner_text owner.Refresh = codes "refresh"
 abbrev pub call_name_text : TxnId → ℕ → List ℕ
 call_name_text txn number = txn_text txn ++ 32 ∷ decimal number
 
+-- a table: each holder and the weight of its copy
+abbrev pub weight_text : ℕ × ℕ → List ℕ
+weight_text weight = 32 ∷ (decimal weight.0 ++ 58 ∷ decimal weight.1)
+
+abbrev pub table_text : List (ℕ × ℕ) → List ℕ
+table_text table = flat_map weight_text table
+
 -- the sites with commas between them
 abbrev pub later_site_text : ℕ → List ℕ
 later_site_text site = 44 ∷ decimal site

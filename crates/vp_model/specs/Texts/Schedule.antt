@@ -4,17 +4,14 @@ use Rattle.std.specs.Fmt.{decimal}
 use Rattle.vp_model.specs.Types.{Event}
 use Rattle.vp_model.specs.Catalogue.{Catalogue, RecordEntry}
 use Rattle.vp_model.specs.World.{Schedule}
+use Rattle.vp_model.specs.Texts.Fields.{table_text}
 use Rattle.vp_model.specs.Texts.Calls.{event_text}
 
 abbrev pub site_line : ℕ × ℕ → List ℕ
 site_line site = codes "site " ++ (decimal site.0 ++ 32 ∷ (decimal site.1 ++ 10 ∷ []))
 
--- a holder and the weight of its copy
-abbrev pub weight_text : ℕ × ℕ → List ℕ
-weight_text weight = 32 ∷ (decimal weight.0 ++ 58 ∷ decimal weight.1)
-
 abbrev pub record_line : RecordEntry → List ℕ
-record_line entry = codes "record " ++ (entry.name ++ 32 ∷ (entry.start ++ (flat_map weight_text entry.weights ++ 10 ∷ [])))
+record_line entry = codes "record " ++ (entry.name ++ 32 ∷ (entry.start ++ (table_text entry.weights ++ 10 ∷ [])))
 
 abbrev pub catalogue_text : Catalogue → List ℕ
 catalogue_text catalogue = flat_map site_line catalogue.sites ++ flat_map record_line catalogue.records

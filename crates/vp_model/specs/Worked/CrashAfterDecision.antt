@@ -1,5 +1,5 @@
 -- A worked schedule and its lines. A coordinator crashes after its decision to commit, and sends it again after its restart.
-use Rattle.std.specs.Prelude.{ℕ, List, [], ◌∷◌, true, codes}
+use Rattle.std.specs.Prelude.{ℕ, List, [], ◌∷◌, true, codes, Some}
 use Rattle.vp_model.specs.Types.{Commit, Line}
 use Rattle.vp_model.specs.Types.message
 use Rattle.vp_model.specs.Types.answer
@@ -8,7 +8,7 @@ use Rattle.vp_model.specs.Types.call
 use Rattle.vp_model.specs.Types.event
 use Rattle.vp_model.specs.Types.shown
 use Rattle.vp_model.specs.World.{Schedule}
-use Rattle.vp_model.specs.Worked.{view, txn, sent, reply, committed, line, stored}
+use Rattle.vp_model.specs.Worked.{view, txn, sent, reply, committed, line, stored, value}
 
 abbrev pub schedule : Schedule
 schedule = record {
@@ -38,9 +38,9 @@ lines =
     ∷ line 2 (event.Call 1 (call.Write (txn 1 1 1) 1 (codes "x") (codes "11"))) (shown.Step [] 1 (sent 1 2 (message.WriteRequest (txn 1 1 1) (view 0 0) 1 0) ∷ []) [])
     ∷ line 3 (event.Deliver 1) (shown.Step [] 2 (sent 2 1 (message.WriteAnswer (txn 1 1 1) 1) ∷ []) [])
     ∷ line 4 (event.Deliver 2) (shown.Step [] 3 [] (reply (answer.Written (txn 1 1 1) 1) ∷ []))
-    ∷ line 5 (event.Call 1 (call.Commit (txn 1 1 1) 2)) (shown.Step [] 3 (sent 1 2 (message.Prepare (txn 1 1 1) (view 0 0) 2 [] ((0, codes "11") ∷ [])) ∷ []) [])
+    ∷ line 5 (event.Call 1 (call.Commit (txn 1 1 1) 2)) (shown.Step [] 3 (sent 1 2 (message.Prepare (txn 1 1 1) (view 0 0) 2 [] ((0, value (codes "11")) ∷ [])) ∷ []) [])
     ∷ line 6 (event.Deliver 3) (shown.Step [] 4 (sent 2 1 (message.Vote (txn 1 1 1)) ∷ []) [])
-    ∷ line 7 (event.Deliver 4) (shown.Step (committed (txn 1 1 1) (view 0 0) (op.Write 0 (codes "11") ∷ []) ∷ []) 5 (sent 1 2 (message.Outcome (txn 1 1 1) true) ∷ []) (reply (answer.Committed (txn 1 1 1) 2) ∷ []))
+    ∷ line 7 (event.Deliver 4) (shown.Step (committed (txn 1 1 1) (view 0 0) (op.Write 0 (Some (codes "11")) ∷ []) ∷ []) 5 (sent 1 2 (message.Outcome (txn 1 1 1) true) ∷ []) (reply (answer.Committed (txn 1 1 1) 2) ∷ []))
     ∷ line 8 (event.Crash 1) (shown.Nothing)
     ∷ line 9 (event.Restart 1) (shown.Life 2)
     ∷ line 10 (event.Tick 1) (shown.Step [] 6 (sent 1 2 (message.Invite (view 1 1)) ∷ sent 1 2 (message.Outcome (txn 1 1 1) true) ∷ []) [])
@@ -48,12 +48,12 @@ lines =
     ∷ line 12 (event.Deliver 8) (shown.Step [] 9 [] [])
     ∷ line 13 (event.Call 2 call.Begin) (shown.Step [] 9 [] (reply (answer.Begun (txn 2 1 1) (view 0 0)) ∷ []))
     ∷ line 14 (event.Call 2 (call.Read (txn 2 1 1) 1 (codes "x"))) (shown.Step [] 9 [] (reply (answer.Value (txn 2 1 1) 1 (codes "11")) ∷ []))
-    ∷ line 15 (event.Call 2 (call.Commit (txn 2 1 1) 2)) (shown.Step (committed (txn 2 1 1) (view 0 0) (op.Read 0 (codes "11") ∷ []) ∷ []) 9 [] (reply (answer.Committed (txn 2 1 1) 2) ∷ []))
+    ∷ line 15 (event.Call 2 (call.Commit (txn 2 1 1) 2)) (shown.Step (committed (txn 2 1 1) (view 0 0) (op.Read 0 (Some (codes "11")) ∷ []) ∷ []) 9 [] (reply (answer.Committed (txn 2 1 1) 2) ∷ []))
     ∷ []
 
 -- the committed transactions, by view and then by moment of commit
 abbrev pub history : List Commit
 history =
-    committed (txn 1 1 1) (view 0 0) (op.Write 0 (codes "11") ∷ [])
-    ∷ committed (txn 2 1 1) (view 0 0) (op.Read 0 (codes "11") ∷ [])
+    committed (txn 1 1 1) (view 0 0) (op.Write 0 (Some (codes "11")) ∷ [])
+    ∷ committed (txn 2 1 1) (view 0 0) (op.Read 0 (Some (codes "11")) ∷ [])
     ∷ []

@@ -8,7 +8,7 @@ use Rattle.vp_model.specs.Types.call
 use Rattle.vp_model.specs.Types.event
 use Rattle.vp_model.specs.Types.shown
 use Rattle.vp_model.specs.World.{Schedule}
-use Rattle.vp_model.specs.Worked.{view, txn, sent, reply, line, stored}
+use Rattle.vp_model.specs.Worked.{view, txn, sent, reply, line, stored, value}
 
 abbrev pub schedule : Schedule
 schedule = record {
@@ -37,7 +37,7 @@ lines =
     ∷ line 2 (event.Call 1 (call.Write (txn 1 1 1) 1 (codes "x") (codes "11"))) (shown.Step [] 1 (sent 1 2 (message.WriteRequest (txn 1 1 1) (view 0 0) 1 0) ∷ []) [])
     ∷ line 3 (event.Deliver 1) (shown.Step [] 2 (sent 2 1 (message.WriteAnswer (txn 1 1 1) 1) ∷ []) [])
     ∷ line 4 (event.Deliver 2) (shown.Step [] 3 [] (reply (answer.Written (txn 1 1 1) 1) ∷ []))
-    ∷ line 5 (event.Call 1 (call.Commit (txn 1 1 1) 2)) (shown.Step [] 3 (sent 1 2 (message.Prepare (txn 1 1 1) (view 0 0) 2 [] ((0, codes "11") ∷ [])) ∷ []) [])
+    ∷ line 5 (event.Call 1 (call.Commit (txn 1 1 1) 2)) (shown.Step [] 3 (sent 1 2 (message.Prepare (txn 1 1 1) (view 0 0) 2 [] ((0, value (codes "11")) ∷ [])) ∷ []) [])
     ∷ line 6 (event.Deliver 3) (shown.Step [] 4 (sent 2 1 (message.Vote (txn 1 1 1)) ∷ []) [])
     ∷ line 7 (event.Crash 1) (shown.Nothing)
     ∷ line 8 (event.Restart 1) (shown.Life 2)

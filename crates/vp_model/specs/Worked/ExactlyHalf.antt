@@ -1,5 +1,5 @@
 -- A worked schedule and its lines. A record is not accessible with exactly half of the weight of its copies, and is with more.
-use Rattle.std.specs.Prelude.{ℕ, List, [], ◌∷◌, None, codes}
+use Rattle.std.specs.Prelude.{ℕ, List, [], ◌∷◌, None, codes, Some}
 use Rattle.vp_model.specs.Types.{Commit, Line}
 use Rattle.vp_model.specs.Types.message
 use Rattle.vp_model.specs.Types.answer
@@ -41,7 +41,7 @@ lines =
     ∷ line 7 (event.Deliver 5) (shown.Step [] 6 [] [])
     ∷ line 8 (event.Tick 1) (shown.Step [] 6 (sent 1 2 (message.ViewCommit (view 2 1) (1 ∷ 2 ∷ [])) ∷ sent 1 2 (message.RefreshRequest (view 2 1) 0) ∷ []) [])
     ∷ line 9 (event.Deliver 6) (shown.Step [] 8 (sent 2 1 (message.RefreshRequest (view 2 1) 0) ∷ []) [])
-    ∷ line 10 (event.Deliver 7) (shown.Step [] 9 (sent 2 1 (message.RefreshAnswer (view 2 1) 0 (record { value = (codes "5"); date = (view 0 0) })) ∷ []) [])
+    ∷ line 10 (event.Deliver 7) (shown.Step [] 9 (sent 2 1 (message.RefreshAnswer (view 2 1) 0 (record { value = Some (codes "5"); table = None; date = (view 0 0) })) ∷ []) [])
     ∷ line 11 (event.Deliver 9) (shown.Step [] 10 [] [])
     ∷ line 12 (event.Call 1 call.Begin) (shown.Step [] 10 [] (reply (answer.Begun (txn 1 1 2) (view 2 1)) ∷ []))
     ∷ line 13 (event.Call 1 (call.Read (txn 1 1 2) 1 (codes "y"))) (shown.Step [] 10 [] (reply (answer.Value (txn 1 1 2) 1 (codes "5")) ∷ []))

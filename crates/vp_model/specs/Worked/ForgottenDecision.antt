@@ -1,6 +1,6 @@
 -- A worked schedule and its lines. An inquiry comes after the decision to commit was acknowledged and forgotten: it is answered
 -- abort, which changes nothing at a part that has committed.
-use Rattle.std.specs.Prelude.{ℕ, List, [], ◌∷◌, true, false, codes}
+use Rattle.std.specs.Prelude.{ℕ, List, [], ◌∷◌, true, false, codes, Some}
 use Rattle.vp_model.specs.Types.{Commit, Line}
 use Rattle.vp_model.specs.Types.message
 use Rattle.vp_model.specs.Types.answer
@@ -9,7 +9,7 @@ use Rattle.vp_model.specs.Types.call
 use Rattle.vp_model.specs.Types.event
 use Rattle.vp_model.specs.Types.shown
 use Rattle.vp_model.specs.World.{Schedule}
-use Rattle.vp_model.specs.Worked.{view, txn, sent, reply, committed, line, stored}
+use Rattle.vp_model.specs.Worked.{view, txn, sent, reply, committed, line, stored, value}
 
 abbrev pub schedule : Schedule
 schedule = record {
@@ -38,10 +38,10 @@ lines =
     ∷ line 2 (event.Call 1 (call.Write (txn 1 1 1) 1 (codes "x") (codes "11"))) (shown.Step [] 1 (sent 1 2 (message.WriteRequest (txn 1 1 1) (view 0 0) 1 0) ∷ []) [])
     ∷ line 3 (event.Deliver 1) (shown.Step [] 2 (sent 2 1 (message.WriteAnswer (txn 1 1 1) 1) ∷ []) [])
     ∷ line 4 (event.Deliver 2) (shown.Step [] 3 [] (reply (answer.Written (txn 1 1 1) 1) ∷ []))
-    ∷ line 5 (event.Call 1 (call.Commit (txn 1 1 1) 2)) (shown.Step [] 3 (sent 1 2 (message.Prepare (txn 1 1 1) (view 0 0) 2 [] ((0, codes "11") ∷ [])) ∷ []) [])
+    ∷ line 5 (event.Call 1 (call.Commit (txn 1 1 1) 2)) (shown.Step [] 3 (sent 1 2 (message.Prepare (txn 1 1 1) (view 0 0) 2 [] ((0, value (codes "11")) ∷ [])) ∷ []) [])
     ∷ line 6 (event.Deliver 3) (shown.Step [] 4 (sent 2 1 (message.Vote (txn 1 1 1)) ∷ []) [])
     ∷ line 7 (event.Tick 2) (shown.Step [] 5 (sent 2 1 (message.Inquire (txn 1 1 1)) ∷ []) [])
-    ∷ line 8 (event.Deliver 4) (shown.Step (committed (txn 1 1 1) (view 0 0) (op.Write 0 (codes "11") ∷ []) ∷ []) 6 (sent 1 2 (message.Outcome (txn 1 1 1) true) ∷ []) (reply (answer.Committed (txn 1 1 1) 2) ∷ []))
+    ∷ line 8 (event.Deliver 4) (shown.Step (committed (txn 1 1 1) (view 0 0) (op.Write 0 (Some (codes "11")) ∷ []) ∷ []) 6 (sent 1 2 (message.Outcome (txn 1 1 1) true) ∷ []) (reply (answer.Committed (txn 1 1 1) 2) ∷ []))
     ∷ line 9 (event.Deliver 6) (shown.Step [] 7 (sent 2 1 (message.Ack (txn 1 1 1)) ∷ []) [])
     ∷ line 10 (event.Deliver 7) (shown.Step [] 8 [] [])
     ∷ line 11 (event.Deliver 5) (shown.Step [] 8 (sent 1 2 (message.Outcome (txn 1 1 1) false) ∷ []) [])
@@ -53,5 +53,5 @@ lines =
 -- the committed transactions, by view and then by moment of commit
 abbrev pub history : List Commit
 history =
-    committed (txn 1 1 1) (view 0 0) (op.Write 0 (codes "11") ∷ [])
+    committed (txn 1 1 1) (view 0 0) (op.Write 0 (Some (codes "11")) ∷ [])
     ∷ []

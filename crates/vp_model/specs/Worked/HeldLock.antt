@@ -1,6 +1,6 @@
 -- A worked schedule and its lines. A read is refused for the lock of a write, and its transaction is aborted; after the commit
 -- another transaction reads the new value.
-use Rattle.std.specs.Prelude.{ℕ, List, [], ◌∷◌, true, codes}
+use Rattle.std.specs.Prelude.{ℕ, List, [], ◌∷◌, true, codes, Some}
 use Rattle.vp_model.specs.Types.{Commit, Line}
 use Rattle.vp_model.specs.Types.message
 use Rattle.vp_model.specs.Types.answer
@@ -10,7 +10,7 @@ use Rattle.vp_model.specs.Types.call
 use Rattle.vp_model.specs.Types.event
 use Rattle.vp_model.specs.Types.shown
 use Rattle.vp_model.specs.World.{Schedule}
-use Rattle.vp_model.specs.Worked.{view, txn, sent, reply, committed, line, stored}
+use Rattle.vp_model.specs.Worked.{view, txn, sent, reply, committed, line, stored, value}
 
 abbrev pub schedule : Schedule
 schedule = record {
@@ -39,23 +39,23 @@ lines =
     ∷ line 4 (event.Deliver 3) (shown.Step [] 5 [] [])
     ∷ line 4 (event.Deliver 4) (shown.Step [] 5 [] (reply (answer.Written (txn 1 1 1) 1) ∷ []))
     ∷ line 5 (event.Call 2 (call.Read (txn 2 1 1) 1 (codes "x"))) (shown.Step [] 5 [] (reply (answer.LockHeld (txn 2 1 1) 1 (codes "x") 2 (owner.Txn (txn 1 1 1))) ∷ []))
-    ∷ line 6 (event.Call 1 (call.Commit (txn 1 1 1) 2)) (shown.Step [] 5 (sent 1 2 (message.Prepare (txn 1 1 1) (view 0 0) 2 [] ((0, codes "11") ∷ [])) ∷ sent 1 3 (message.Prepare (txn 1 1 1) (view 0 0) 2 [] ((0, codes "11") ∷ [])) ∷ []) [])
+    ∷ line 6 (event.Call 1 (call.Commit (txn 1 1 1) 2)) (shown.Step [] 5 (sent 1 2 (message.Prepare (txn 1 1 1) (view 0 0) 2 [] ((0, value (codes "11")) ∷ [])) ∷ sent 1 3 (message.Prepare (txn 1 1 1) (view 0 0) 2 [] ((0, value (codes "11")) ∷ [])) ∷ []) [])
     ∷ line 7 (event.Deliver 5) (shown.Step [] 7 (sent 2 1 (message.Vote (txn 1 1 1)) ∷ []) [])
     ∷ line 7 (event.Deliver 6) (shown.Step [] 8 (sent 3 1 (message.Vote (txn 1 1 1)) ∷ []) [])
     ∷ line 7 (event.Deliver 7) (shown.Step [] 9 [] [])
-    ∷ line 7 (event.Deliver 8) (shown.Step (committed (txn 1 1 1) (view 0 0) (op.Write 0 (codes "11") ∷ []) ∷ []) 9 (sent 1 2 (message.Outcome (txn 1 1 1) true) ∷ sent 1 3 (message.Outcome (txn 1 1 1) true) ∷ []) (reply (answer.Committed (txn 1 1 1) 2) ∷ []))
+    ∷ line 7 (event.Deliver 8) (shown.Step (committed (txn 1 1 1) (view 0 0) (op.Write 0 (Some (codes "11")) ∷ []) ∷ []) 9 (sent 1 2 (message.Outcome (txn 1 1 1) true) ∷ sent 1 3 (message.Outcome (txn 1 1 1) true) ∷ []) (reply (answer.Committed (txn 1 1 1) 2) ∷ []))
     ∷ line 7 (event.Deliver 9) (shown.Step [] 11 (sent 2 1 (message.Ack (txn 1 1 1)) ∷ []) [])
     ∷ line 7 (event.Deliver 10) (shown.Step [] 12 (sent 3 1 (message.Ack (txn 1 1 1)) ∷ []) [])
     ∷ line 7 (event.Deliver 11) (shown.Step [] 13 [] [])
     ∷ line 7 (event.Deliver 12) (shown.Step [] 13 [] [])
     ∷ line 8 (event.Call 2 call.Begin) (shown.Step [] 13 [] (reply (answer.Begun (txn 2 1 2) (view 0 0)) ∷ []))
     ∷ line 9 (event.Call 2 (call.Read (txn 2 1 2) 1 (codes "x"))) (shown.Step [] 13 [] (reply (answer.Value (txn 2 1 2) 1 (codes "11")) ∷ []))
-    ∷ line 10 (event.Call 2 (call.Commit (txn 2 1 2) 2)) (shown.Step (committed (txn 2 1 2) (view 0 0) (op.Read 0 (codes "11") ∷ []) ∷ []) 13 [] (reply (answer.Committed (txn 2 1 2) 2) ∷ []))
+    ∷ line 10 (event.Call 2 (call.Commit (txn 2 1 2) 2)) (shown.Step (committed (txn 2 1 2) (view 0 0) (op.Read 0 (Some (codes "11")) ∷ []) ∷ []) 13 [] (reply (answer.Committed (txn 2 1 2) 2) ∷ []))
     ∷ []
 
 -- the committed transactions, by view and then by moment of commit
 abbrev pub history : List Commit
 history =
-    committed (txn 1 1 1) (view 0 0) (op.Write 0 (codes "11") ∷ [])
-    ∷ committed (txn 2 1 2) (view 0 0) (op.Read 0 (codes "11") ∷ [])
+    committed (txn 1 1 1) (view 0 0) (op.Write 0 (Some (codes "11")) ∷ [])
+    ∷ committed (txn 2 1 2) (view 0 0) (op.Read 0 (Some (codes "11")) ∷ [])
     ∷ []

@@ -1,5 +1,5 @@
 -- A long schedule of three sites, which crash and change their views, and what they commit.
-use Rattle.std.specs.Prelude.{List, [], ◌∷◌, codes}
+use Rattle.std.specs.Prelude.{List, [], ◌∷◌, codes, Some}
 use Rattle.vp_model.specs.Types.{TxnId, ViewId, Commit}
 use Rattle.vp_model.specs.Types.op
 use Rattle.vp_model.specs.Types.call
@@ -150,14 +150,14 @@ commits =
 -- the entries, by view and then by moment of commit
 abbrev pub history : List Commit
 history =
-    committed (txn 1 1 1) (view 0 0) (op.Write 0 (codes "11") ∷ [])
-    ∷ committed (txn 2 1 1) (view 1 2) (op.Read 1 (codes "5") ∷ [])
-    ∷ committed (txn 2 1 3) (view 1 2) (op.Read 0 (codes "11") ∷ [])
-    ∷ committed (txn 1 1 2) (view 2 2) (op.Write 0 (codes "21") ∷ op.Read 1 (codes "5") ∷ [])
-    ∷ committed (txn 1 1 3) (view 2 2) (op.Write 1 (codes "97") ∷ op.Read 0 (codes "21") ∷ [])
-    ∷ committed (txn 2 1 4) (view 2 2) (op.Read 0 (codes "21") ∷ op.Write 0 (codes "3") ∷ [])
-    ∷ committed (txn 2 1 5) (view 2 2) (op.Write 0 (codes "71") ∷ [])
-    ∷ committed (txn 3 1 3) (view 2 2) (op.Write 1 (codes "25") ∷ [])
-    ∷ committed (txn 1 1 4) (view 2 2) (op.Read 0 (codes "71") ∷ [])
-    ∷ committed (txn 3 1 4) (view 3 2) (op.Write 0 (codes "36") ∷ [])
+    committed (txn 1 1 1) (view 0 0) (op.Write 0 (Some (codes "11")) ∷ [])
+    ∷ committed (txn 2 1 1) (view 1 2) (op.Read 1 (Some (codes "5")) ∷ [])
+    ∷ committed (txn 2 1 3) (view 1 2) (op.Read 0 (Some (codes "11")) ∷ [])
+    ∷ committed (txn 1 1 2) (view 2 2) (op.Write 0 (Some (codes "21")) ∷ op.Read 1 (Some (codes "5")) ∷ [])
+    ∷ committed (txn 1 1 3) (view 2 2) (op.Write 1 (Some (codes "97")) ∷ op.Read 0 (Some (codes "21")) ∷ [])
+    ∷ committed (txn 2 1 4) (view 2 2) (op.Read 0 (Some (codes "21")) ∷ op.Write 0 (Some (codes "3")) ∷ [])
+    ∷ committed (txn 2 1 5) (view 2 2) (op.Write 0 (Some (codes "71")) ∷ [])
+    ∷ committed (txn 3 1 3) (view 2 2) (op.Write 1 (Some (codes "25")) ∷ [])
+    ∷ committed (txn 1 1 4) (view 2 2) (op.Read 0 (Some (codes "71")) ∷ [])
+    ∷ committed (txn 3 1 4) (view 3 2) (op.Write 0 (Some (codes "36")) ∷ [])
     ∷ []

@@ -8,7 +8,7 @@ use Rattle.vp_model.specs.Types.call
 use Rattle.vp_model.specs.Types.event
 use Rattle.vp_model.specs.Types.shown
 use Rattle.vp_model.specs.World.{Schedule}
-use Rattle.vp_model.specs.Worked.{view, txn, sent, reply, line, stored}
+use Rattle.vp_model.specs.Worked.{view, txn, sent, reply, line, stored, value}
 
 abbrev pub schedule : Schedule
 schedule = record {
@@ -37,7 +37,7 @@ lines =
     ∷ line 3 (event.Deliver 2) (shown.Step [] 4 (sent 3 1 (message.WriteAnswer (txn 1 1 1) 1) ∷ []) [])
     ∷ line 3 (event.Deliver 3) (shown.Step [] 5 [] [])
     ∷ line 3 (event.Deliver 4) (shown.Step [] 5 [] (reply (answer.Written (txn 1 1 1) 1) ∷ []))
-    ∷ line 4 (event.Call 1 (call.Commit (txn 1 1 1) 2)) (shown.Step [] 5 (sent 1 2 (message.Prepare (txn 1 1 1) (view 0 0) 2 [] ((0, codes "11") ∷ [])) ∷ sent 1 3 (message.Prepare (txn 1 1 1) (view 0 0) 2 [] ((0, codes "11") ∷ [])) ∷ []) [])
+    ∷ line 4 (event.Call 1 (call.Commit (txn 1 1 1) 2)) (shown.Step [] 5 (sent 1 2 (message.Prepare (txn 1 1 1) (view 0 0) 2 [] ((0, value (codes "11")) ∷ [])) ∷ sent 1 3 (message.Prepare (txn 1 1 1) (view 0 0) 2 [] ((0, value (codes "11")) ∷ [])) ∷ []) [])
     ∷ line 5 (event.Deliver 5) (shown.Step [] 7 (sent 2 1 (message.Vote (txn 1 1 1)) ∷ []) [])
     ∷ line 6 (event.Tick 1) (shown.Step [] 8 [] [])
     ∷ line 7 (event.Tick 1) (shown.Step [] 8 (sent 1 2 (message.Outcome (txn 1 1 1) false) ∷ sent 1 3 (message.Outcome (txn 1 1 1) false) ∷ []) (reply (answer.TimedOut (txn 1 1 1) 2 2) ∷ []))

@@ -1,5 +1,5 @@
 -- One transaction reads 64 times; its 65th operation is refused, and it commits with that number.
-use Rattle.std.specs.Prelude.{ℕ, zero, suc, ◌+◌, List, [], ◌∷◌, ◌++◌, map, codes}
+use Rattle.std.specs.Prelude.{ℕ, zero, suc, ◌+◌, List, [], ◌∷◌, ◌++◌, map, codes, Some}
 use Rattle.vp_model.specs.Types.{Call, Line}
 use Rattle.vp_model.specs.Types.answer
 use Rattle.vp_model.specs.Types.op
@@ -33,7 +33,7 @@ last_lines =
     line 66 (event.Call 1 (read_call 65)) (shown.Step [] 1 [] (reply (answer.TooManyOps (txn 1 1 1) 65) ∷ []))
     ∷ line 67 (event.Call 1 (call.Commit (txn 1 1 1) 65))
     (shown.Step
-    (committed (txn 1 1 1) (view 0 0) (map (λ n. op.Read 0 (codes "10")) (numbers_from 1 64)) ∷ [])
+    (committed (txn 1 1 1) (view 0 0) (map (λ n. op.Read 0 (Some (codes "10"))) (numbers_from 1 64)) ∷ [])
     1
     []
     (reply (answer.Committed (txn 1 1 1) 65) ∷ []))

@@ -1,6 +1,6 @@
 -- A worked schedule and its lines. A record with copies of equal weight at three sites is used in a view of two of them, and not in
 -- a view of the third alone.
-use Rattle.std.specs.Prelude.{ℕ, List, [], ◌∷◌, codes}
+use Rattle.std.specs.Prelude.{ℕ, List, [], ◌∷◌, codes, Some, None}
 use Rattle.vp_model.specs.Types.{Commit, Line}
 use Rattle.vp_model.specs.Types.message
 use Rattle.vp_model.specs.Types.answer
@@ -42,8 +42,8 @@ lines =
     ∷ line 6 (event.Deliver 3) (shown.Step [] 4 [] [])
     ∷ line 7 (event.Tick 1) (shown.Step [] 4 (sent 1 2 (message.ViewCommit (view 1 1) (1 ∷ 2 ∷ [])) ∷ sent 1 2 (message.RefreshRequest (view 1 1) 0) ∷ []) [])
     ∷ line 8 (event.Deliver 4) (shown.Step [] 6 (sent 2 1 (message.RefreshRequest (view 1 1) 0) ∷ []) [])
-    ∷ line 9 (event.Deliver 5) (shown.Step [] 7 (sent 2 1 (message.RefreshAnswer (view 1 1) 0 (record { value = (codes "10"); date = (view 0 0) })) ∷ []) [])
-    ∷ line 9 (event.Deliver 6) (shown.Step [] 8 (sent 1 2 (message.RefreshAnswer (view 1 1) 0 (record { value = (codes "10"); date = (view 0 0) })) ∷ []) [])
+    ∷ line 9 (event.Deliver 5) (shown.Step [] 7 (sent 2 1 (message.RefreshAnswer (view 1 1) 0 (record { value = Some (codes "10"); table = None; date = (view 0 0) })) ∷ []) [])
+    ∷ line 9 (event.Deliver 6) (shown.Step [] 8 (sent 1 2 (message.RefreshAnswer (view 1 1) 0 (record { value = Some (codes "10"); table = None; date = (view 0 0) })) ∷ []) [])
     ∷ line 9 (event.Deliver 7) (shown.Step [] 9 [] [])
     ∷ line 9 (event.Deliver 8) (shown.Step [] 9 [] [])
     ∷ line 10 (event.Call 1 call.Begin) (shown.Step [] 9 [] (reply (answer.Begun (txn 1 1 1) (view 1 1)) ∷ []))

@@ -8,7 +8,7 @@ use Rattle.vp_model.specs.Types.call
 use Rattle.vp_model.specs.Types.event
 use Rattle.vp_model.specs.Types.shown
 use Rattle.vp_model.specs.World.{Schedule}
-use Rattle.vp_model.specs.Worked.{view, txn, sent, reply, line, stored}
+use Rattle.vp_model.specs.Worked.{view, txn, sent, reply, line, stored, value}
 
 abbrev pub schedule : Schedule
 schedule = record {
@@ -35,7 +35,7 @@ lines =
     ∷ line 3 (event.Deliver 4) (shown.Step [] 5 [] (reply (answer.Written (txn 1 1 1) 1) ∷ []))
     ∷ line 4 (event.Call 3 call.Regroup) (shown.Step [] 5 (sent 3 1 (message.Invite (view 1 3)) ∷ sent 3 2 (message.Invite (view 1 3)) ∷ []) (reply (answer.Inviting (view 1 3)) ∷ []))
     ∷ line 5 (event.Tick 3) (shown.Step [] 7 [] [])
-    ∷ line 6 (event.Call 1 (call.Commit (txn 1 1 1) 2)) (shown.Step [] 7 (sent 1 2 (message.Prepare (txn 1 1 1) (view 0 0) 2 [] ((0, codes "11") ∷ [])) ∷ sent 1 3 (message.Prepare (txn 1 1 1) (view 0 0) 2 [] ((0, codes "11") ∷ [])) ∷ []) [])
+    ∷ line 6 (event.Call 1 (call.Commit (txn 1 1 1) 2)) (shown.Step [] 7 (sent 1 2 (message.Prepare (txn 1 1 1) (view 0 0) 2 [] ((0, value (codes "11")) ∷ [])) ∷ sent 1 3 (message.Prepare (txn 1 1 1) (view 0 0) 2 [] ((0, value (codes "11")) ∷ [])) ∷ []) [])
     ∷ line 7 (event.Deliver 8) (shown.Step [] 9 (sent 3 1 (message.Refuse (txn 1 1 1) 2 (obstacle.OtherView (Some (view 1 3)))) ∷ []) [])
     ∷ line 8 (event.Deliver 9) (shown.Step [] 10 (sent 1 2 (message.Outcome (txn 1 1 1) false) ∷ sent 1 3 (message.Outcome (txn 1 1 1) false) ∷ []) (reply (answer.ViewChanged (txn 1 1 1) 2 3 (view 0 0) (Some (view 1 3))) ∷ []))
     ∷ []

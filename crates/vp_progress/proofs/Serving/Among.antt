@@ -14,7 +14,7 @@ use Rattle.vp_laws.proofs.Invariant.Known.{Known}
 use Rattle.vp_laws.proofs.Keeping.Known.{known_last}
 use Rattle.vp_progress.specs.Going.{serves}
 use Rattle.vp_progress.specs.Progress.{world_of}
-use Rattle.vp_progress.specs.Clients.{Wish, IsServed}
+use Rattle.vp_progress.specs.Clients.{Wish, FitATransaction, IsServed}
 use Rattle.vp_progress.specs.Together.{IsFree, AreTogether, StayTogether, IsGrantable}
 use Rattle.vp_progress.proofs.Going.{world_goes_on, passing_flows_not}
 use Rattle.vp_progress.proofs.Serving.Sites.{Rest, IsResting}
@@ -96,9 +96,9 @@ module _ (s : Schedule) (ns : List ℕ) (q : ℕ) (t : AreTogether s.catalogue n
   grantable : (wish : Wish) → IsGrantable s.catalogue ns w wish → Grantable s.catalogue ns t.view q (has_from_test ns q here) (rest_of w) among members w.journal wish
   grantable wish g = (g.0, g.1, unused g.0 g.2)
 
-  pub served_among : (x : SiteState) (wishes : List Wish) → site_of w q ≡ Some x → x.seq < 2 ^ 32 - 1 → length wishes ≤ 64 → AllByRecursion (IsGrantable s.catalogue ns w) wishes → IsServed s ns q wishes (StayTogether s.catalogue ns w)
-  served_among x wishes up left few free =
-      let c = serves_all s.catalogue ns t.view q (has_from_test ns q here) (rest_of w) among members w.journal wishes w resting x up left few (all_each _ _ grantable wishes free) in
+  pub served_among : (x : SiteState) (wishes : List Wish) → site_of w q ≡ Some x → x.seq < 2 ^ 32 - 1 → FitATransaction wishes → AllByRecursion (IsGrantable s.catalogue ns w) wishes → IsServed s ns q wishes (StayTogether s.catalogue ns w)
+  served_among x wishes up left fits free =
+      let c = serves_all s.catalogue ns t.view q (has_from_test ns q here) (rest_of w) among members w.journal wishes w resting x up left fits (all_each _ _ grantable wishes free) in
       let is = world_goes_on s c.events (passing_flows_not s.catalogue (serves q ns) (λ w count. refl) c.events w c.passing) in
       let after : StayTogether s.catalogue ns w _ = record { together = together c.so.entry _ c.so.committed; free = still_free c.so.entry _ c.so.committed } in
       record {
@@ -107,6 +107,7 @@ module _ (s : Schedule) (ns : List ℕ) (q : ℕ) (t : AreTogether s.catalogue n
         entry = c.so.entry;
         own = c.so.own;
         fulfilled = c.so.fulfilled;
+        tables = c.so.tables;
         journal = ap (λ (w : WorldState). w.journal) is ∙ c.so.committed.same;
         after = subst (StayTogether s.catalogue ns w) (sym is) after;
       }

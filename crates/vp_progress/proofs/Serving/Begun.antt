@@ -1,9 +1,10 @@
 -- A transaction begins at a site where all rests, and does what a client wishes, one operation after the other.
 use Rattle.std.proofs.Common.{◌≡◌, ◌≢◌, ◌⊎◌, ◌∙◌, ap, sym, subst, ℕ, ◌+◌, ◌-◌, ◌^◌, ◌<◌, ◌≤◌, Bool, true, false, List, [], ◌∷◌, ◌++◌, length, refl, arith, inr, append-nil, length-append}
-use Rattle.std.specs.Prelude.{Some, None, ◌==◌, not}
+use Rattle.std.specs.Prelude.{Some, None, ◌==◌, not, sum_by}
 use Rattle.std.specs.List.{AllByRecursion}
 use Rattle.std.proofs.lemmas.Bool.Decides.{nat_tests}
 use Rattle.std.proofs.lemmas.List.{append_assoc}
+use Rattle.std.proofs.lemmas.List.Sums.{sum_by-cons}
 use Rattle.vp_model.specs.Types.{TxnId, View, Op, Commit, Part, Live, Doubt}
 use Rattle.vp_model.specs.Types.call
 use Rattle.vp_model.specs.Types.input
@@ -12,7 +13,7 @@ use Rattle.vp_model.specs.Catalogue.{Catalogue, find_record}
 use Rattle.vp_model.specs.Durable.{without_doubt}
 use Rattle.vp_model.specs.Site.{SiteState}
 use Rattle.vp_model.specs.Transactions.{entry_of}
-use Rattle.vp_model.specs.Calls.{begun}
+use Rattle.vp_model.specs.Calls.{begun, size_of}
 use Rattle.vp_model.specs.World.{WorldState, site_of}
 use Rattle.vp_model.proofs.SameTxn.{same_txn-is, same_txn-other}
 use Rattle.vp_laws.proofs.Lists.Members.{Has, has_none, any_true}
@@ -23,7 +24,7 @@ use Rattle.vp_laws.proofs.Invariant.Names.{UsedTxn}
 use Rattle.vp_laws.proofs.Invariant.Known.{Known}
 use Rattle.vp_laws.proofs.Keeping.Endings.{fresh}
 use Rattle.vp_progress.specs.Going.{serves}
-use Rattle.vp_progress.specs.Clients.{Wish, name_in, FulfilAll}
+use Rattle.vp_progress.specs.Clients.{Wish, name_in, bytes_in, FitATransaction, FulfilAll}
 use Rattle.vp_progress.proofs.Can.{Can, can_now, can_then}
 use Rattle.vp_progress.proofs.Acts.{Did}
 use Rattle.vp_progress.proofs.Started.{AreJoined}
@@ -91,7 +92,7 @@ module _ (catalogue : Catalogue) (ns : List ℕ) (v : View) (q : ℕ) (lead : Ha
           at = _;
           up = d.acted.now;
           leads = record { held = r.held; live = g.live; parts = r.parts; refresh = r.refresh; doubts = r.doubts; locks = g.locks };
-          free = λ rec h. absurd (has_none _ h.1);
+          free = λ rec h. absurd (has_none rec h);
           others = λ k here n.
               let y = f.rests k here in
               let names = f.known.names.site k y.0 y.1 in
@@ -126,17 +127,18 @@ module _ (catalogue : Catalogue) (ns : List ℕ) (v : View) (q : ℕ) (lead : Ha
     idle : now.pending ≡ None
     fulfil : FulfilAll catalogue wishes ops
     more : now.ops ≡ t.ops ++ ops
+    tables : now.tables ≡ t.tables
     named : now.txn ≡ t.txn
 
-  all_wishes : (wishes : List Wish) (t : Live) (w : WorldState) → Goes t w → t.pending ≡ None → length t.ops + length wishes ≤ 64 → AllByRecursion Grantable wishes → Reaches w (Fulfilled t wishes)
-  all_wishes [] t w f idle few h = can_now catalogue (serves q ns) _ w (record { now = t; ops = []; goes = f; idle = idle; fulfil = tt; more = sym (append-nil t.ops); named = refl })
-  all_wishes (wish ∷ wishes) t w f idle few h =
+  all_wishes : (wishes : List Wish) (t : Live) (w : WorldState) → Goes t w → t.pending ≡ None → length t.answers + length wishes ≤ 64 → size_of t + sum_by bytes_in wishes ≤ 15360 → AllByRecursion Grantable wishes → Reaches w (Fulfilled t wishes)
+  all_wishes [] t w f idle few small h = can_now catalogue (serves q ns) _ w (record { now = t; ops = []; goes = f; idle = idle; fulfil = tt; more = sym (append-nil t.ops); tables = refl; named = refl })
+  all_wishes (wish ∷ wishes) t w f idle few small h =
+      let bytes = sum_by-cons bytes_in wish wishes in
       can_then catalogue (serves q ns) (Done catalogue ns v q lead rest among journal t wish) (Fulfilled t (wish ∷ wishes)) w
-      (fulfils_one catalogue ns v q lead rest among journal t w f idle (omega (arith, few)) wish h.0.0 h.0.1 h.0.2)
+      (fulfils_one catalogue ns v q lead rest among journal t w f idle (omega (arith, few)) wish (omega (arith, small, bytes)) h.0.0 h.0.1 h.0.2)
       λ mid d.
-      let longer : length d.now.ops ≡ length t.ops + 1 = ap (λ (ops : List Op). length ops) d.ops ∙ length-append t.ops (d.operation ∷ []) in
       can_then catalogue (serves q ns) (Fulfilled d.now wishes) (Fulfilled t (wish ∷ wishes)) mid
-      (all_wishes wishes d.now mid d.goes d.idle (omega (arith, few, longer)) h.1)
+      (all_wishes wishes d.now mid d.goes d.idle (let longer = d.answers in omega (arith, few, longer)) (let larger = d.size in omega (arith, small, bytes, larger)) h.1)
       λ new e. can_now catalogue (serves q ns) _ new (record {
         now = e.now;
         ops = d.operation ∷ e.ops;
@@ -144,6 +146,7 @@ module _ (catalogue : Catalogue) (ns : List ℕ) (v : View) (q : ℕ) (lead : Ha
         idle = e.idle;
         fulfil = (d.fulfils, e.fulfil);
         more = e.more ∙ ap (λ (ops : List Op). ops ++ e.ops) d.ops ∙ append_assoc t.ops (d.operation ∷ []) e.ops;
+        tables = e.tables ∙ d.tables;
         named = e.named ∙ d.named;
       })
 
@@ -152,18 +155,20 @@ module _ (catalogue : Catalogue) (ns : List ℕ) (v : View) (q : ℕ) (lead : Ha
     pub entry : Commit
     pub own : entry.txn.site ≡ q
     pub fulfilled : FulfilAll catalogue wishes entry.ops
+    pub tables : entry.tables ≡ []
     pub committed : Committed catalogue ns v q lead rest among members journal entry w
 
-  pub serves_all : (wishes : List Wish) (w : WorldState) → Resting w → (x : SiteState) → site_of w q ≡ Some x → x.seq < 2 ^ 32 - 1 → length wishes ≤ 64 → AllByRecursion Grantable wishes → Reaches w (Serves wishes)
-  serves_all wishes w f x up left few grantable =
+  pub serves_all : (wishes : List Wish) (w : WorldState) → Resting w → (x : SiteState) → site_of w q ≡ Some x → x.seq < 2 ^ 32 - 1 → FitATransaction wishes → AllByRecursion Grantable wishes → Reaches w (Serves wishes)
+  serves_all wishes w f x up left fits grantable =
       let t = begun (next_name x) v.id in
       let id = (f.known.views.site q x up).id in
       can_then catalogue (serves q ns) (Begun x) (Serves wishes) w (begins_one w f x up (grind (arith, nat_tests, left)))
-      λ w1 b. can_then catalogue (serves q ns) (Fulfilled t wishes) (Serves wishes) w1 (all_wishes wishes t w1 b.goes refl (omega (arith, few)) grantable)
+      λ w1 b. can_then catalogue (serves q ns) (Fulfilled t wishes) (Serves wishes) w1 (all_wishes wishes t w1 b.goes refl (let few = fits.few in omega (arith, few)) (let small = fits.small in omega (arith, small)) grantable)
       λ w2 e. can_then catalogue (serves q ns) (Committed catalogue ns v q lead rest among members journal (entry_of e.now)) (Serves wishes) w2 (commits_all catalogue ns v q lead rest among members journal e.now w2 e.goes e.idle)
       λ new c. can_now catalogue (serves q ns) (Serves wishes) new (record {
         entry = entry_of e.now;
         own = ap (λ (u : TxnId). u.site) e.named ∙ id;
         fulfilled = subst (FulfilAll catalogue wishes) (sym e.more) e.fulfil;
+        tables = e.tables;
         committed = c;
       })

@@ -19,8 +19,7 @@ use Rattle.vp_model.specs.Step.{step}
 use Rattle.vp_model.specs.World.{WorldState, site_of}
 use Rattle.vp_laws.specs.Votes.{is_commit}
 use Rattle.vp_laws.proofs.Lists.Members.{Has, has_none, has_one, has_one_is, has_first, has_more, has_test, has_from_test, filter_has, map_has, any_of}
-use Rattle.vp_laws.proofs.Lists.Changes.{all_from}
-use Rattle.vp_laws.proofs.Lists.Pairs.{last_written}
+use Rattle.vp_laws.proofs.Lists.Changes.{all_from, mapped_has}
 use Rattle.vp_laws.proofs.Lists.Views.{put_only, same_site}
 use Rattle.vp_laws.proofs.Lists.LockTables.{HasLock, same_owner-self}
 use Rattle.vp_laws.proofs.Moves.LocalViews.{letter}
@@ -30,7 +29,7 @@ use Rattle.vp_laws.proofs.Table.Leaves.{Uses}
 use Rattle.vp_laws.proofs.Worlds.Scenes.{scene_of}
 use Rattle.vp_laws.proofs.Invariant.Answers.{AnswersOk}
 use Rattle.vp_laws.proofs.Invariant.HasLeft.{HasLeft}
-use Rattle.vp_laws.proofs.Invariant.Ops.{HasWritten}
+use Rattle.vp_laws.proofs.Journal.Changed.{HasChanged}
 use Rattle.vp_laws.proofs.Invariant.Used.{HasAnswered, LockedAt}
 use Rattle.vp_laws.proofs.Invariant.Known.{Known}
 use Rattle.vp_progress.specs.Going.{serves}
@@ -115,12 +114,12 @@ module _ (catalogue : Catalogue) (ns : List ℕ) (v : View) (q : ℕ) (lead : Ha
         (λ (a : LockedAt (scene_of w) k t.txn rec exclusive). let same : a.0 ≡ part_site = (let z = sym a.1 ∙ (f.others k here n).up in grind (arith, z)) in subst (λ (x : SiteState). HasLock rec exclusive (owner.Txn t.txn) x.locks) same a.2)
         (f.known.used.used q k rec exclusive f.at t f.up live_here h)
 
-    written_there : (rec : ℕ) → Has (keys (writes_held catalogue k (last_changes (entry_of t)))) rec → HasWritten t rec × Has (holders catalogue rec) k
+    written_there : (rec : ℕ) → Has (keys (writes_held catalogue k (last_changes (entry_of t)))) rec → HasChanged t rec × Has (holders catalogue rec) k
     written_there rec h =
         let m = map_has (λ (w : ℕ × Change). w.0) (writes_held catalogue k (last_changes (entry_of t))) rec h in
         let g = filter_has (λ (w : ℕ × Change). has (holders catalogue w.0) k) (last_changes (entry_of t)) m.0 m.1 in
-        let wrote = last_written t.ops m.0 g.0 in
-        (subst (HasWritten t) m.2 wrote, subst (λ (r : ℕ). Has (holders catalogue r) k) m.2 (has_from_test (holders catalogue m.0.0) k g.1))
+        let changed = mapped_has (λ (w : ℕ × Change). w.0) (last_changes (entry_of t)) m.0 g.0 in
+        (subst (HasChanged t) m.2 changed, subst (λ (r : ℕ). Has (holders catalogue r) k) m.2 (has_from_test (holders catalogue m.0.0) k g.1))
 
     write_locked : (rec : ℕ) → Has (keys (writes_held catalogue k (last_changes (entry_of t)))) rec → holds rec true (owner.Txn t.txn) part_site.locks ≡ true
     write_locked rec h =

@@ -1,12 +1,12 @@
 -- What the rows of calls and answers leave of the coordinator's part, and whom they ask.
 use Rattle.std.proofs.Common.{◌≡◌, ◌∙◌, ap, subst, ℕ, Bool, true, List, [], ◌∷◌, ◌++◌, refl, inr}
-use Rattle.vp_model.specs.Types.{TxnId, ViewId, Op, Commit, Answer, Lock, Pending, Live}
+use Rattle.vp_model.specs.Types.{TxnId, ViewId, Commit, Lock, Pending, Live}
 use Rattle.vp_model.specs.Types.message
 use Rattle.vp_model.specs.Types.owner
 use Rattle.vp_model.specs.Words.{same_txn, change_first, without_first}
 use Rattle.vp_model.specs.Catalogue.{Catalogue}
 use Rattle.vp_model.specs.Site.{CoordinatorState, Here, Lent}
-use Rattle.vp_model.specs.Transactions.{entry_of, keep_writes, decided, decide, complete, wait_for}
+use Rattle.vp_model.specs.Transactions.{Deed, entry_of, keep_writes, decided, decide, complete, wait_for}
 use Rattle.vp_model.specs.Calls.{begun, start_txn, take_lock, read_at, write_at, prepare_parts, prepare_for}
 use Rattle.vp_model.proofs.SameTxn.{same_txn-self}
 use Rattle.vp_laws.proofs.Lists.Members.{Has, has_one, has_right}
@@ -20,9 +20,9 @@ changed : (t now : Live) (live : List Live) → live ≡ t ∷ [] → now.txn �
 changed t now live e n = let self = same_txn-self t.txn in rw (e, n, self) refl
 
 module _ (r : Rest) (t : Live) (l : Lent) (h : LeadsOn r t l) where
-  pub completes : (p : Pending) (operation : Op) (words : Answer) → LeadsOn r (done t operation words) (complete t p operation words l)
+  pub completes : (p : Pending) (deed : Deed) → LeadsOn r (done t p deed) (complete t p deed l)
   unfolding complete
-  completes p operation words = record { live = changed t (done t operation words) l.live h.live refl; locks = h.locks; commits = h.commits }
+  completes p deed = record { live = changed t (done t p deed) l.live h.live refl; locks = h.locks; commits = h.commits }
 
   pub waits : (p : Pending) (sites : List ℕ) → LeadsOn r (waiting t p sites) (wait_for t p sites l)
   waits p sites = record { live = changed t (waiting t p sites) l.live h.live refl; locks = h.locks; commits = h.commits }

@@ -1,9 +1,10 @@
 -- A read or a write is done: at once, or when the holders that are asked have answered.
-use Rattle.std.proofs.Common.{◌≡◌, ◌≢◌, ◌⊎◌, ◌∙◌, ap, sym, subst, ℕ, ◌+◌, ◌<◌, ◌≤◌, Bool, true, false, List, [], ◌∷◌, ◌++◌, length, refl, arith, ⊎_elim, inl, inr}
-use Rattle.std.specs.Prelude.{Option, Some, None, ◌==◌, ◌&&◌, not, nat_eq, nat_lt, nat_le}
+use Rattle.std.proofs.Common.{◌≡◌, ◌≢◌, ◌⊎◌, ◌∙◌, ap, sym, subst, ℕ, ◌+◌, ◌*◌, ◌<◌, ◌≤◌, Bool, true, false, List, [], ◌∷◌, ◌++◌, length, refl, arith, ⊎_elim, inl, inr, length-append}
+use Rattle.std.specs.Prelude.{Option, Some, None, ◌==◌, ◌&&◌, not, nat_eq, nat_lt, nat_le, option_map, sum_by}
+use Rattle.std.proofs.lemmas.Bool.{eqb-true}
 use Rattle.std.proofs.lemmas.Bool.Decides.{nat_tests}
-use Rattle.vp_model.specs.Types.{ViewId, View, Stored, Op, Commit, Answer, Message, Pending, Live}
-use Rattle.vp_model.specs.Types.answer
+use Rattle.std.proofs.lemmas.List.Sums.{fold-append}
+use Rattle.vp_model.specs.Types.{ViewId, View, Stored, Change, Op, Commit, Call, Message, Pending, Live}
 use Rattle.vp_model.specs.Types.call
 use Rattle.vp_model.specs.Types.input
 use Rattle.vp_model.specs.Types.message
@@ -12,30 +13,32 @@ use Rattle.vp_model.specs.Words.{first, for_each, has, is_empty, put_number, val
 use Rattle.vp_model.specs.Catalogue.{Catalogue, find_record, holders, weights_of, accessible}
 use Rattle.vp_model.specs.Locks.{conflict}
 use Rattle.vp_model.specs.Site.{SiteState, Lent, begin_step, put_back}
-use Rattle.vp_model.specs.Transactions.{last_writes, last_changes, entry_of, complete}
+use Rattle.vp_model.specs.Transactions.{Deed, with_op, last_writes, last_changes, entry_of, with_deed, complete}
 use Rattle.vp_model.specs.Refresh.{members_in, is_usable_in, other_holders_in}
 use Rattle.vp_model.specs.Messages.{holds_view, grant}
-use Rattle.vp_model.specs.Calls.{handled, answer_read, answer_write, read, read_at, write, write_at, write_elsewhere, take_lock}
+use Rattle.vp_model.specs.Calls.{content_size, size_of, is_too_large, handled, change_asked, answer_read, read, read_at, change, write_at, change_elsewhere, take_lock}
 use Rattle.vp_model.specs.Step.{step}
 use Rattle.vp_model.specs.World.{WorldState}
-use Rattle.vp_laws.proofs.Lists.Members.{Has, has_none, has_one, has_one_is, has_first, has_more, has_cons, has_cases, has_test, has_from_test, filter_has, filter_keeps, both_true}
+use Rattle.vp_laws.proofs.Lists.Members.{Has, has_none, has_one, has_one_is, has_first, has_more, has_cons, has_test, has_from_test, filter_has, filter_keeps, both_true}
 use Rattle.vp_laws.proofs.Lists.Changes.{put_new}
 use Rattle.vp_laws.proofs.Lists.Views.{put_keeps, put_only}
 use Rattle.vp_laws.proofs.Lists.Numbers.{differs, not_same}
 use Rattle.vp_laws.proofs.Moves.LocalViews.{letter}
 use Rattle.vp_laws.proofs.Moves.Table.{lent_at}
+use Rattle.vp_laws.proofs.Journal.Changed.{HasChanged, alters, changed_by}
 use Rattle.vp_laws.proofs.Moves.Calls.{waiting, done}
+use Rattle.vp_laws.proofs.Shapes.Live.{put_size}
 use Rattle.vp_laws.proofs.Worlds.Scenes.{scene_of}
 use Rattle.vp_laws.proofs.Copies.Force.{shared_by}
 use Rattle.vp_laws.proofs.Invariant.Held.{has_copy}
 use Rattle.vp_laws.proofs.Invariant.Known.{Known}
-use Rattle.vp_progress.specs.Going.{serves}
-use Rattle.vp_progress.specs.Clients.{Wish, name_in, Fulfils}
+use Rattle.vp_progress.specs.Going.{is_regroup, serves}
+use Rattle.vp_progress.specs.Clients.{Wish, name_in, bytes_in, Fulfils}
 use Rattle.vp_progress.proofs.Can.{Can, can_now}
 use Rattle.vp_progress.proofs.Acts.{Did}
 use Rattle.vp_progress.proofs.Current.{holds_it}
-use Rattle.vp_progress.proofs.Serving.Rows.{read_own, read_copy, read_there, write_again, write_copy, write_there, write_alone, write_asks, reads, writes}
-use Rattle.vp_progress.proofs.Serving.Answers.{reads_answered, writes_answered}
+use Rattle.vp_progress.proofs.Serving.Rows.{read_own, read_copy, read_there, change_again, change_copy, change_there, change_alone, change_asks, reads, writes, deletes}
+use Rattle.vp_progress.proofs.Serving.Answers.{reads_answered, changes_answered}
 use Rattle.vp_progress.proofs.Serving.Parts.{grants_read, grants_write}
 use Rattle.vp_progress.proofs.Serving.Sites.{Rest, LeadsOn, leads_first, rests_free, Gives, grants_on}
 use Rattle.vp_progress.proofs.Serving.Leading.{completes, locks_on, asks_read, asks_writes}
@@ -81,8 +84,37 @@ first_of : (xs : List ℕ) (k : ℕ) → Has xs k → (j : ℕ) × (first xs ≡
 first_of [] k h = absurd (has_none k h)
 first_of (x ∷ xs) k h = (x, refl, has_first x xs)
 
-few_ops : (n : ℕ) → n < 64 → nat_le 64 n ≡ false
-few_ops n h = grind (arith, nat_tests, h)
+few_calls : (n : ℕ) → n < 64 → nat_le 64 n ≡ false
+few_calls n h = grind (arith, nat_tests, h)
+
+-- ---- the size of a transaction
+
+-- the bytes that an operation writes
+abbrev bytes_written : Op → ℕ
+bytes_written (op.Read rec content) = 0
+bytes_written (op.Write rec content) = content_size content
+
+-- an operation makes the transaction larger by no more than it writes
+operation_size : (t : Live) (operation : Op) → size_of (with_deed (Deed.operates operation) t) ≤ size_of t + bytes_written operation
+operation_size t (op.Read rec content) = subst (λ (ws : List (ℕ × Option (List ℕ))). sum_by (λ (w : ℕ × Option (List ℕ)). content_size w.1) ws + 50 * length t.tables ≤ size_of t + 0) (sym (fold-append with_op [] t.ops (op.Read rec content ∷ []))) (omega arith)
+operation_size t (op.Write rec content) =
+    let more = put_size rec content (last_writes t.ops) in
+    subst (λ (ws : List (ℕ × Option (List ℕ))). sum_by (λ (w : ℕ × Option (List ℕ)). content_size w.1) ws + 50 * length t.tables ≤ size_of t + content_size content) (sym (fold-append with_op [] t.ops (op.Write rec content ∷ []))) (omega (arith, more))
+
+-- what fulfils a wish writes no more than was asked
+fulfils_size : (catalogue : Catalogue) (wish : Wish) (operation : Op) → Fulfils catalogue wish operation → bytes_written operation ≤ bytes_in wish
+fulfils_size catalogue (Wish.read name) (op.Read rec content) h = omega arith
+fulfils_size catalogue (Wish.write name value) (op.Write rec content) h = rw h.1 (omega arith)
+fulfils_size catalogue (Wish.delete name) (op.Write rec content) h = rw h.1 (omega arith)
+fulfils_size catalogue (Wish.read name) (op.Write rec content) h = absurd h
+fulfils_size catalogue (Wish.write name value) (op.Read rec content) h = absurd h
+fulfils_size catalogue (Wish.delete name) (op.Read rec content) h = absurd h
+
+pub done_size : (catalogue : Catalogue) (t : Live) (wish : Wish) (operation : Op) → Fulfils catalogue wish operation → size_of (with_deed (Deed.operates operation) t) ≤ size_of t + bytes_in wish
+done_size catalogue t wish operation h = let a = operation_size t operation in let b = fulfils_size catalogue wish operation h in omega (arith, a, b)
+
+not_too_large : (t : Live) (rec : ℕ) (value : List ℕ) → size_of t + length value ≤ 15360 → is_too_large t (Deed.operates (op.Write rec (Some value))) ≡ false
+not_too_large t rec value h = let a = operation_size t (op.Write rec (Some value)) in grind (arith, nat_tests, h, a)
 
 module _ (catalogue : Catalogue) (ns : List ℕ) (v : View) (q : ℕ) (lead : Has ns q) (rest : ℕ → Rest) (among : (k : ℕ) → Has v.members k → Has ns k) (journal : List Commit) where
   abbrev pub Goes : Live → List ℕ → WorldState → Type 0
@@ -102,22 +134,25 @@ module _ (catalogue : Catalogue) (ns : List ℕ) (v : View) (q : ℕ) (lead : Ha
     pub goes : Goes now [] w
     pub idle : now.pending ≡ None
     pub ops : now.ops ≡ t.ops ++ operation ∷ []
+    pub answers : length now.answers ≡ length t.answers + 1
+    pub size : size_of now ≤ size_of t + bytes_in wish
+    pub tables : now.tables ≡ t.tables
     pub named : now.txn ≡ t.txn
 
   -- it writes nothing, or a free record
   abbrev WritesFree : Op → Type 0
-  WritesFree (op.Read rec value) = Unit {0}
-  WritesFree (op.Write rec value) = Free rec
+  WritesFree (op.Read rec content) = Unit {0}
+  WritesFree (op.Write rec content) = Free rec
 
-  written_free : (operation : Op) (rec : ℕ) (value : List ℕ) → WritesFree operation → operation ≡ op.Write rec value → Free rec
-  written_free (op.Read rec value) other new h e = cc
-  written_free (op.Write rec value) other new h e = let same : rec ≡ other = cc in subst Free same h
+  altered_free : (operation : Op) (rec : ℕ) → WritesFree operation → alters (Deed.operates operation) rec ≡ true → Free rec
+  altered_free (op.Read other content) rec new h = cc
+  altered_free (op.Write other content) rec new h = subst Free (eqb-true other rec h) new
 
   -- the operation is done, where no part is missing
-  finishes : (t : Live) (missing : List ℕ) (w new : WorldState) (f : Goes t missing w) (p : Pending) (operation : Op) (words : Answer) (l : Lent) → ((k : ℕ) → Has t.parts k → TakesAt t.txn k w) → WritesFree operation → LeadsOn (rest q) t l → Known catalogue (scene_of new) → Did w new q f.at (put_back (begin_step f.at) (complete t p operation words l)) → Goes (done t operation words) [] new
-  finishes t missing w new f p operation words l all free g known d =
-      own_moves catalogue ns v q rest among journal t (done t operation words) missing [] w new f (complete t p operation words l) known d (completes (rest q) t l g p operation words) refl
-      (λ rec h. ⊎_elim (λ old. f.free rec (h.0, old)) (λ one. written_free operation rec h.0 free (has_one_is operation (op.Write rec h.0) one)) (has_cases t.ops (operation ∷ []) (op.Write rec h.0) h.1))
+  finishes : (t : Live) (missing : List ℕ) (w new : WorldState) (f : Goes t missing w) (p : Pending) (operation : Op) (l : Lent) → ((k : ℕ) → Has t.parts k → TakesAt t.txn k w) → WritesFree operation → LeadsOn (rest q) t l → Known catalogue (scene_of new) → Did w new q f.at (put_back (begin_step f.at) (complete t p (Deed.operates operation) l)) → Goes (done t p (Deed.operates operation)) [] new
+  finishes t missing w new f p operation l all free g known d =
+      own_moves catalogue ns v q rest among journal t (done t p (Deed.operates operation)) missing [] w new f (complete t p (Deed.operates operation) l) known d (completes (rest q) t l g p (Deed.operates operation)) refl
+      (λ rec h. ⊎_elim (λ old. f.free rec old) (λ one. altered_free operation rec free one.0) (changed_by t p (Deed.operates operation) rec h))
       (λ k h. h) (λ k h. inr (all k h))
 
   -- with no part missing, each has come
@@ -155,7 +190,7 @@ module _ (catalogue : Catalogue) (ns : List ℕ) (v : View) (q : ℕ) (lead : Ha
     writes_there : Has w.sent (letter q k (message.WriteRequest t.txn t.view number rec)) → Gets (message.WriteAnswer t.txn number)
     writes_there sent = granted_there true _ _ sent (grants_write catalogue lender q t.txn t.view number rec copy_there.0 holds_there (f.others k here n).lends.new copy_there.1 (free_there true))
 
-  module _ (t : Live) (w : WorldState) (f : Goes t [] w) (idle : t.pending ≡ None) (few : length t.ops < 64) (name : List ℕ) (rec : ℕ) (found : find_record catalogue name ≡ Some rec) (free : Free rec) where
+  module _ (t : Live) (w : WorldState) (f : Goes t [] w) (idle : t.pending ≡ None) (few : length t.answers < 64) (name : List ℕ) (rec : ℕ) (found : find_record catalogue name ≡ Some rec) (free : Free rec) where
     abbrev x : SiteState
     x = f.at
 
@@ -179,14 +214,17 @@ module _ (catalogue : Catalogue) (ns : List ℕ) (v : View) (q : ℕ) (lead : Ha
     other_site k h = let o = other_holder catalogue x.id rec k v x.held f.leads.held h in (among k o.0, (λ same. o.1 (same ∙ sym id_is)), o.2)
 
     -- the step that the call takes, where it is done at once
-    at_once : (p : Pending) (words : Answer) (operation : Op) (wish : Wish) (l : Lent) (new : WorldState) → Fulfils catalogue wish operation → WritesFree operation → LeadsOn (rest q) t l → Known catalogue (scene_of new) → Did w new q x (put_back (begin_step x) (complete t p operation words l)) → Reaches new (Done t wish)
-    at_once p words operation wish l new fulfils writes g known d = can_now catalogue (serves q ns) _ new (record {
+    at_once : (p : Pending) (operation : Op) (wish : Wish) (l : Lent) (new : WorldState) → Fulfils catalogue wish operation → WritesFree operation → LeadsOn (rest q) t l → Known catalogue (scene_of new) → Did w new q x (put_back (begin_step x) (complete t p (Deed.operates operation) l)) → Reaches new (Done t wish)
+    at_once p operation wish l new fulfils writes g known d = can_now catalogue (serves q ns) _ new (record {
       operation = operation;
       fulfils = fulfils;
-      now = done t operation words;
-      goes = finishes t [] w new f p operation words l (all_there t w f) writes g known d;
+      now = done t p (Deed.operates operation);
+      goes = finishes t [] w new f p operation l (all_there t w f) writes g known d;
       idle = refl;
       ops = refl;
+      answers = length-append t.answers _;
+      size = done_size catalogue t wish operation fulfils;
+      tables = refl;
       named = refl;
     })
 
@@ -216,10 +254,13 @@ module _ (catalogue : Catalogue) (ns : List ℕ) (v : View) (q : ℕ) (lead : Ha
           λ all new known d. can_now catalogue (serves q ns) _ new (record {
             operation = op.Read rec c.0.value;
             fulfils = found;
-            now = done now (op.Read rec c.0.value) (answer.Value t.txn number c.0.value);
-            goes = finishes now missing mid new e.serving (record read_call { missing = missing }) (op.Read rec c.0.value) (answer.Value t.txn number c.0.value) (lent_at e.serving.at) all tt (leads_first v (rest q) now e.serving.at e.serving.leads) known d;
+            now = done now (record read_call { missing = missing }) (Deed.operates (op.Read rec c.0.value));
+            goes = finishes now missing mid new e.serving (record read_call { missing = missing }) (op.Read rec c.0.value) (lent_at e.serving.at) all tt (leads_first v (rest q) now e.serving.at e.serving.leads) known d;
             idle = refl;
             ops = refl;
+            answers = length-append t.answers _;
+            size = done_size catalogue t (Wish.read name) (op.Read rec c.0.value) found;
+            tables = refl;
             named = refl;
           })
 
@@ -240,7 +281,7 @@ module _ (catalogue : Catalogue) (ns : List ℕ) (v : View) (q : ℕ) (lead : Ha
         p = handled 0 number (call.Read t.txn number name)
 
         row : step catalogue x (input.Call 0 (call.Read t.txn number name)) ≡ put_back (begin_step x) (read catalogue x.id x.held t p name rec (lent_at x))
-        row = reads catalogue x t number f.leads.live refl idle name rec found (few_ops (length t.ops) few) usable
+        row = reads catalogue x t number f.leads.live refl idle name rec found (few_calls (length t.answers) few) usable
 
         asks : (new : WorldState) → Known catalogue (scene_of new) → Did w new q x (step catalogue x (input.Call 0 (call.Read t.txn number name))) → value_at rec (last_writes t.ops) ≡ None → value_at rec x.copies ≡ None → Reaches new (Done t (Wish.read name))
         asks new known d e c =
@@ -249,16 +290,19 @@ module _ (catalogue : Catalogue) (ns : List ℕ) (v : View) (q : ℕ) (lead : Ha
             let k = first_of (other_holders_in catalogue x.id x.held rec) h.0 (is_other catalogue x.id rec h.0 v x.held f.leads.held h.2 (λ same. away (same ∙ id_is)) h.1) in
             read_asked k.0 k.2 new known (subst (Did w new q x) (row ∙ ap (put_back (begin_step x)) (read_there catalogue x.id x.held t (lent_at x) p name rec k.0 e c k.1)) d)
 
-        go : (new : WorldState) → Known catalogue (scene_of new) → Did w new q x (step catalogue x (input.Call 0 (call.Read t.txn number name))) → (o : Option (List ℕ)) → value_at rec (last_writes t.ops) ≡ o → (c : Option Stored) → value_at rec x.copies ≡ c → Reaches new (Done t (Wish.read name))
-        go new known d (Some value) e c r = at_once p (answer.Value t.txn number value) (op.Read rec value) (Wish.read name) (lent_at x) new found tt mine known (subst (Did w new q x) (row ∙ ap (put_back (begin_step x)) (read_own catalogue x.id x.held t (lent_at x) p name rec value e)) d)
-        go new known d None e (Some stored) r = at_once p (answer.Value t.txn number stored.value) (op.Read rec stored.value) (Wish.read name) (take_lock t.txn rec false (lent_at x)) new found tt (locks_on (rest q) t (lent_at x) mine rec false) known (subst (Did w new q x) (row ∙ ap (put_back (begin_step x)) (read_copy catalogue x.id x.held t (lent_at x) p name rec stored e r (unlocked false))) d)
+        go : (new : WorldState) → Known catalogue (scene_of new) → Did w new q x (step catalogue x (input.Call 0 (call.Read t.txn number name))) → (o : Option (Option (List ℕ))) → value_at rec (last_writes t.ops) ≡ o → (c : Option Stored) → value_at rec x.copies ≡ c → Reaches new (Done t (Wish.read name))
+        go new known d (Some value) e c r = at_once p (op.Read rec value) (Wish.read name) (lent_at x) new found tt mine known (subst (Did w new q x) (row ∙ ap (put_back (begin_step x)) (read_own catalogue x.id x.held t (lent_at x) p name rec value e)) d)
+        go new known d None e (Some stored) r = at_once p (op.Read rec stored.value) (Wish.read name) (take_lock t.txn rec false (lent_at x)) new found tt (locks_on (rest q) t (lent_at x) mine rec false) known (subst (Did w new q x) (row ∙ ap (put_back (begin_step x)) (read_copy catalogue x.id x.held t (lent_at x) p name rec stored e r (unlocked false))) d)
         go new known d None e None r = asks new known d e r
 
-    -- ---- a write
+    -- ---- a write or a delete
 
-    module _ (value : List ℕ) where
-      abbrev write_call : Pending
-      write_call = handled 0 number (call.Write t.txn number name value)
+    module _ (content : Option (List ℕ)) (words : Call) (wish : Wish) (fulfilled : Fulfils catalogue wish (op.Write rec content)) (asked : change_asked catalogue words ≡ Some (Deed.operates (op.Write rec content))) where
+      abbrev deed : Deed
+      deed = Deed.operates (op.Write rec content)
+
+      abbrev change_call : Pending
+      change_call = handled 0 number words
 
       abbrev sites : List ℕ
       sites = other_holders_in catalogue x.id x.held rec
@@ -269,57 +313,78 @@ module _ (catalogue : Catalogue) (ns : List ℕ) (v : View) (q : ℕ) (lead : Ha
       abbrev write_ask : ℕ → Message
       write_ask j = message.WriteRequest t.txn t.view number rec
 
-      abbrev Written : WorldState → Type 0
-      Written u = Done t (Wish.write name value) u
+      abbrev Changed : WorldState → Type 0
+      Changed u = Done t wish u
 
-      write_one : (missing : List ℕ) (j : ℕ) (u : WorldState) → Has sites j → Has missing j → Goes (waiting writer write_call missing) missing u → Asked catalogue ns v q lead rest among journal writer write_call write_ask Written (λ sites. sites) (λ sites j h. h) still_left missing u → Reaches u (Counted catalogue ns v q lead rest among journal writer write_call write_ask Written (λ sites. sites) (λ sites j h. h) still_left missing j u)
-      write_one missing j u one waits g asked =
+      change_one : (missing : List ℕ) (j : ℕ) (u : WorldState) → Has sites j → Has missing j → Goes (waiting writer change_call missing) missing u → Asked catalogue ns v q lead rest among journal writer change_call write_ask Changed (λ sites. sites) (λ sites j h. h) still_left missing u → Reaches u (Counted catalogue ns v q lead rest among journal writer change_call write_ask Changed (λ sites. sites) (λ sites j h. h) still_left missing j u)
+      change_one missing j u one waits g sent =
           let o = other_site j one in
-          let now = waiting writer write_call missing in
-          exchanged catalogue ns v q lead rest among journal writer write_call write_ask Written (λ sites. sites) (λ sites j h. h) still_left missing j u (message.WriteAnswer t.txn number)
-          (writes_there rec free now missing u g j o.0 o.1 o.2 (each_there sites t.parts j one) number (asked j waits))
-          λ mid e. counts catalogue ns v q lead rest among journal writer write_call write_ask Written (λ sites. sites) (λ sites j h. h) still_left missing j mid e.serving o.0 waits e.takes (message.WriteAnswer t.txn number) e.answered
-          (answer_write now (record write_call { missing = missing }) rec value)
-          (writes_answered catalogue j now (record write_call { missing = missing }) refl (has_test missing j waits) e.serving.at t.txn number name value rec e.serving.leads.live refl found)
+          let now = waiting writer change_call missing in
+          exchanged catalogue ns v q lead rest among journal writer change_call write_ask Changed (λ sites. sites) (λ sites j h. h) still_left missing j u (message.WriteAnswer t.txn number)
+          (writes_there rec free now missing u g j o.0 o.1 o.2 (each_there sites t.parts j one) number (sent j waits))
+          λ mid e. counts catalogue ns v q lead rest among journal writer change_call write_ask Changed (λ sites. sites) (λ sites j h. h) still_left missing j mid e.serving o.0 waits e.takes (message.WriteAnswer t.txn number) e.answered
+          (complete now (record change_call { missing = missing }) deed)
+          (changes_answered catalogue j now (record change_call { missing = missing }) refl (has_test missing j waits) e.serving.at deed e.serving.leads.live asked)
           λ all new known d. can_now catalogue (serves q ns) _ new (record {
-            operation = op.Write rec value;
-            fulfils = (found, refl);
-            now = done now (op.Write rec value) (answer.Written t.txn number);
-            goes = finishes now missing mid new e.serving (record write_call { missing = missing }) (op.Write rec value) (answer.Written t.txn number) (lent_at e.serving.at) all free (leads_first v (rest q) now e.serving.at e.serving.leads) known d;
+            operation = op.Write rec content;
+            fulfils = fulfilled;
+            now = done now (record change_call { missing = missing }) deed;
+            goes = finishes now missing mid new e.serving (record change_call { missing = missing }) (op.Write rec content) (lent_at e.serving.at) all free (leads_first v (rest q) now e.serving.at e.serving.leads) known d;
             idle = refl;
             ops = refl;
+            answers = length-append t.answers _;
+            size = done_size catalogue t wish (op.Write rec content) fulfilled;
+            tables = refl;
             named = refl;
           })
 
-      write_asked : (l : Lent) → LeadsOn (rest q) t l → (new : WorldState) → Known catalogue (scene_of new) → is_empty sites ≡ false → Did w new q x (put_back (begin_step x) (write_at x.id t write_call rec sites l)) → Reaches new Written
-      write_asked l leads new known some d =
-          let a = asks_writes (rest q) t l leads x.id write_call rec sites in
-          waits_all catalogue ns v q lead rest among journal writer write_call write_ask Written (λ sites. sites) (λ sites j h. h) still_left sites write_one (length sites) sites new (λ j h. h) (omega arith) some
-          (own_moves catalogue ns v q rest among journal t (waiting writer write_call sites) [] sites w new f _ known d a.0 refl f.free (λ j h. each_keeps sites t.parts j h)
+      change_sent : (l : Lent) → LeadsOn (rest q) t l → (new : WorldState) → Known catalogue (scene_of new) → is_empty sites ≡ false → Did w new q x (put_back (begin_step x) (write_at x.id t change_call rec sites l)) → Reaches new Changed
+      change_sent l leads new known some d =
+          let a = asks_writes (rest q) t l leads x.id change_call rec sites in
+          waits_all catalogue ns v q lead rest among journal writer change_call write_ask Changed (λ sites. sites) (λ sites j h. h) still_left sites change_one (length sites) sites new (λ j h. h) (omega arith) some
+          (own_moves catalogue ns v q rest among journal t (waiting writer change_call sites) [] sites w new f _ known d a.0 refl f.free (λ j h. each_keeps sites t.parts j h)
           (λ j h. ⊎_elim (λ old. inr (all_there t w f j old)) (λ more. inl more) (each_only sites t.parts j h)))
-          (λ j h. d.acted.sends _ (subst (λ (i : ℕ). Has (write_at x.id t write_call rec sites l).effects.messages (letter i j (write_ask j))) id_is (a.1 j h)))
+          (λ j h. d.acted.sends _ (subst (λ (i : ℕ). Has (write_at x.id t change_call rec sites l).effects.messages (letter i j (write_ask j))) id_is (a.1 j h)))
 
-      write_on : (l : Lent) → LeadsOn (rest q) t l → (new : WorldState) → Known catalogue (scene_of new) → Did w new q x (put_back (begin_step x) (write_elsewhere catalogue x.id x.held t write_call rec value l)) → Reaches new Written
-      write_on l leads new known d = go (is_empty sites) refl
+      change_on : (l : Lent) → LeadsOn (rest q) t l → (new : WorldState) → Known catalogue (scene_of new) → Did w new q x (put_back (begin_step x) (change_elsewhere catalogue x.id x.held t change_call rec deed l)) → Reaches new Changed
+      change_on l leads new known d = go (is_empty sites) refl
         where
-          go : (b : Bool) → is_empty sites ≡ b → Reaches new Written
-          go true e = at_once write_call (answer.Written t.txn number) (op.Write rec value) (Wish.write name value) l new (found, refl) free leads known (subst (Did w new q x) (ap (put_back (begin_step x)) (write_alone catalogue x.id x.held t l write_call rec value e)) d)
-          go false e = write_asked l leads new known e (subst (Did w new q x) (ap (put_back (begin_step x)) (write_asks catalogue x.id x.held t l write_call rec value e)) d)
+          go : (b : Bool) → is_empty sites ≡ b → Reaches new Changed
+          go true e = at_once change_call (op.Write rec content) wish l new fulfilled free leads known (subst (Did w new q x) (ap (put_back (begin_step x)) (change_alone catalogue x.id x.held t l change_call rec deed e)) d)
+          go false e = change_sent l leads new known e (subst (Did w new q x) (ap (put_back (begin_step x)) (change_asks catalogue x.id x.held t l change_call rec deed e)) d)
 
-      write_done : Reaches w Written
-      write_done =
-          calls catalogue ns v q rest among Written w f.known x f.up (call.Write t.txn number name value) refl
+      change_done : (asks : ℕ → Deed) → asks rec ≡ deed → is_regroup words ≡ false → step catalogue x (input.Call 0 words) ≡ put_back (begin_step x) (change catalogue x.id x.held t change_call name asks rec (lent_at x)) → Reaches w Changed
+      change_done asks same other row =
+          calls catalogue ns v q rest among Changed w f.known x f.up words other
           λ new known d. go new known d (value_at rec (last_changes (entry_of t))) refl (value_at rec x.copies) refl
         where
-          row : step catalogue x (input.Call 0 (call.Write t.txn number name value)) ≡ put_back (begin_step x) (write catalogue x.id x.held t write_call name value rec (lent_at x))
-          row = writes catalogue x t number f.leads.live refl idle name value rec found (few_ops (length t.ops) few) usable
+          on : {l m : Lent} (new : WorldState) → Did w new q x (step catalogue x (input.Call 0 words)) → change catalogue x.id x.held t change_call name asks rec (lent_at x) ≡ l → l ≡ m → Did w new q x (put_back (begin_step x) m)
+          on new d e n = subst (Did w new q x) (row ∙ ap (put_back (begin_step x)) (e ∙ n)) d
 
-          go : (new : WorldState) → Known catalogue (scene_of new) → Did w new q x (step catalogue x (input.Call 0 (call.Write t.txn number name value))) → (o : Option (List ℕ)) → value_at rec (last_changes (entry_of t)) ≡ o → (c : Option Stored) → value_at rec x.copies ≡ c → Reaches new Written
-          go new known d (Some before) e c r = at_once write_call (answer.Written t.txn number) (op.Write rec value) (Wish.write name value) (lent_at x) new (found, refl) free mine known (subst (Did w new q x) (row ∙ ap (put_back (begin_step x)) (write_again catalogue x.id x.held t (lent_at x) write_call name value rec before e)) d)
-          go new known d None e (Some stored) r = write_on (take_lock t.txn rec true (lent_at x)) (locks_on (rest q) t (lent_at x) mine rec true) new known (subst (Did w new q x) (row ∙ ap (put_back (begin_step x)) (write_copy catalogue x.id x.held t (lent_at x) write_call name value rec stored e r (unlocked true))) d)
-          go new known d None e None r = write_on (lent_at x) mine new known (subst (Did w new q x) (row ∙ ap (put_back (begin_step x)) (write_there catalogue x.id x.held t (lent_at x) write_call name value rec e r)) d)
+          elsewhere : (l : Lent) → change_elsewhere catalogue x.id x.held t change_call rec (asks rec) l ≡ change_elsewhere catalogue x.id x.held t change_call rec deed l
+          elsewhere l = ap (λ (deed : Deed). change_elsewhere catalogue x.id x.held t change_call rec deed l) same
+
+          go : (new : WorldState) → Known catalogue (scene_of new) → Did w new q x (step catalogue x (input.Call 0 words)) → (o : Option Change) → value_at rec (last_changes (entry_of t)) ≡ o → (c : Option Stored) → value_at rec x.copies ≡ c → Reaches new Changed
+          go new known d (Some before) e c r = at_once change_call (op.Write rec content) wish (lent_at x) new fulfilled free mine known (on new d (change_again catalogue x.id x.held t (lent_at x) change_call name asks rec before e) (ap (λ (deed : Deed). complete t change_call deed (lent_at x)) same))
+          go new known d None e (Some stored) r = change_on (take_lock t.txn rec true (lent_at x)) (locks_on (rest q) t (lent_at x) mine rec true) new known (on new d (change_copy catalogue x.id x.held t (lent_at x) change_call name asks rec stored e r (unlocked true)) (elsewhere (take_lock t.txn rec true (lent_at x))))
+          go new known d None e None r = change_on (lent_at x) mine new known (on new d (change_there catalogue x.id x.held t (lent_at x) change_call name asks rec e r) (elsewhere (lent_at x)))
+
+    -- the record is found
+    asked_of : (make : ℕ → Deed) → option_map make (find_record catalogue name) ≡ Some (make rec)
+    asked_of make = rw found refl
+
+    write_done : (value : List ℕ) → size_of t + length value ≤ 15360 → Reaches w (Done t (Wish.write name value))
+    write_done value small =
+        change_done (Some value) (call.Write t.txn number name value) (Wish.write name value) (found, refl) (asked_of (λ rec. Deed.operates (op.Write rec (Some value))))
+        (λ rec. Deed.operates (op.Write rec (Some value))) refl refl (writes catalogue x t number f.leads.live refl idle name value rec found (few_calls (length t.answers) few) (not_too_large t rec value small) usable)
+
+    delete_done : Reaches w (Done t (Wish.delete name))
+    delete_done =
+        change_done None (call.Delete t.txn number name) (Wish.delete name) (found, refl) (asked_of (λ rec. Deed.operates (op.Write rec None)))
+        (λ rec. Deed.operates (op.Write rec None)) refl refl (deletes catalogue x t number f.leads.live refl idle name rec found (few_calls (length t.answers) few) usable)
 
   -- a wish of a free record is fulfilled
-  pub fulfils_one : (t : Live) (w : WorldState) → Goes t [] w → t.pending ≡ None → length t.ops < 64 → (wish : Wish) (rec : ℕ) → find_record catalogue (name_in wish) ≡ Some rec → Free rec → Reaches w (Done t wish)
-  fulfils_one t w f idle few (Wish.read name) rec found free = read_done t w f idle few name rec found free
-  fulfils_one t w f idle few (Wish.write name value) rec found free = write_done t w f idle few name rec found free value
+  pub fulfils_one : (t : Live) (w : WorldState) → Goes t [] w → t.pending ≡ None → length t.answers < 64 → (wish : Wish) → size_of t + bytes_in wish ≤ 15360 → (rec : ℕ) → find_record catalogue (name_in wish) ≡ Some rec → Free rec → Reaches w (Done t wish)
+  fulfils_one t w f idle few (Wish.read name) small rec found free = read_done t w f idle few name rec found free
+  fulfils_one t w f idle few (Wish.write name value) small rec found free = write_done t w f idle few name rec found free value small
+  fulfils_one t w f idle few (Wish.delete name) small rec found free = delete_done t w f idle few name rec found free

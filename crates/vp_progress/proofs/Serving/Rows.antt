@@ -2,16 +2,17 @@
 use Rattle.std.proofs.Common.{◌≡◌, ◌∙◌, ap, ℕ, ◌+◌, ◌-◌, ◌^◌, Bool, true, false, List, [], ◌∷◌, length, refl, arith}
 use Rattle.std.specs.Prelude.{Option, Some, None, ◌==◌, nat_le, nat_lt}
 use Rattle.std.proofs.lemmas.Bool.Decides.{nat_tests}
-use Rattle.vp_model.specs.Types.{View, Stored, Call, Pending, Live}
+use Rattle.vp_model.specs.Types.{View, Stored, Change, Call, Pending, Live}
 use Rattle.vp_model.specs.Types.call
 use Rattle.vp_model.specs.Types.input
+use Rattle.vp_model.specs.Types.op
 use Rattle.vp_model.specs.Words.{first, is_empty, value_at}
 use Rattle.vp_model.specs.Catalogue.{Catalogue, find_record}
 use Rattle.vp_model.specs.Locks.{conflict}
 use Rattle.vp_model.specs.Site.{Surroundings, SiteState, Lent, begin_step, surroundings, put_back}
-use Rattle.vp_model.specs.Transactions.{last_writes, last_changes, entry_of, decide}
+use Rattle.vp_model.specs.Transactions.{Deed, last_writes, last_changes, entry_of, complete, decide}
 use Rattle.vp_model.specs.Refresh.{is_usable_in, other_holders_in}
-use Rattle.vp_model.specs.Calls.{next_txn, start_txn, begin_in, on_begin, handling, with_record, take_lock, lock_here, answer_read, read_at, read, answer_write, write_at, write_elsewhere, write, prepare_parts, commit, new_call, live_call, handled, on_txn_call, own_call, on_call}
+use Rattle.vp_model.specs.Calls.{next_txn, start_txn, begin_in, on_begin, handling, with_record, take_lock, lock_here, answer_read, read_at, read, write_at, change_elsewhere, change, new_change, is_bad_table, is_too_large, short, prepare_parts, commit, new_call, live_call, handled, on_txn_call, own_call, on_call}
 use Rattle.vp_model.specs.Step.{on_input, step}
 use Rattle.vp_model.proofs.SameTxn.{same_txn-self}
 use Rattle.vp_laws.proofs.Moves.Table.{next_name, lent_at}
@@ -39,9 +40,10 @@ module _ (catalogue : Catalogue) (id : ℕ) (held : Option View) (t : Live) (l :
       let tests = new_number number (length t.answers) n in
       rw (e, self, tests.0, tests.1, p) refl
 
-  record_is : (p : Pending) (name : List ℕ) (rec : ℕ) (use_record : ℕ → Lent → Lent) → find_record catalogue name ≡ Some rec → nat_le 64 (length t.ops) ≡ false → is_usable_in catalogue held rec ≡ true → with_record catalogue held t p name use_record l ≡ use_record rec l
+  record_is : (p : Pending) (name : List ℕ) (asked : ℕ → Deed) (rec : ℕ) (use_record : ℕ → Lent → Lent) → find_record catalogue name ≡ Some rec → is_bad_table catalogue (asked rec) ≡ false → nat_le 64 (length t.answers) ≡ false → is_too_large t (asked rec) ≡ false → short catalogue held rec (asked rec) ≡ None
+      → with_record catalogue held t p name asked use_record l ≡ use_record rec l
   unfolding with_record
-  record_is p name rec use_record f n u = rw (f, n, u) refl
+  record_is p name asked rec use_record f table few small u = rw (f, table, few, small, u) refl
 
   lock_is : (p : Pending) (name : List ℕ) (rec : ℕ) (exclusive : Bool) (onward : Lent → Lent) → conflict rec exclusive t.txn l.locks ≡ None → lock_here id t p name rec exclusive onward l ≡ onward (take_lock t.txn rec exclusive l)
   unfolding lock_here
@@ -49,7 +51,7 @@ module _ (catalogue : Catalogue) (id : ℕ) (held : Option View) (t : Live) (l :
 
   -- ---- a read
 
-  pub read_own : (p : Pending) (name : List ℕ) (rec : ℕ) (value : List ℕ) → value_at rec (last_writes t.ops) ≡ Some value → read catalogue id held t p name rec l ≡ answer_read t p rec value l
+  pub read_own : (p : Pending) (name : List ℕ) (rec : ℕ) (value : Option (List ℕ)) → value_at rec (last_writes t.ops) ≡ Some value → read catalogue id held t p name rec l ≡ answer_read t p rec value l
   unfolding read
   read_own p name rec value v = rw v refl
 
@@ -61,27 +63,28 @@ module _ (catalogue : Catalogue) (id : ℕ) (held : Option View) (t : Live) (l :
   unfolding read
   read_there p name rec k v c f = rw (v, c, f) refl
 
-  -- ---- a write
+  -- ---- a change
 
-  pub write_again : (p : Pending) (name value : List ℕ) (rec : ℕ) (before : List ℕ) → value_at rec (last_changes (entry_of t)) ≡ Some before → write catalogue id held t p name value rec l ≡ answer_write t p rec value l
-  unfolding write
-  write_again p name value rec before v = rw v refl
+  pub change_again : (p : Pending) (name : List ℕ) (asked : ℕ → Deed) (rec : ℕ) (before : Change) → value_at rec (last_changes (entry_of t)) ≡ Some before → change catalogue id held t p name asked rec l ≡ complete t p (asked rec) l
+  unfolding change
+  change_again p name asked rec before v = rw v refl
 
-  pub write_copy : (p : Pending) (name value : List ℕ) (rec : ℕ) (stored : Stored) → value_at rec (last_changes (entry_of t)) ≡ None → value_at rec l.copies ≡ Some stored → conflict rec true t.txn l.locks ≡ None → write catalogue id held t p name value rec l ≡ write_elsewhere catalogue id held t p rec value (take_lock t.txn rec true l)
-  unfolding write
-  write_copy p name value rec stored v c free = rw (v, c) (lock_is p name rec true (write_elsewhere catalogue id held t p rec value) free)
+  pub change_copy : (p : Pending) (name : List ℕ) (asked : ℕ → Deed) (rec : ℕ) (stored : Stored) → value_at rec (last_changes (entry_of t)) ≡ None → value_at rec l.copies ≡ Some stored → conflict rec true t.txn l.locks ≡ None
+      → change catalogue id held t p name asked rec l ≡ change_elsewhere catalogue id held t p rec (asked rec) (take_lock t.txn rec true l)
+  unfolding change
+  change_copy p name asked rec stored v c free = rw (v, c) (lock_is p name rec true (change_elsewhere catalogue id held t p rec (asked rec)) free)
 
-  pub write_there : (p : Pending) (name value : List ℕ) (rec : ℕ) → value_at rec (last_changes (entry_of t)) ≡ None → value_at rec l.copies ≡ None → write catalogue id held t p name value rec l ≡ write_elsewhere catalogue id held t p rec value l
-  unfolding write
-  write_there p name value rec v c = rw (v, c) refl
+  pub change_there : (p : Pending) (name : List ℕ) (asked : ℕ → Deed) (rec : ℕ) → value_at rec (last_changes (entry_of t)) ≡ None → value_at rec l.copies ≡ None → change catalogue id held t p name asked rec l ≡ change_elsewhere catalogue id held t p rec (asked rec) l
+  unfolding change
+  change_there p name asked rec v c = rw (v, c) refl
 
-  pub write_alone : (p : Pending) (rec : ℕ) (value : List ℕ) → is_empty (other_holders_in catalogue id held rec) ≡ true → write_elsewhere catalogue id held t p rec value l ≡ answer_write t p rec value l
-  unfolding write_elsewhere
-  write_alone p rec value e = rw e refl
+  pub change_alone : (p : Pending) (rec : ℕ) (deed : Deed) → is_empty (other_holders_in catalogue id held rec) ≡ true → change_elsewhere catalogue id held t p rec deed l ≡ complete t p deed l
+  unfolding change_elsewhere
+  change_alone p rec deed e = rw e refl
 
-  pub write_asks : (p : Pending) (rec : ℕ) (value : List ℕ) → is_empty (other_holders_in catalogue id held rec) ≡ false → write_elsewhere catalogue id held t p rec value l ≡ write_at id t p rec (other_holders_in catalogue id held rec) l
-  unfolding write_elsewhere
-  write_asks p rec value e = rw e refl
+  pub change_asks : (p : Pending) (rec : ℕ) (deed : Deed) → is_empty (other_holders_in catalogue id held rec) ≡ false → change_elsewhere catalogue id held t p rec deed l ≡ write_at id t p rec (other_holders_in catalogue id held rec) l
+  unfolding change_elsewhere
+  change_asks p rec deed e = rw e refl
 
   -- ---- a commit
 
@@ -96,21 +99,31 @@ module _ (catalogue : Catalogue) (id : ℕ) (held : Option View) (t : Live) (l :
 -- ---- the steps
 
 module _ (catalogue : Catalogue) (x : SiteState) (t : Live) (number : ℕ) (live : x.live ≡ t ∷ []) (next : number ≡ length t.answers + 1) (idle : t.pending ≡ None) where
-  pub reads : (name : List ℕ) (rec : ℕ) → find_record catalogue name ≡ Some rec → nat_le 64 (length t.ops) ≡ false → is_usable_in catalogue x.held rec ≡ true
+  pub reads : (name : List ℕ) (rec : ℕ) → find_record catalogue name ≡ Some rec → nat_le 64 (length t.answers) ≡ false → is_usable_in catalogue x.held rec ≡ true
       → step catalogue x (input.Call 0 (call.Read t.txn number name)) ≡ put_back (begin_step x) (read catalogue x.id x.held t (handled 0 number (call.Read t.txn number name)) name rec (lent_at x))
   unfolding step on_input on_call own_call new_call
   reads name rec f n u =
       let words = call.Read t.txn number name in
       let p = handled 0 number words in
-      ap (put_back (begin_step x)) (call_is catalogue x.id x.held t (lent_at x) number words live next idle ∙ record_is catalogue x.id x.held t (lent_at x) p name rec (read catalogue x.id x.held t p name) f n u)
+      ap (put_back (begin_step x)) (call_is catalogue x.id x.held t (lent_at x) number words live next idle ∙ record_is catalogue x.id x.held t (lent_at x) p name (λ rec. Deed.operates (op.Read rec None)) rec (read catalogue x.id x.held t p name) f refl n refl (rw u refl))
 
-  pub writes : (name value : List ℕ) (rec : ℕ) → find_record catalogue name ≡ Some rec → nat_le 64 (length t.ops) ≡ false → is_usable_in catalogue x.held rec ≡ true
-      → step catalogue x (input.Call 0 (call.Write t.txn number name value)) ≡ put_back (begin_step x) (write catalogue x.id x.held t (handled 0 number (call.Write t.txn number name value)) name value rec (lent_at x))
-  unfolding step on_input on_call own_call new_call
-  writes name value rec f n u =
+  pub writes : (name value : List ℕ) (rec : ℕ) → find_record catalogue name ≡ Some rec → nat_le 64 (length t.answers) ≡ false → is_too_large t (Deed.operates (op.Write rec (Some value))) ≡ false → is_usable_in catalogue x.held rec ≡ true
+      → step catalogue x (input.Call 0 (call.Write t.txn number name value)) ≡ put_back (begin_step x) (change catalogue x.id x.held t (handled 0 number (call.Write t.txn number name value)) name (λ rec. Deed.operates (op.Write rec (Some value))) rec (lent_at x))
+  unfolding step on_input on_call own_call new_call new_change
+  writes name value rec f n small u =
       let words = call.Write t.txn number name value in
       let p = handled 0 number words in
-      ap (put_back (begin_step x)) (call_is catalogue x.id x.held t (lent_at x) number words live next idle ∙ record_is catalogue x.id x.held t (lent_at x) p name rec (write catalogue x.id x.held t p name value) f n u)
+      let asked : ℕ → Deed = λ rec. Deed.operates (op.Write rec (Some value)) in
+      ap (put_back (begin_step x)) (call_is catalogue x.id x.held t (lent_at x) number words live next idle ∙ record_is catalogue x.id x.held t (lent_at x) p name asked rec (change catalogue x.id x.held t p name asked) f refl n small (rw u refl))
+
+  pub deletes : (name : List ℕ) (rec : ℕ) → find_record catalogue name ≡ Some rec → nat_le 64 (length t.answers) ≡ false → is_usable_in catalogue x.held rec ≡ true
+      → step catalogue x (input.Call 0 (call.Delete t.txn number name)) ≡ put_back (begin_step x) (change catalogue x.id x.held t (handled 0 number (call.Delete t.txn number name)) name (λ rec. Deed.operates (op.Write rec None)) rec (lent_at x))
+  unfolding step on_input on_call own_call new_call new_change
+  deletes name rec f n u =
+      let words = call.Delete t.txn number name in
+      let p = handled 0 number words in
+      let asked : ℕ → Deed = λ rec. Deed.operates (op.Write rec None) in
+      ap (put_back (begin_step x)) (call_is catalogue x.id x.held t (lent_at x) number words live next idle ∙ record_is catalogue x.id x.held t (lent_at x) p name asked rec (change catalogue x.id x.held t p name asked) f refl n refl (rw u refl))
 
   pub commits : step catalogue x (input.Call 0 (call.Commit t.txn number)) ≡ put_back (begin_step x) (commit catalogue x.id t (handled 0 number (call.Commit t.txn number)) (lent_at x))
   unfolding step on_input on_call own_call new_call

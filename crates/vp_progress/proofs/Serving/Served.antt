@@ -23,7 +23,7 @@ use Rattle.vp_laws.proofs.Keeping.Known.{known_last}
 use Rattle.vp_progress.specs.Going.{serves}
 use Rattle.vp_progress.specs.Whole.{IsWhole}
 use Rattle.vp_progress.specs.Progress.{world_of}
-use Rattle.vp_progress.specs.Clients.{Wish, name_in, IsServed}
+use Rattle.vp_progress.specs.Clients.{Wish, name_in, FitATransaction, IsServed}
 use Rattle.vp_progress.proofs.Going.{world_goes_on, passing_flows_not}
 use Rattle.vp_progress.proofs.Held.{empty_from}
 use Rattle.vp_progress.proofs.Serving.Sites.{Rest, IsResting}
@@ -125,9 +125,9 @@ module _ (s : Schedule) (q : ℕ) (h : IsCatalogue s.catalogue) (whole : IsWhole
         (x.0, x.1, record { held = r.held; locks = empty_from x.0.locks (λ l there. has_none l (r.locks l there)); refresh = r.refresh; live = r.live; parts = r.parts; doubts = r.doubts });
   }
 
-  pub served : (x : SiteState) (wishes : List Wish) → site_of w q ≡ Some x → x.seq < 2 ^ 32 - 1 → length wishes ≤ 64 → AllByRecursion (λ wish. is_some (find_record s.catalogue (name_in wish)) ≡ true) wishes → IsServed s ns q wishes (IsWhole s.catalogue)
-  served x wishes up left few named =
-      let c = serves_all s.catalogue ns whole.view q (has_from_test ns q here) (rest_of w) among members w.journal wishes w resting x up left few (all_each _ _ grantable wishes named) in
+  pub served : (x : SiteState) (wishes : List Wish) → site_of w q ≡ Some x → x.seq < 2 ^ 32 - 1 → FitATransaction wishes → AllByRecursion (λ wish. is_some (find_record s.catalogue (name_in wish)) ≡ true) wishes → IsServed s ns q wishes (IsWhole s.catalogue)
+  served x wishes up left fits named =
+      let c = serves_all s.catalogue ns whole.view q (has_from_test ns q here) (rest_of w) among members w.journal wishes w resting x up left fits (all_each _ _ grantable wishes named) in
       let is = world_goes_on s c.events (passing_flows_not s.catalogue (serves q ns) (λ w count. refl) c.events w c.passing) in
       record {
         more = c.events;
@@ -135,6 +135,7 @@ module _ (s : Schedule) (q : ℕ) (h : IsCatalogue s.catalogue) (whole : IsWhole
         entry = c.so.entry;
         own = c.so.own;
         fulfilled = c.so.fulfilled;
+        tables = c.so.tables;
         journal = ap (λ (w : WorldState). w.journal) is ∙ c.so.committed.same;
         after = subst (IsWhole s.catalogue) (sym is) (whole_after c.so.entry _ c.so.committed);
       }

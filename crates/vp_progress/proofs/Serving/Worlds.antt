@@ -14,7 +14,7 @@ use Rattle.vp_laws.proofs.Lists.Views.{same_site}
 use Rattle.vp_laws.proofs.Lists.Numbers.{eq_self}
 use Rattle.vp_laws.proofs.Moves.LocalViews.{letter}
 use Rattle.vp_laws.proofs.Worlds.Scenes.{scene_of}
-use Rattle.vp_laws.proofs.Invariant.Ops.{HasWritten}
+use Rattle.vp_laws.proofs.Journal.Changed.{HasChanged}
 use Rattle.vp_laws.proofs.Invariant.Known.{Known}
 use Rattle.vp_progress.specs.Going.{is_regroup, serves}
 use Rattle.vp_progress.proofs.Can.{Can, can_now}
@@ -50,8 +50,8 @@ module _ (catalogue : Catalogue) (ns : List ℕ) (v : View) (q : ℕ) (rest : �
     pub at : SiteState
     pub up : site_of w q ≡ Some at
     pub leads : Leads v (rest q) t at
-    -- it writes what is free
-    pub free : (rec : ℕ) → HasWritten t rec → IsUnused rec
+    -- it changes what is free
+    pub free : (rec : ℕ) → HasChanged t rec → IsUnused rec
     pub others : (k : ℕ) → Has ns k → k ≢ q → Other t missing k w
 
   -- ---- events
@@ -82,7 +82,7 @@ module _ (catalogue : Catalogue) (ns : List ℕ) (v : View) (q : ℕ) (rest : �
         (sym is.2 ∙ ap (λ (v : View). v.id) same, (λ k part. let m = is.3 k part in (among k (subst (λ (v : View). Has v.members k) same m.0), (λ here. m.1 (here ∙ sym id)))))
 
     -- a step at the site of the transaction
-    pub own_moves : (t now : Live) (missing left : List ℕ) (w new : WorldState) (f : Goes t missing w) (l : Lent) → Known catalogue (scene_of new) → Did w new q f.at (put_back (begin_step f.at) l) → LeadsOn (rest q) now l → now.txn ≡ t.txn → ((rec : ℕ) → HasWritten now rec → IsUnused rec) → ((k : ℕ) → Has t.parts k → Has now.parts k) → ((k : ℕ) → Has now.parts k → Has left k ⊎ TakesAt t.txn k w) → Goes now left new
+    pub own_moves : (t now : Live) (missing left : List ℕ) (w new : WorldState) (f : Goes t missing w) (l : Lent) → Known catalogue (scene_of new) → Did w new q f.at (put_back (begin_step f.at) l) → LeadsOn (rest q) now l → now.txn ≡ t.txn → ((rec : ℕ) → HasChanged now rec → IsUnused rec) → ((k : ℕ) → Has t.parts k → Has now.parts k) → ((k : ℕ) → Has now.parts k → Has left k ⊎ TakesAt t.txn k w) → Goes now left new
     own_moves t now missing left w new f l known d g named free grows part = record {
       known = known;
       joined = still_joined w new q f.at _ f.joined d;

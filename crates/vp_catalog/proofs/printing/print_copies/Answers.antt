@@ -1,7 +1,7 @@
 use Rattle.std.proofs.Common.{[], ◌∷◌}
 use Rattle.std.specs.Prelude.{flat_map}
 use Rattle.vp_text.proofs.Printing.{all_of}
-use Rattle.vp_model.specs.Texts.Schedule.{weight_text}
+use Rattle.vp_model.specs.Texts.Fields.{weight_text}
 use Rattle.vp_catalog.proofs.Printed.{following, none_of, within}
 use Rattle.vp_catalog.proofs.printing.print_copies.Goals as goal
 

@@ -1,5 +1,5 @@
 use Rattle.vp_text.proofs.Printing.{begun_err}
-use Rattle.vp_model.specs.Texts.Schedule.{weight_text}
+use Rattle.vp_model.specs.Texts.Fields.{weight_text}
 use Rattle.vp_catalog.proofs.Printed.{all_items, item_begun, item_after}
 use Rattle.vp_catalog.proofs.printing.print_weights.Goals as goal
 

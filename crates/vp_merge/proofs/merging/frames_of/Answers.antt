@@ -4,7 +4,7 @@ use Rattle.std.specs.List.{AllByRecursion}
 use Rattle.vp_text.proofs.Items.{all_each, all_push}
 use Rattle.vp_recording.specs.declared.recording.Recording.{Recording}
 use Rattle.vp_recording.specs.declared.recording.Turn.{Turn}
-use Rattle.vp_merge.specs.Numbers.{HasFrame}
+use Rattle.vp_merge.specs.Numbers.{as_sent, HasTurn}
 use Rattle.vp_merge.proofs.merging.frames_of.Goals as goal
 
 pub loop-recording-preserved : goal.loop-recording-preserved
@@ -18,9 +18,9 @@ loop-recording-preserved c =
     let more : take (c.loop-recording.recording-index + 1) c.args.recordings.now ≡ before ++ recording ∷ [] = take_more c.args.recordings.now c.loop-recording.recording-index recording c.loop-recording-test.true ∙ ap (λ (r : Recording). before ++ r ∷ []) (sym c.recording-item.is) in
     record {
       index = done.index h.index;
-      there = subst (AllByRecursion (λ (r : Recording). AllByRecursion (λ (turn : Turn). HasFrame new turn.frame) r.turns)) (sym more)
-          (all_push (λ (r : Recording). AllByRecursion (λ (turn : Turn). HasFrame new turn.frame) r.turns) before recording
-          (all_each (λ (r : Recording). AllByRecursion (λ (turn : Turn). HasFrame old turn.frame) r.turns) (λ (r : Recording). AllByRecursion (λ (turn : Turn). HasFrame new turn.frame) r.turns)
-          (λ r. all_each (λ (turn : Turn). HasFrame old turn.frame) (λ (turn : Turn). HasFrame new turn.frame) (λ turn. done.kept turn.frame) r.turns) before h.there)
-          (subst (AllByRecursion (λ (turn : Turn). HasFrame new turn.frame)) c.as_slice.ensures done.there));
+      there = subst (AllByRecursion (λ (r : Recording). AllByRecursion (λ (turn : Turn). HasTurn new turn.frame) r.turns)) (sym more)
+          (all_push (λ (r : Recording). AllByRecursion (λ (turn : Turn). HasTurn new turn.frame) r.turns) before recording
+          (all_each (λ (r : Recording). AllByRecursion (λ (turn : Turn). HasTurn old turn.frame) r.turns) (λ (r : Recording). AllByRecursion (λ (turn : Turn). HasTurn new turn.frame) r.turns)
+          (λ r. all_each (λ (turn : Turn). HasTurn old turn.frame) (λ (turn : Turn). HasTurn new turn.frame) (λ turn. done.kept (as_sent turn.frame)) r.turns) before h.there)
+          (subst (AllByRecursion (λ (turn : Turn). HasTurn new turn.frame)) c.as_slice.ensures done.there));
     }

@@ -11,6 +11,18 @@ returns-in-Value c = rw c.in-Value.is c.print_read.ensures
 pub returns-in-Written : goal.returns-in-Written
 returns-in-Written c = rw c.in-Written.is c.print_numbered.ensures
 
+pub returns-in-Absent : goal.returns-in-Absent
+returns-in-Absent c = rw c.in-Absent.is c.print_numbered-in-Absent.ensures
+
+pub returns-in-Deleted : goal.returns-in-Deleted
+returns-in-Deleted c = rw c.in-Deleted.is c.print_numbered-in-Deleted.ensures
+
+pub returns-in-Weighed : goal.returns-in-Weighed
+returns-in-Weighed c = rw c.in-Weighed.is c.print_numbered-in-Weighed.ensures
+
+pub returns-in-BadTable : goal.returns-in-BadTable
+returns-in-BadTable c = rw c.in-BadTable.is c.print_numbered-in-BadTable.ensures
+
 pub returns-in-Committed : goal.returns-in-Committed
 returns-in-Committed c = rw c.in-Committed.is c.print_numbered-in-Committed.ensures
 

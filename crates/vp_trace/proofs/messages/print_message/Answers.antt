@@ -13,7 +13,7 @@ pub returns-in-ReadRequest : goal.returns-in-ReadRequest
 returns-in-ReadRequest c = rw c.in-ReadRequest.is c.print_lock_request.ensures
 
 pub returns-in-ReadAnswer : goal.returns-in-ReadAnswer
-returns-in-ReadAnswer c = rw (c.in-ReadAnswer.is, ← c.as_ref.ensures) c.print_read_answer.ensures
+returns-in-ReadAnswer c = rw c.in-ReadAnswer.is c.print_read_answer.ensures
 
 pub returns-in-WriteRequest : goal.returns-in-WriteRequest
 returns-in-WriteRequest c = rw c.in-WriteRequest.is c.print_lock_request-in-WriteRequest.ensures

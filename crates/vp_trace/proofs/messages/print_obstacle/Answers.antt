@@ -13,3 +13,6 @@ returns-in_err-print_word-in-OtherView c = rw c.in-OtherView.is (none_of _ _ _ _
 
 pub returns-in_ok-print_word-in-OtherView : goal.returns-in_ok-print_word-in-OtherView
 returns-in_ok-print_word-in-OtherView c = rw c.in-OtherView.is (following _ _ (codes "view ") _ _ _ c.in_ok-print_word-in-OtherView.ensures.ok c.print_held.ensures)
+
+pub returns-in-Barred : goal.returns-in-Barred
+returns-in-Barred c = rw c.in-Barred.is c.print_barred.ensures

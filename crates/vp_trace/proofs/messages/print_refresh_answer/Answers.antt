@@ -1,11 +1,14 @@
-use Rattle.std.proofs.Common.{◌++◌}
-use Rattle.std.specs.Prelude.{codes}
-use Rattle.vp_model.specs.Texts.Fields.{view_text}
 use Rattle.vp_catalog.proofs.Printed.{following, within}
+use Rattle.vp_trace.specs.Copies.{begun_copy}
+use Rattle.vp_trace.proofs.Printed.{of_parts}
 use Rattle.vp_trace.proofs.messages.print_refresh_answer.Goals as goal
 
-pub returns-in_err-print_view : goal.returns-in_err-print_view
-returns-in_err-print_view c = within _ _ (codes "refresh-answer " ++ view_text c.args.view.now) _ _ c.from_residual.ensures.0 c.print_view.ensures.begun
+pub returns-in_err-print_content : goal.returns-in_err-print_content
+returns-in_err-print_content c =
+    of_parts c.args.catalog.now c.args.view.now c.args.rec c.args.stored.now _ _ _
+    (within _ _ (begun_copy c.args.catalog.now c.args.view.now c.args.rec c.args.stored.now.value) _ _ c.from_residual.ensures.0 c.print_content.ensures.begun)
 
 pub returns : goal.returns
-returns c = following _ _ (codes "refresh-answer " ++ view_text c.args.view.now) _ _ _ c.in_ok-print_view.ensures.whole c.print_copy.ensures
+returns c =
+    of_parts c.args.catalog.now c.args.view.now c.args.rec c.args.stored.now _ _ _
+    (following _ _ (begun_copy c.args.catalog.now c.args.view.now c.args.rec c.args.stored.now.value) _ _ _ c.in_ok-print_content.ensures.whole c.print_dated.ensures)

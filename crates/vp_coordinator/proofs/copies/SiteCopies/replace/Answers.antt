@@ -1,20 +1,20 @@
 use Rattle.std.proofs.Common.{rules, sym}
-use Rattle.vp_coordinator.proofs.Ascending.{replaced, replaced-nowhere, still_ascend}
+use Rattle.vp_coordinator.proofs.Ascending.{changed, changed-nowhere, still_ascend}
 use Rattle.vp_coordinator.proofs.copies.SiteCopies.replace.Goals as goal
 
 pub invariant_of-self-in-Some : goal.invariant_of-self-in-Some
 invariant_of-self-in-Some c = λ ascending.
     let there = rw (← c.self.view_is) at (sym c.in-Some.ensures.place) in
-    let e = still_ascend c.self.inside.copies.items (c.self.invariant ascending) c.args.rec c.args.stored c.in-Some.place c.index_mut.result.now there in
+    let e = still_ascend c.self.inside.copies.items (c.self.invariant ascending) c.args.rec (λ old. c.args.stored) c.in-Some.place c.index_mut.result.now there in
     rw (← c.index_mut.ensures.value) at e
 
 pub returns-in-Some : goal.returns-in-Some
 returns-in-Some c =
     let there = rw (← c.self.view_is) at (sym c.in-Some.ensures.place) in
-    let e = replaced c.self.inside.copies.items (c.self.invariant (search rules)) c.args.rec c.args.stored c.in-Some.place c.index_mut.result.now there in
+    let e = changed c.self.inside.copies.items (c.self.invariant (search rules)) c.args.rec (λ old. c.args.stored) c.in-Some.place c.index_mut.result.now there in
     rw (← c.self.view_is) (rw (← c.index_mut.ensures.value) at e)
 
 pub returns-in_default : goal.returns-in_default
 returns-in_default c =
     let there = rw (← c.self.view_is) at (sym c.in_default.ensures.place) in
-    rw (← c.self.view_is) (replaced-nowhere c.self.inside.copies.items (c.self.invariant (search rules)) c.args.rec c.args.stored there)
+    rw (← c.self.view_is) (changed-nowhere c.self.inside.copies.items (c.self.invariant (search rules)) c.args.rec (λ old. c.args.stored) there)

@@ -1,5 +1,6 @@
-use Rattle.std.proofs.Common.{rules, ◌≡◌, ◌∙◌, sym, subst, ℕ, true, false, Err, [], List, refl}
+use Rattle.std.proofs.Common.{rules, ◌≡◌, ◌∙◌, ap, sym, subst, ℕ, true, false, Err, [], List, refl}
 use Rattle.std.specs.Prelude.{IfSome, Option, ◌-◌, ◌&&◌}
+use Rattle.std.proofs.lemmas.Result.{err_from_is_err_and}
 use Rattle.vp_model.specs.Types.{Event}
 use Rattle.vp_model.specs.Catalogue.{Catalogue, sites_of}
 use Rattle.vp_model.specs.Words.{has}
@@ -88,5 +89,6 @@ returns c = λ recordings.
 
 pub returns-in_err-advance : goal.returns-in_err-advance
 returns-in_err-advance c = λ recordings.
-    let is : c.from_residual-in_err-advance.result ≡ Err faults.NoMemory = search rules in
+    let why = err_from_is_err_and c.from_residual-in_err-advance.result c.from_residual-in_err-advance.ensures.1 in
+    let is : c.from_residual-in_err-advance.result ≡ Err faults.NoMemory = why.1 ∙ ap Err why.2 in
     subst (TakesTurn c.args.self.played.world.catalogue recordings c.args.self) (sym is) tt

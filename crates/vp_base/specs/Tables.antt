@@ -1,0 +1,19 @@
+-- Tables of weights.
+use Rattle.std.specs.Prelude.{⊤, ℕ, ◌<◌, ◌≤◌, List, [], ◌∷◌, length}
+
+-- the weight of the copy at a site above the given one
+pub record IsShare (above : ℕ) (share : ℕ × ℕ) : Type 0 where
+  pub higher : above < share.0
+  pub site_fits : share.0 ≤ 16
+  pub some : 1 ≤ share.1
+  pub fits : share.1 ≤ 65535
+
+abbrev pub AreShares : ℕ → List (ℕ × ℕ) → Type 0
+AreShares above [] = ⊤
+AreShares above (share ∷ shares) = IsShare above share × AreShares share.0 shares
+
+-- A table has 1 to 16 sites, ascending, each with a weight of 1 to 65535.
+pub record IsTable (table : List (ℕ × ℕ)) : Type 0 where
+  pub held : 1 ≤ length table
+  pub few : length table ≤ 16
+  pub shares_are : AreShares 0 table

@@ -1,7 +1,0 @@
-use Rattle.std.proofs.Common.{◌≡◌, ◌++◌, ◌∷◌, length, take}
-use Rattle.std.specs.List.{flat_map}
-use Rattle.vp_bytes.specs.Fields.{write_bytes}
-use Rattle.vp_bytes.proofs.fields.put_writes.Given as goal
-
-abbrev pub invariant-loop-write : goal.invariant-loop-write
-invariant-loop-write g l = g.B.BufMut.written l.out ≡ g.B.BufMut.written l.fn.out ++ length l.writes ∷ flat_map write_bytes (take l.write-index l.writes)

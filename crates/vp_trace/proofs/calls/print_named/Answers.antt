@@ -1,0 +1,13 @@
+use Rattle.vp_text.proofs.Printing.{all_or_none}
+use Rattle.vp_model.specs.Texts.Fields.{call_name_text}
+use Rattle.vp_catalog.proofs.Printed.{following, none_of, within}
+use Rattle.vp_trace.proofs.calls.print_named.Goals as goal
+
+pub returns-in_err-print_call_name : goal.returns-in_err-print_call_name
+returns-in_err-print_call_name c = within _ _ (call_name_text c.args.txn.now c.args.number) _ _ c.from_residual.ensures.0 c.print_call_name.ensures.begun
+
+pub returns-in_err-print_word : goal.returns-in_err-print_word
+returns-in_err-print_word c = following _ _ (call_name_text c.args.txn.now c.args.number) _ _ _ c.in_ok-print_call_name.ensures.whole (none_of _ _ _ _ c.from_residual-in_err-print_word.ensures.0 c.in_err-print_word.ensures.err)
+
+pub returns : goal.returns
+returns c = following _ _ (call_name_text c.args.txn.now c.args.number) _ _ _ c.in_ok-print_call_name.ensures.whole (following _ _ c.args.word.now _ _ _ c.in_ok-print_word.ensures.ok (all_or_none _ _ c.args.name.now _ c.print.ensures.ok c.print.ensures.err))
