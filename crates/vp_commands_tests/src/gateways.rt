@@ -108,7 +108,7 @@ pub(crate) fn served(rt: &impl Abort, alloc: Global, given: &Given) -> Outcome {
 }
 
 const USAGE: &[u8] =
-    b"usage: vpdb replay|check|node|client|tick|probe|stop|generate|soak|logs|merge|audit|gateway\n";
+    b"usage: vpdb replay|check|node|client|tick|probe|stop|generate|soak|logs|merge|audit|proc|gateway\n";
 
 #[test]
 fn a_head_that_is_none_is_refused(rt: HostRuntime) {

@@ -14,6 +14,8 @@ mod long_logs;
 mod nodes;
 #[cfg(test)]
 mod outcomes;
+#[cfg(test)]
+mod procedures;
 mod running;
 #[cfg(test)]
 mod sessions;

@@ -41,6 +41,12 @@ const CALLS: [(&str, &str, &str); 5] = [
     ("2", "2.1.1 1 read x", "value 2.1.1 1 11\n"),
 ];
 
+/// A procedure that reads what the calls wrote, and fails by it.
+const PROCEDURE: &str = "procedure\nread a x\nif a < 20\nfail 7\nend\nresult a\n";
+
+/// The status of a procedure without a result.
+const NO_RESULT: u8 = 16;
+
 /// What a replay of the calls prints last.
 const HISTORY: &[u8] = b"\nhistory\nstart x 10\ncommit 1.1.1 0@0 w x 11\nend 1\n";
 
@@ -211,6 +217,22 @@ impl Cluster {
             }
         }
         Ok(None)
+    }
+
+    /// Whether a procedure at site 3 fails by what it reads there. If the clients' port is taken, it has another one.
+    pub fn fails_by_procedure(&self) -> io::Result<bool> {
+        let alloc = self.program.rt.alloc();
+        let input = format!(in alloc; "{}{PROCEDURE}", self.catalogue)?;
+        let mut port = self.port;
+        for _ in 0..TRIES {
+            let own_port = format!(in alloc; "{port}")?;
+            let (status, printed) = self.run_on(&["proc", &own_port, "16", "3"], &input)?;
+            if status != Some(LINK_FAULT) {
+                return Ok(status == Some(NO_RESULT) && own(&printed) == b"failed 7\n".as_slice());
+            }
+            port = free_port(self.program.rt)?;
+        }
+        Ok(false)
     }
 
     /// Stops the nodes, and returns the site of the first one that gets no stop or, once all got it, doesn't end well.

@@ -19,3 +19,4 @@ code_of status.NoAnswer = 11
 code_of status.LivesSpent = 12
 code_of status.Unsent = 14
 code_of status.TurnDiffers = 15
+code_of status.NoResult = 16

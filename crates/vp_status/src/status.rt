@@ -44,6 +44,8 @@ pub enum Status {
     Unsent = 14,
     /// A turn of the recordings takes what is no input of its site, or its step gives other datagrams than are recorded.
     TurnDiffers = 15,
+    /// A procedure ended without a result.
+    NoResult = 16,
 }
 
 impl Status {

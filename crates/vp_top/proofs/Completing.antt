@@ -21,6 +21,7 @@ use Rattle.vp_words.specs.Commands.{command_of}
 use Rattle.vp_top.specs.Ends.{EndsOnDisk}
 use Rattle.vp_top.proofs.Answering.{audit_bytes, node_bytes, same_command}
 use Rattle.vp_top.proofs.Merges.{unrecorded}
+use Rattle.vp_top.proofs.Procedures.{no_procedure}
 use Rattle.vp_schedule.specs.Document.{IsScheduleText}
 use Rattle.vp_schedule.specs.Document.{IsOnly as IsOnlySchedule}
 use Rattle.vp_schedule.specs.declared.fault.ScheduleFault.{ScheduleFault}
@@ -268,6 +269,7 @@ module _ (bytes : List ℕ) (link link' : LinkState) where
   fault_told (commands.Signal site given) none end text a = no_catalogue bytes site link link' (λ port. SignalGives port site given link link') none end text a
   fault_told (commands.Audit logs) none end text a = no_audit bytes logs none end text a.0
   fault_told commands.Merge none end text a = unrecorded bytes none end text a
+  fault_told (commands.Proc own turns site) none end text a = no_procedure own turns site bytes link link' none end text a
 
   module _ (catalogue : Catalogue) (answered : Answered bytes (Ok catalogue)) (site : ℕ) (missing : value_at site catalogue.sites ≡ None) where
     lacks : (other : ℕ) → Some other ≡ Some site → value_at other catalogue.sites ≡ None
@@ -285,6 +287,7 @@ module _ (bytes : List ℕ) (link link' : LinkState) where
     missing_told (commands.Audit logs) is end text a = cc
     missing_told (commands.Gateway own turns s) is end text a = cc
     missing_told commands.Merge is end text a = cc
+    missing_told (commands.Proc own turns s) is end text a = cc
 
 pub text_reads : (c : Command) (bytes : List ℕ) → IsNoTextOf c bytes → Reads c
 text_reads (commands.Generate seed count) bytes none = none

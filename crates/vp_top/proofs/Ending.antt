@@ -13,6 +13,11 @@ use Rattle.vp_outside.specs.Links.{LinkState}
 use Rattle.vp_outside.specs.Output.{SinkState}
 use Rattle.vp_client.specs.declared.asking.AskFault.{AskFault}
 use Rattle.vp_client.specs.declared.asking.AskFault.TheVariants as ask
+use Rattle.vp_procedure.specs.declared.fault.ProcedureFault.{ProcedureFault}
+use Rattle.vp_procedure.specs.declared.fault.ProcedureFault.TheVariants as texts
+use Rattle.vp_proc.specs.declared.ended.End.{End}
+use Rattle.vp_proc.specs.declared.ended.End.TheVariants as ends
+use Rattle.vp_proc.specs.declared.ended.Ended.{Ended}
 use Rattle.vp_status.specs.Printing.{Prints}
 use Rattle.vp_status.specs.declared.status.Status.{Status}
 use Rattle.vp_status.specs.declared.status.Status.TheVariants as status
@@ -22,7 +27,8 @@ use Rattle.vp_words.specs.declared.words.Command.TheVariants as commands
 use Rattle.vp_top.specs.Asked.{Tells, ClientGives, SignalGives}
 use Rattle.vp_top.specs.Ends.{Defines, EndsInText}
 use Rattle.vp_top.specs.Plans.{Plans, PlansFor}
-use Rattle.vp_top.specs.Program.{HasRead, IsAnswer, IsAnswered, IsDefined, IsNowhere, LacksSites, Reads, TellsFault, most_bytes}
+use Rattle.vp_top.specs.Procedures.{TellsProcedure, TellsRun, end_status}
+use Rattle.vp_top.specs.Program.{HasRead, IsAnswer, IsAnswered, IsDefined, IsNowhere, IsProcedureAnswer, LacksSites, Reads, TellsFault, most_bytes}
 use Rattle.vp_top.specs.declared.plan.Plan.{Plan}
 use Rattle.vp_top.specs.declared.plan.Plan.TheVariants as plans
 
@@ -71,6 +77,32 @@ nowhere_has bytes site end text n = ⊎_elim (λ none. fault_has none.fault end 
 lacking_has : (bytes : List ℕ) (logs : List (ℕ × List ℕ)) (end : Status) (text : List ℕ) → LacksSites bytes logs end text → HasText end
 lacking_has bytes logs end text n = ⊎_elim (λ none. fault_has none.fault end text none.tells) (λ lacks. subst HasText (sym lacks.1) tt) n
 
+-- ---- of a procedure
+
+end_has : (end : End) → HasText (end_status end)
+end_has (ends.Done number) = tt
+end_has (ends.NotNumber line) = tt
+end_has (ends.Overflow line) = tt
+end_has (ends.Failed code) = tt
+end_has (ends.Refused a) = tt
+
+run_has : (ran : Result Ended AskFault) (end : Status) (text : List ℕ) → TellsRun ran end text → HasText end
+run_has (Ok ended) end text t = subst HasText (sym t.0) (end_has ended.end)
+run_has (Err (ask.NoAnswer count)) end text t = subst HasText (sym t.0) tt
+run_has (Err ask.LinkFault) end text t = subst HasText (sym t.0) tt
+run_has (Err ask.NoMemory) end text t = absurd t
+
+text_has : (fault : ProcedureFault) (end : Status) (text : List ℕ) → TellsProcedure fault end text → HasText end
+text_has (texts.BadLine line at) end text t = subst HasText (sym t.0) tt
+text_has (texts.Twice line) end text t = subst HasText (sym t.0) tt
+text_has (texts.TooMany line limit) end text t = subst HasText (sym t.0) tt
+text_has texts.NoMemory end text t = absurd t
+
+procedure_has : (own turns site : ℕ) (bytes : List ℕ) (link link' : LinkState) (end : Status) (text : List ℕ) → IsProcedureAnswer own turns site bytes link link' end text → HasText end
+procedure_has own turns site bytes link link' end text (inl no) = text_has no.0.fault end text no.0.told
+procedure_has own turns site bytes link link' end text (inr (inl lacks)) = subst HasText (sym lacks.1) tt
+procedure_has own turns site bytes link link' end text (inr (inr at)) = ⊎_elim (λ run. run_has run.0 end text run.2) (λ unbound. subst HasText (sym unbound.1) tt) at.4
+
 module _ (bytes text : List ℕ) (link link' : LinkState) where
   client_has : (own turns port site : ℕ) (end : Status) → (words : _) → ClientGives own turns port site words link link' end text → HasText end
   client_has own turns port site end words g = ⊎_elim (λ asked. tells_has asked.answered end text asked.tells) (λ unbound. subst HasText (sym unbound.1) tt) g
@@ -105,6 +137,7 @@ module _ (bytes text : List ℕ) (link link' : LinkState) where
   answer_has commands.Merge status.NoMemory a = a
   answer_has commands.Merge status.SourceFault a = a
   answer_has commands.Merge status.SinkFault a = a
+  answer_has (commands.Proc own turns site) end a = procedure_has own turns site bytes link link' end text a
   answer_has _ _ a = tt
 
 -- ---- what is defined
@@ -134,6 +167,7 @@ module _ (words : List (List ℕ)) (source source' : SourceState) (link link' : 
   unread (commands.Signal site given) none = absurd (none tt)
   unread (commands.Audit logs) none = absurd (none tt)
   unread commands.Merge none = absurd (none tt)
+  unread (commands.Proc own turns site) none = absurd (none tt)
 
 pub plans_unread : (words : List (List ℕ)) (source : SourceState) (link link' : LinkState) (command : Command) (plan : Plan) → command_of words ≡ Some command → (Reads command → ⊥) → PlansFor command [] link link' plan → Plans words source source link link' plan
 plans_unread words source link link' command (plans.Print told) is none p = record {
@@ -158,6 +192,7 @@ has_read (commands.Client own turns site call) bytes ended reads fits at_end = (
 has_read (commands.Signal site given) bytes ended reads fits at_end = (fits, at_end)
 has_read (commands.Audit logs) bytes ended reads fits at_end = (fits, at_end)
 has_read commands.Merge bytes ended reads fits at_end = (fits, at_end)
+has_read (commands.Proc own turns site) bytes ended reads fits at_end = (fits, at_end)
 
 module _ (words : List (List ℕ)) (source source' : SourceState) (link link' : LinkState) (command : Command) (is : command_of words ≡ Some command) (reads : Reads command) where
   pub plans_read : (bytes : List ℕ) (plan : Plan) → Took bytes source source' → length bytes ≤ most_bytes → IsEnded source' → PlansFor command bytes link link' plan → Plans words source source' link link' plan

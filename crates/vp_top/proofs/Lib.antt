@@ -6,5 +6,6 @@ pub mod Audits
 pub mod Completing
 pub mod Ending
 pub mod Merges
+pub mod Procedures
 pub mod Sessions
 pub mod ToldSessions

@@ -31,6 +31,8 @@ use Rattle.vp_gateway.specs.declared.end.GateEnd.{GateEnd}
 use Rattle.vp_serving.specs.Serving.{Outside, outside}
 use Rattle.vp_top.specs.Audits.{AuditGives}
 use Rattle.vp_top.specs.NodeEnds.{IsCalm, DecidedByLog}
+use Rattle.vp_procedure.specs.Document.{IsProcedureText}
+use Rattle.vp_procedure.specs.declared.draft.ProcedureInput.{ProcedureInput}
 use Rattle.vp_recording.specs.Document.{IsRecordedText}
 use Rattle.vp_recording.specs.declared.draft.RecordingSet.{RecordingSet}
 use Rattle.vp_replay.specs.Checked.{IsVerdict, IsMisspelled}
@@ -44,6 +46,7 @@ use Rattle.vp_words.specs.declared.words.Signal.{Signal}
 use Rattle.vp_top.specs.Ends.{Ends}
 use Rattle.vp_top.specs.GatewayEnds.{last_line, status_of}
 use Rattle.vp_top.specs.Merges.{IsUnrecorded, MergeGives}
+use Rattle.vp_top.specs.Procedures.{IsNoProcedure, ProcedureGives}
 use Rattle.vp_top.specs.SessionTexts.{IsToldSession}
 use Rattle.vp_top.specs.Program.{AreOf, IsNoCatalogue, Reads, has_all, most_bytes, usage_text}
 use Rattle.vp_status.specs.Refused.{limit_text}
@@ -83,6 +86,7 @@ IsNoTextOf (commands.Generate seed count) bytes = ⊥
 IsNoTextOf (commands.Soak seed count) bytes = ⊥
 IsNoTextOf (commands.Gateway own turns site) bytes = ⊥
 IsNoTextOf commands.Merge bytes = (it : RecordingSet) → IsRecordedText it bytes → ⊥
+IsNoTextOf (commands.Proc own turns site) bytes = (it : ProcedureInput) → IsProcedureText it bytes → ⊥
 IsNoTextOf _ bytes = (catalogue : Catalogue) → Answered bytes (Ok catalogue) → ⊥
 
 -- The one fault of the bytes, as a text of the command's, is printed, with its place or with the limit that it exceeds.
@@ -94,6 +98,7 @@ TellsFaultOf (commands.Generate seed count) bytes end text = ⊥
 TellsFaultOf (commands.Soak seed count) bytes end text = ⊥
 TellsFaultOf (commands.Gateway own turns site) bytes end text = ⊥
 TellsFaultOf commands.Merge bytes end text = IsUnrecorded bytes end text
+TellsFaultOf (commands.Proc own turns site) bytes end text = IsNoProcedure bytes end text
 TellsFaultOf _ bytes end text = IsNoCatalogue bytes end text
 
 -- the site at which a command is done
@@ -139,6 +144,13 @@ IsSessionOf own turns site bytes source' o status.SinkFault = Unit {0}
 IsSessionOf own turns site bytes source' o status.LinkFault = Unit {0}
 IsSessionOf own turns site bytes source' o status.NoMemory = Unit {0}
 IsSessionOf own turns site bytes source' o told = IsRefusedSession site bytes source' o told
+
+-- ---- what comes of a procedure
+
+-- Its line was printed, or memory ran out.
+abbrev pub IsTold : ℕ → ℕ → ℕ → ℕ → ProcedureInput → Outside → Status → Type 0
+IsTold own turns port site it o end =
+    ((text : List ℕ) × ProcedureGives own turns port site it.procedure o.link o.link' end text × Appends o.sink.held o.sink'.held text) ⊎ (end ≡ status.NoMemory)
 
 -- ---- the claims, over disks in such a state
 
@@ -233,6 +245,17 @@ module _ {D : Type 0} (state : D → DiskState) where
       (words : List (List ℕ)) (bytes : List ℕ) (it : RecordingSet) →
       command_of words ≡ Some commands.Merge → Fits bytes → IsRecordedText it bytes →
       ComesTo words (IsGiven bytes) (MergeGives it)
+
+  -- A procedure at a site of its catalogue is run, and the line of its end is printed. At another site it gets the usage line.
+  pub record ProceduresAreRun : Type 0 where
+    pub run : (words : List (List ℕ)) (own turns site port : ℕ) (bytes : List ℕ) (it : ProcedureInput) →
+        command_of words ≡ Some (commands.Proc own turns site) → Fits bytes → IsProcedureText it bytes → value_at site it.catalog.sites ≡ Some port →
+        (source source' : SourceState) (link link' : LinkState) (sink sink' : SinkState) (disk disk' : D) (end : Status) →
+        Ends words source source' (outside link link' sink sink' (state disk) (state disk')) end → IsGiven bytes source source' (outside link link' sink sink' (state disk) (state disk'))
+        → IsTold own turns port site it (outside link link' sink sink' (state disk) (state disk')) end
+    pub missing : (words : List (List ℕ)) (own turns site : ℕ) (bytes : List ℕ) (it : ProcedureInput) →
+        command_of words ≡ Some (commands.Proc own turns site) → Fits bytes → IsProcedureText it bytes → value_at site it.catalog.sites ≡ None →
+        EndsWith words (IsGiven bytes) status.Usage usage_text
 
   -- Of a session of any bytes it is told, whatever ends it, which lines were answered, and with what. One of no more bytes than an input
   -- has, of a source that doesn't fail, is answered line by line to its end, or its head is refused.

@@ -8,4 +8,5 @@ pub mod Complete
 pub mod Ends
 pub mod Merges
 pub mod Plans
+pub mod Procedures
 pub mod Program

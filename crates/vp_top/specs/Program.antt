@@ -19,13 +19,14 @@ use Rattle.vp_replay.specs.Logged.{IsLogsAnswer}
 use Rattle.vp_replay.specs.Replayed.{IsReplayAnswer}
 use Rattle.vp_top.specs.Asked.{ClientGives, ClientLeaves, SignalGives, SignalLeaves}
 use Rattle.vp_top.specs.Merges.{IsMergeAnswer}
+use Rattle.vp_top.specs.Procedures.{IsNoProcedure, LacksSite, IsAtSite, ProcedureGives, ProcedureLeaves}
 
 -- the most bytes that an input may have
 abbrev pub most_bytes : ℕ
 most_bytes = 16777216
 
 abbrev pub usage_text : List ℕ
-usage_text = codes "usage: vpdb replay|check|node|client|tick|probe|stop|generate|soak|logs|merge|audit|gateway\n"
+usage_text = codes "usage: vpdb replay|check|node|client|tick|probe|stop|generate|soak|logs|merge|audit|proc|gateway\n"
 
 -- ---- at a site of a catalogue
 
@@ -86,6 +87,19 @@ pub record IsToldAt (bytes : List ℕ) (site : ℕ) (told : ℕ → Type 0) : Ty
 abbrev pub AtSite : List ℕ → ℕ → LinkState → LinkState → (ℕ → Status → List ℕ → Type 0) → Status → List ℕ → Type 0
 AtSite bytes site link link' gives end text = (IsNowhere bytes site end text × (link' ≡ link)) ⊎ IsToldAt bytes site (λ port. gives port end text)
 
+-- ---- a procedure
+
+-- what is printed for an input that is a procedure's, or isn't, or has no such site
+abbrev pub IsProcedureAnswer : ℕ → ℕ → ℕ → List ℕ → LinkState → LinkState → Status → List ℕ → Type 0
+IsProcedureAnswer own turns site bytes link link' end text =
+    (IsNoProcedure bytes end text × (link' ≡ link))
+    ⊎ ((LacksSite bytes site × (end ≡ status.Usage) × (text ≡ usage_text) × (link' ≡ link))
+    ⊎ IsAtSite bytes site (λ p port. ProcedureGives own turns port site p link link' end text))
+
+-- how its run may leave the link if memory runs out
+abbrev pub MayRun : ℕ → ℕ → ℕ → List ℕ → LinkState → LinkState → Type 0
+MayRun own turns site bytes link link' = (link' ≡ link) ⊎ IsAtSite bytes site (λ p port. ProcedureLeaves own turns port site p link link')
+
 -- ---- the commands
 
 -- The text that a command defines for its input at each status; no other status is possible. A node that serves prints as it goes, and
@@ -102,11 +116,13 @@ IsAnswer (commands.Signal site given) bytes link link' end text = AtSite bytes s
 IsAnswer (commands.Audit logs) bytes link link' end text = LacksSites bytes logs end text × (link' ≡ link)
 IsAnswer (commands.Gateway own turns site) bytes link link' end text = ⊥
 IsAnswer commands.Merge bytes link link' end text = IsMergeAnswer bytes end text
+IsAnswer (commands.Proc own turns site) bytes link link' end text = IsProcedureAnswer own turns site bytes link link' end text
 
 -- how a command may leave its link if memory runs out
 abbrev pub MayCall : Command → List ℕ → LinkState → LinkState → Type 0
 MayCall (commands.Client own turns site call) bytes link link' = (link' ≡ link) ⊎ IsToldAt bytes site (λ port. ClientLeaves own turns port site call link link')
 MayCall (commands.Signal site given) bytes link link' = (link' ≡ link) ⊎ IsToldAt bytes site (λ port. SignalLeaves port site given link link')
+MayCall (commands.Proc own turns site) bytes link link' = MayRun own turns site bytes link link'
 MayCall _ bytes link link' = link' ≡ link
 
 -- the command reads its input to the end before it does anything
@@ -122,6 +138,7 @@ Calls (commands.Node site log turns) = ⊤
 Calls (commands.Client own turns site call) = ⊤
 Calls (commands.Signal site given) = ⊤
 Calls (commands.Gateway own turns site) = ⊤
+Calls (commands.Proc own turns site) = ⊤
 Calls _ = ⊥
 
 -- the command calls its disk

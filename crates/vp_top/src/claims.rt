@@ -2,7 +2,7 @@
 //! whose sink's count of failures doesn't rise, and, if the command reads an input, whose source says what its bytes are and has a count
 //! that doesn't rise either. Memory may run out in each.
 
-ghost use Rattle.vp_top.specs.Complete.{AnswersArePrinted, HistoriesAreChecked, LimitsAreTold, LogsAreAudited, LogsAreTold, LongInputsAreRefused, MalformedInputsAreRefused, MissingSitesAreRefused, NodesEndByTheirLogs, OtherWordsAreRefused, RecordingsAreMerged, RunsAreCounted, SchedulesAreGenerated, SchedulesAreReplayed, SessionsAreAnswered, SignalsAreSent};
+ghost use Rattle.vp_top.specs.Complete.{AnswersArePrinted, HistoriesAreChecked, LimitsAreTold, LogsAreAudited, LogsAreTold, LongInputsAreRefused, MalformedInputsAreRefused, MissingSitesAreRefused, NodesEndByTheirLogs, OtherWordsAreRefused, ProceduresAreRun, RecordingsAreMerged, RunsAreCounted, SchedulesAreGenerated, SchedulesAreReplayed, SessionsAreAnswered, SignalsAreSent};
 
 use crate::command_claims::{answers_are_told, signals_are_done};
 use vp_outside::Disk;
@@ -62,6 +62,12 @@ pub fn logs_are_audited<D: Disk>()
 /// limit; or the turn that ends it, but only if no schedule does that; or the limit that the next event would exceed.
 pub fn recordings_are_merged<D: Disk>()
     ensures { RecordingsAreMerged D.state }
+{}
+
+/// Whoever runs `proc` on a procedure at a site of its catalogue gets the line of its end: its result, or why it has none. At a site that
+/// the catalogue lacks it is the usage line.
+pub fn procedures_are_run<D: Disk>()
+    ensures { ProceduresAreRun D.state }
 {}
 
 /// Whoever runs `gateway` gets, whatever ends it, the answers to the lines before that, and the line of the end, or a beginning of these if

@@ -12,6 +12,7 @@ mod gateway;
 mod merging;
 mod node;
 mod plan;
+mod procedure;
 mod program;
 mod report;
 mod signalling;

@@ -8,6 +8,7 @@ ghost use Rattle.vp_top.specs.Program.{Calls, MayCall, TellsFault, has_all, usag
 
 use crate::asking::call_site;
 use crate::merging::merged;
+use crate::procedure::run_procedure;
 use crate::signalling::signal_site;
 use std::alloc::Global;
 use vp_base::{NoMemory, SiteId, Word};
@@ -55,7 +56,8 @@ enum SiteLookup {
     Nowhere(RunOutput),
 }
 
-/// Makes the plan for the command and its input. A client's call and a signal are done already: their plan is to print the result.
+/// Makes the plan for the command and its input. A client's call, a signal and a procedure are done already: their plan is to print the
+/// result.
 pub fn plan_of<L: Link>(
     alloc: Global,
     command: Command,
@@ -105,6 +107,9 @@ pub fn plan_of<L: Link>(
             Ok(Plan::Answer(Gateway { port, turns, site }))
         }
         Command::Merge => Ok(Plan::Print(merged(alloc, input)?)),
+        Command::Proc { port, turns, site } => Ok(Plan::Print(run_procedure(
+            alloc, link, port, turns, site, input,
+        )?)),
     }
 }
 
@@ -174,7 +179,7 @@ pub fn usage(alloc: Global) -> Result<RunOutput, NoMemory>
     RunOutput::new(
         alloc,
         Status::Usage,
-        b"usage: vpdb replay|check|node|client|tick|probe|stop|generate|soak|logs|merge|audit|gateway\n",
+        b"usage: vpdb replay|check|node|client|tick|probe|stop|generate|soak|logs|merge|audit|proc|gateway\n",
     )
 }
 

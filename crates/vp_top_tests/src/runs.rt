@@ -167,7 +167,7 @@ end 0
 ";
 
 pub(crate) const USAGE: &str =
-    "usage: vpdb replay|check|node|client|tick|probe|stop|generate|soak|logs|merge|audit|gateway\n";
+    "usage: vpdb replay|check|node|client|tick|probe|stop|generate|soak|logs|merge|audit|proc|gateway\n";
 
 /// What `#` is replaced by in the inputs below.
 const HEAD_OF_THREE: &str =

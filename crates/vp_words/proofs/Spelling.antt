@@ -116,6 +116,10 @@ merge_met : Meets (codes "merge") alone_ids
 unfolding clap_on_literals level level_kinds
 merge_met words = rw (stopped_fault top names (codes "merge") [] words, stopped_walk top.rules names (codes "merge") [] words) (below (level_kinds (operand_shape (codes "merge") alone_ids) (at nothing 1 false) words) (codes "merge") _)
 
+proc_met : Meets (codes "proc") gateway_ids
+unfolding clap_on_literals level level_kinds
+proc_met words = rw (stopped_fault top names (codes "proc") [] words, stopped_walk top.rules names (codes "proc") [] words) (below (level_kinds (operand_shape (codes "proc") gateway_ids) (at nothing 1 false) words) (codes "proc") _)
+
 -- ---- a command's operands
 
 pub each : {X Y : Type 0} (f g : X → Option Y) (o : Option X) → ((x : X) → f x ≡ g x) → option_and_then f o ≡ option_and_then g o
@@ -216,6 +220,14 @@ unfolding operand_rows
 merge_says [] = refl
 merge_says (more ∷ words) = refl
 
+proc_says : Says (codes "proc") gateway_ids
+unfolding operand_rows
+proc_says [] = refl
+proc_says (port ∷ []) = refl
+proc_says (port ∷ turns ∷ []) = refl
+proc_says (port ∷ turns ∷ site ∷ []) = refl
+proc_says (port ∷ turns ∷ site ∷ more ∷ words) = refl
+
 -- ---- a first word that isn't a command's name
 
 record IsOther (name : Text) : Type 0 where
@@ -307,7 +319,11 @@ named_parsed name words v u same =
                                                                             elim (test name (codes "merge")) [
                                                                               | inl e ↦ known (codes "merge") alone_ids e merge_met (alone_found (codes "merge") words u) merge_says
                                                                               | inr m ↦
-                                                                                  other_parsed name words v (record { named = λ rest. rw (r.0, c.0, n.0, l.0, t.0, p.0, k.0, g.0, s.0, o.0, a.0, y.0, m.0) refl; met = rw (r.1, c.1, n.1, l.1, t.1, p.1, k.1, g.1, s.1, o.1, a.1, y.1, m.1) refl })
+                                                                                  elim (test name (codes "proc")) [
+                                                                                    | inl e ↦ known (codes "proc") gateway_ids e proc_met (gateway_found (codes "proc") words u) proc_says
+                                                                                    | inr q ↦
+                                                                                        other_parsed name words v (record { named = λ rest. rw (r.0, c.0, n.0, l.0, t.0, p.0, k.0, g.0, s.0, o.0, a.0, y.0, m.0, q.0) refl; met = rw (r.1, c.1, n.1, l.1, t.1, p.1, k.1, g.1, s.1, o.1, a.1, y.1, m.1, q.1) refl })
+                                                                                  ]
                                                                             ]
                                                                       ]
                                                                 ]

@@ -44,7 +44,7 @@ draws seed count = option_and_then (λ s. option_map (λ c. (s, c)) (number 0 24
 abbrev pub node : List ℕ → List ℕ → List ℕ → Option (ℕ × List ℕ × ℕ)
 node s log t = option_and_then (λ site. option_map (λ turns. (site, log, turns)) (turns t)) (site s)
 
--- the own port of a client or a gateway, its turns, and a site
+-- the own port of a client, a gateway or a procedure, its turns, and a site
 abbrev pub client : List ℕ → List ℕ → List ℕ → Option (ℕ × ℕ × ℕ)
 client p t s = option_and_then (λ port. option_and_then (λ turns. option_map (λ site. (port, turns, site)) (site s)) (turns t)) (port p)
 
@@ -91,9 +91,9 @@ abbrev pub auditing : List (List ℕ) → Option Command
 auditing [] = None
 auditing words = option_map commands.Audit (pairs 0 words)
 
-abbrev pub answering : List (List ℕ) → Option Command
-answering (p ∷ t ∷ s ∷ []) = option_map (λ o. commands.Gateway o.0 o.1 o.2) (client p t s)
-answering _ = None
+abbrev pub asking : (ℕ × ℕ × ℕ → Command) → List (List ℕ) → Option Command
+asking command (p ∷ t ∷ s ∷ []) = option_map command (client p t s)
+asking command _ = None
 
 -- ---- a command by its name
 
@@ -110,9 +110,10 @@ command_named name words =
     else (if bytes_eq name (codes "soak") then drawing (λ d. commands.Soak d.0 d.1) words
     else (if bytes_eq name (codes "logs") then alone commands.Logs words
     else (if bytes_eq name (codes "audit") then auditing words
-    else (if bytes_eq name (codes "gateway") then answering words
+    else (if bytes_eq name (codes "gateway") then asking (λ o. commands.Gateway o.0 o.1 o.2) words
     else (if bytes_eq name (codes "merge") then alone commands.Merge words
-    else None))))))))))))
+    else (if bytes_eq name (codes "proc") then asking (λ o. commands.Proc o.0 o.1 o.2) words
+    else None)))))))))))))
 
 -- a command's name, and then its operands
 abbrev pub command_of_words : List (List ℕ) → Option Command

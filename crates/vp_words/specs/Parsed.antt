@@ -45,6 +45,9 @@ audit_app = with_rule (new_app (codes "audit")) pairs_rule
 abbrev pub gateway_app : App
 gateway_app = operand_app (codes "gateway") (codes "PORT" ∷ codes "TURNS" ∷ codes "SITE" ∷ [])
 
+abbrev pub proc_app : App
+proc_app = operand_app (codes "proc") (codes "PORT" ∷ codes "TURNS" ∷ codes "SITE" ∷ [])
+
 -- no options, and no command for help
 abbrev pub bare_app : App
 bare_app = let app = new_app (codes "vpdb") in record app {
@@ -58,7 +61,7 @@ abbrev pub program_app : App
 program_app = fold with_command bare_app (
     new_app (codes "replay") ∷ new_app (codes "check") ∷ node_app ∷ client_app ∷ signal_app (codes "tick")
     ∷ signal_app (codes "probe") ∷ signal_app (codes "stop") ∷ drawing_app (codes "generate") ∷ drawing_app (codes "soak") ∷ new_app (codes "logs") ∷ audit_app
-    ∷ gateway_app ∷ new_app (codes "merge") ∷ [])
+    ∷ gateway_app ∷ new_app (codes "merge") ∷ proc_app ∷ [])
 
 -- ---- what the rows of the operands mean
 
@@ -96,6 +99,9 @@ gateway_operands rows =
 abbrev pub gateway_command : List Row → Option Command
 gateway_command rows = option_map (λ o. commands.Gateway o.0 o.1 o.2) (gateway_operands rows)
 
+abbrev pub proc_command : List Row → Option Command
+proc_command rows = option_map (λ o. commands.Proc o.0 o.1 o.2) (gateway_operands rows)
+
 -- the command that a subcommand with its rows means
 abbrev pub command_meant : Text → List Row → Option Command
 command_meant name rows =
@@ -112,4 +118,5 @@ command_meant name rows =
     else (if bytes_eq name (codes "audit") then audit_command rows
     else (if bytes_eq name (codes "gateway") then gateway_command rows
     else (if bytes_eq name (codes "merge") then Some commands.Merge
-    else None))))))))))))
+    else (if bytes_eq name (codes "proc") then proc_command rows
+    else None)))))))))))))

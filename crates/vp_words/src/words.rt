@@ -7,7 +7,7 @@ ghost use Rattle.clap.specs.Words.{app_of, found_of, rows_of, subcommand_rows_of
 ghost use Rattle.clap.specs.declared.builder.command.Command.TheViews.{out-Command};
 ghost use Rattle.vp_text.specs.Reading.{Reads, number_at, whole};
 ghost use Rattle.vp_words.specs.Commands.{IsAllowed, command_of, number, pairs, site};
-ghost use Rattle.vp_words.specs.Parsed.{gateway_command, audit_app, audit_command, bare_app, client_command, client_operands, seed_and_count, gateway_operands, has_hyphen, command_meant, node_operands, operand_app, program_app, node_command, signal_command, with_command};
+ghost use Rattle.vp_words.specs.Parsed.{gateway_command, audit_app, audit_command, bare_app, client_command, client_operands, seed_and_count, gateway_operands, has_hyphen, command_meant, node_operands, operand_app, proc_command, program_app, node_command, signal_command, with_command};
 
 use clap::error::ErrorKind;
 use clap::{Arg, ArgMatches};
@@ -75,6 +75,13 @@ pub enum Command {
     },
     /// Puts the recordings of nodes together to one schedule.
     Merge,
+    /// Runs a procedure as one transaction at the node of the site, from the client's own port. Each answer is waited for among so many
+    /// datagrams at most.
+    Proc {
+        port: u16,
+        turns: u64,
+        site: SiteId,
+    },
 }
 
 /// What a node is ordered to do.
@@ -158,7 +165,8 @@ fn program<'a>(alloc: Global) -> Result<clap::Command<'a>, AllocError>
     let program = with_command(alloc, program, "logs", &[])?;
     let program = program.subcommand(auditing(alloc)?)?;
     let program = with_command(alloc, program, "gateway", &["PORT", "TURNS", "SITE"])?;
-    with_command(alloc, program, "merge", &[])
+    let program = with_command(alloc, program, "merge", &[])?;
+    with_command(alloc, program, "proc", &["PORT", "TURNS", "SITE"])
 }
 
 /// The program without its commands. It has no options, so none asks for help.
@@ -236,6 +244,7 @@ fn command_meant(alloc: Global, matches: &ArgMatches) -> Result<Option<Command>,
         "audit" => audit_command(alloc, matches),
         "gateway" => Ok(gateway_command(matches)),
         "merge" => Ok(Some(Command::Merge)),
+        "proc" => Ok(proc_command(matches)),
         _ => Ok(None),
     }
 }
@@ -342,6 +351,15 @@ fn gateway_command(matches: &ArgMatches) -> Option<Command>
 {
     let (port, turns, site) = gateway_operands(matches)?;
     Some(Command::Gateway { port, turns, site })
+}
+
+/// The command of a procedure, whose operands are those of a gateway.
+fn proc_command(matches: &ArgMatches) -> Option<Command>
+    ensures command { result ≡ proc_command (rows_of (found_of matches.now)) }
+    ensures allowed { IfSome result IsAllowed }
+{
+    let (port, turns, site) = gateway_operands(matches)?;
+    Some(Command::Proc { port, turns, site })
 }
 
 #[tactic(auto, using(crate::proofs::Texts::first_rows))]

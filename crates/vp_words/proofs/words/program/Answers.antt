@@ -22,4 +22,5 @@ returns c =
     let logs = c.in_ok-program-10.ensures ∙ onto (codes "logs") alone_ids _ _ soak in
     let audit = c.in_ok-program-11.ensures.shape c.in_ok-auditing.ensures.local ∙ ap₂ with_command logs c.in_ok-auditing.ensures.app in
     let gateway = c.in_ok-program-12.ensures ∙ onto (codes "gateway") gateway_ids _ _ audit in
-    IfOk-weaker c.with_command-12.result _ _ (λ r h. h ∙ onto (codes "merge") alone_ids _ _ gateway) c.with_command-12.ensures
+    let merge = c.in_ok-program-13.ensures ∙ onto (codes "merge") alone_ids _ _ gateway in
+    IfOk-weaker c.with_command-13.result _ _ (λ r h. h ∙ onto (codes "proc") gateway_ids _ _ merge) c.with_command-13.ensures

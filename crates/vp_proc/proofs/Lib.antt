@@ -1,0 +1,5 @@
+pub mod Numbers
+pub mod Evaluations
+pub mod Told
+pub mod Sessions
+pub mod Walked

@@ -1,0 +1,12 @@
+pub mod FirstWords
+pub mod OpenIfs
+pub mod KeywordWords
+pub mod TermTexts
+pub mod ExprTexts
+pub mod StatementTexts
+pub mod StatementSpelled
+pub mod LineTexts
+pub mod Steps
+pub mod Answering
+pub mod Spelled
+pub mod Only
