@@ -2,7 +2,7 @@
 use Rattle.std.specs.Prelude.{ℕ, Bool, not, ◌==◌, ◌&&◌, if◌then◌else◌, List, filter, Option, Some, None}
 use Rattle.std.specs.List.{list_any}
 use Rattle.vp_model.specs.Types.{TxnId, Call, Message, Obstacle, Pending, Live, Decision}
-use Rattle.vp_base.specs.declared.site.Ending.TheVariants.{LockHeld, ViewChanged}
+use Rattle.vp_base.specs.declared.site.Ending.TheVariants.{LockHeld, ViewChanged, Inaccessible}
 use Rattle.vp_model.specs.Types.call
 use Rattle.vp_model.specs.Types.log_record
 use Rattle.vp_model.specs.Types.message
@@ -55,11 +55,11 @@ record_name (call.Delete txn number name) = Some name
 record_name (call.Weigh txn number name table) = Some name
 record_name _ = None
 
--- a lock of another owner closes a transaction by its call on a record, and another view by any call
+-- a lock of another owner or a bar closes a transaction by its call on a record, and another view by any call
 abbrev pub refused_by : ℕ → Obstacle → Call → ℕ → Live → Lent → Lent
 refused_by id (obstacle.Held holder) words from t l = l |> for_some (record_name words) (λ name. close id t (LockHeld name from holder))
 refused_by id (obstacle.OtherView now) words from t l = close id t (ViewChanged from t.view now) l
-refused_by id (obstacle.Barred inside total) words from t l = l
+refused_by id (obstacle.Barred inside total) words from t l = l |> for_some (record_name words) (λ name. close id t (Inaccessible name inside total))
 
 unfoldable pub on_refuse : ℕ → ℕ → TxnId → ℕ → Obstacle → Lent → Lent
 on_refuse id from txn number why l =
