@@ -96,14 +96,14 @@ value_replaced_here n v w (p ∷ pairs) e = go (p.0 == n) refl e (λ q. value_re
 -- the newest copy is the own one, or has a later date
 newest_later : (own : Stored) (answers : List (ℕ × Stored)) → (newest own answers ≡ own) ⊎ Precedes own.date (newest own answers).date
 newest_later own [] = inl refl
-newest_later own (a ∷ answers) = go (view_before own.date a.1.date) refl
+newest_later own (a ∷ answers) = go (view_before own.date a.1.date) refl (newest_later own answers) (newest_later a.1 answers)
   where
-    go : (b : Bool) → view_before own.date a.1.date ≡ b → (newest (cond b a.1 own) answers ≡ own) ⊎ Precedes own.date (newest (cond b a.1 own) answers).date
-    go false e = newest_later own answers
-    go true e = ⊎_elim
+    go : (b : Bool) → view_before own.date a.1.date ≡ b → (newest own answers ≡ own) ⊎ Precedes own.date (newest own answers).date → (newest a.1 answers ≡ a.1) ⊎ Precedes a.1.date (newest a.1 answers).date → (newest (cond b a.1 own) answers ≡ own) ⊎ Precedes own.date (newest (cond b a.1 own) answers).date
+    go false e rest its = rest
+    go true e rest its = ⊎_elim
         (λ (same : newest a.1 answers ≡ a.1). inr (subst (λ (c : Stored). Precedes own.date c.date) (sym same) (from_before own.date a.1.date e)))
         (λ (later : Precedes a.1.date (newest a.1 answers).date). inr (Precedes-trans own.date a.1.date (newest a.1 answers).date (from_before own.date a.1.date e) later))
-        (newest_later a.1 answers)
+        its
 
 -- where it isn't later it is the own one
 newest_is_own : (own : Stored) (answers : List (ℕ × Stored)) → view_before own.date (newest own answers).date ≡ false → newest own answers ≡ own
@@ -184,11 +184,11 @@ module _ (catalogue : Catalogue) (x : SiteState) (given : Input) (b : Table cata
   P = Unlisting catalogue x given
 
   -- in the view of the start, with all that was under refresh then
-  first : (e : Stepped) → e.site.held ≡ x.held → e.site.bars ≡ x.bars → ((r : Refreshing) → Has x.refresh r → (q : Refreshing) × Has e.site.refresh q × (q.rec ≡ r.rec)) → Base catalogue x given e → P e
-  first e v bs sub base = record { base = base; unlisted = λ rec u h none. Unlisted.still (λ r g is. let q = sub r g in none q.0 q.1 (q.2 ∙ is)) v (ap (value_at rec) bs) }
+  first : (e : Stepped) → Base catalogue x given e → e.site.held ≡ x.held → e.site.bars ≡ x.bars → ((r : Refreshing) → Has x.refresh r → (q : Refreshing) × Has e.site.refresh q × (q.rec ≡ r.rec)) → P e
+  first e base v bs sub = record { base = base; unlisted = λ rec u h none. Unlisted.still (λ r g is. let q = sub r g in none q.0 q.1 (q.2 ∙ is)) v (ap (value_at rec) bs) }
 
-  stays : (e : Stepped) → e.site.held ≡ x.held → e.site.bars ≡ x.bars → e.site.refresh ≡ x.refresh → Base catalogue x given e → P e
-  stays e v bs r base = first e v bs (λ q h. (q, rw r h, refl)) base
+  stays : (e : Stepped) → Base catalogue x given e → e.site.held ≡ x.held → e.site.bars ≡ x.bars → e.site.refresh ≡ x.refresh → P e
+  stays e base v bs r = first e base v bs (λ q h. (q, rw r h, refl))
 
   gone : (e : Stepped) → e.site.held ≡ None → Base catalogue x given e → P e
   gone e v base = record { base = base; unlisted = λ rec u h none. absurd (let z = v in cc) }
@@ -254,10 +254,10 @@ module _ (catalogue : Catalogue) (x : SiteState) (given : Input) (b : Table cata
 
   ends_here : (from : ℕ) (txn : TxnId) (commit : Bool) (doubt : Option Doubt) → Base catalogue x given (end_here from txn commit doubt (begin_step x)) → P (end_here from txn commit doubt (begin_step x))
   unfolding end_here
-  ends_here from txn true None base = stays _ refl refl refl base
-  ends_here from txn false None base = stays _ refl refl refl base
-  ends_here from txn false (Some d) base = stays _ refl refl refl base
-  ends_here from txn true (Some d) base = stays _ refl refl refl base
+  ends_here from txn true None base = stays _ base refl refl refl
+  ends_here from txn false None base = stays _ base refl refl refl
+  ends_here from txn false (Some d) base = stays _ base refl refl refl
+  ends_here from txn true (Some d) base = stays _ base refl refl refl
 
   rec_same : (rec from : ℕ) (stored : Stored) (r : Refreshing) → (with_answer rec from stored r).rec ≡ r.rec
   rec_same rec from stored r = go (r.rec == rec)
@@ -272,46 +272,46 @@ module _ (catalogue : Catalogue) (x : SiteState) (given : Input) (b : Table cata
   pub table : Table catalogue x given P
   unfolding drop_view on_stale on_accept hold fix ask_again start_inviting accept grant resend_one inquire
   table = record {
-    sends_back = λ from m t. stays _ refl refl refl (b.sends_back from m t);
+    sends_back = λ from m t. stays _ (b.sends_back from m t) refl refl refl;
     asks_again = λ o ms all p. same o _ refl refl refl refl refl (λ q g. each _ q g) (b.asks_again o ms all p.base) p;
     drop_view = λ l e z p. gone (drop_view (put_back (begin_step x) l)) refl (b.drop_view l e z p.base);
     start_inviting = λ o s l p. gone _ (left_none o l) (b.start_inviting o s l p.base);
     accept = λ from id o c e l p. gone _ (left_none o l) (b.accept from id o c e l p.base);
-    accepted = λ from id c. stays _ refl refl refl (b.accepted from id c);
-    seen = λ from id promise c. stays _ refl refl refl (b.seen from id promise c);
+    accepted = λ from id c. stays _ (b.accepted from id c) refl refl refl;
+    seen = λ from id promise c. stays _ (b.seen from id promise c) refl refl refl;
     hold = λ from id members c e. record { base = b.hold from id members c e; unlisted = λ k u h none. Unlisted.joined (record { id = id; members = members }) refl (Joins.came from c e) };
-    heard = λ from view c e. stays _ refl refl refl (b.heard from view c e);
+    heard = λ from view c e. stays _ (b.heard from view c e) refl refl refl;
     fix = λ view c e. record { base = b.fix view c e; unlisted = λ k u h none. Unlisted.joined view refl (Joins.fixed c e) };
-    without_wait = λ id c i w. stays _ refl refl refl (b.without_wait id c i w);
-    probe = λ view c e. stays _ refl refl refl (b.probe view c e);
+    without_wait = λ id c i w. stays _ (b.without_wait id c i w) refl refl refl;
+    probe = λ view c e. stays _ (b.probe view c e) refl refl refl;
     answers_inviting = λ port c s p. same _ _ refl refl refl refl refl (λ r h. each _ r h) (b.answers_inviting port c s p.base) p;
     start_refresh = λ view rec o e h p. refreshes view rec o (b.start_refresh view rec o e h p.base) p;
     end_refresh = λ rec r own o e a d v p. finishes rec r own o e a d v (b.end_refresh rec r own o e a d v p.base) p;
-    keep_answer = λ from view rec stored r c e f g. first _ refl refl (λ q h. (with_answer rec from stored q, mapped_has (with_answer rec from stored) x.refresh q h, rec_same rec from stored q)) (b.keep_answer from view rec stored r c e f g);
-    grant_read = λ from txn view number rec stored c e n v f u. stays _ refl refl refl (b.grant_read from txn view number rec stored c e n v f u);
-    grant_write = λ from txn view number rec stored c e n v f u. stays _ refl refl refl (b.grant_write from txn view number rec stored c e n v f u);
-    vote_reading = λ from txn view number reads writes part c e n d f v a w. stays _ refl refl refl (b.vote_reading from txn view number reads writes part c e n d f v a w);
-    vote_writing = λ from txn view number reads writes part c e n d f v a w. stays _ refl refl refl (b.vote_writing from txn view number reads writes part c e n d f v a w);
+    keep_answer = λ from view rec stored r c e f g. first _ (b.keep_answer from view rec stored r c e f g) refl refl (λ q h. (with_answer rec from stored q, mapped_has (with_answer rec from stored) x.refresh q h, rec_same rec from stored q));
+    grant_read = λ from txn view number rec stored c e n v f u. stays _ (b.grant_read from txn view number rec stored c e n v f u) refl refl refl;
+    grant_write = λ from txn view number rec stored c e n v f u. stays _ (b.grant_write from txn view number rec stored c e n v f u) refl refl refl;
+    vote_reading = λ from txn view number reads writes part c e n d f v a w. stays _ (b.vote_reading from txn view number reads writes part c e n d f v a w) refl refl refl;
+    vote_writing = λ from txn view number reads writes part c e n d f v a w. stays _ (b.vote_writing from txn view number reads writes part c e n d f v a w) refl refl refl;
     end_here = λ from txn commit c. ends_here from txn commit (doubt_of txn x.doubts) (b.end_here from txn commit c);
     coordinator = record {
-      begin = λ port view e g u. stays _ refl refl refl (b.coordinator.begin port view e g u);
-      answers = λ words port why y. stays _ refl refl refl (b.coordinator.answers words port why y);
-      take_lock = λ t rec exclusive stored h i a v c. stays _ refl refl refl (b.coordinator.take_lock t rec exclusive stored h i a v c);
-      complete = λ t p deed l h g y e q. stays _ refl refl refl (b.coordinator.complete t p deed l h g y e q.base);
-      read_at = λ t p rec q h n r a w c o y. stays _ refl refl refl (b.coordinator.read_at t p rec q h n r a w c o y);
-      write_at = λ t p rec value l h n w a e o d y v q. stays _ refl refl refl (b.coordinator.write_at t p rec value l h n w a e o d y v q.base);
-      prepare_parts = λ t p h i g e. stays _ refl refl refl (b.coordinator.prepare_parts t p h i g e);
-      still_waits = λ t p from h e m f c. stays _ refl refl refl (b.coordinator.still_waits t p from h e m f c);
-      decide = λ t n d. stays _ refl refl refl (b.coordinator.decide t n d);
-      close = λ t why l n a z y q. stays _ refl refl refl (b.coordinator.close t why l n a z y q.base);
-      mark_calls = λ l c z q. stays _ refl refl refl (b.coordinator.mark_calls l c z q.base);
-      acknowledge = λ from txn c w. stays _ refl refl refl (b.coordinator.acknowledge from txn c w);
+      begin = λ port view e g u. stays _ (b.coordinator.begin port view e g u) refl refl refl;
+      answers = λ words port why y. stays _ (b.coordinator.answers words port why y) refl refl refl;
+      take_lock = λ t rec exclusive stored h i a v c. stays _ (b.coordinator.take_lock t rec exclusive stored h i a v c) refl refl refl;
+      complete = λ t p deed l h g y e q. stays _ (b.coordinator.complete t p deed l h g y e q.base) refl refl refl;
+      read_at = λ t p rec q h n r a w c o y. stays _ (b.coordinator.read_at t p rec q h n r a w c o y) refl refl refl;
+      write_at = λ t p rec value l h n w a e o d y v q. stays _ (b.coordinator.write_at t p rec value l h n w a e o d y v q.base) refl refl refl;
+      prepare_parts = λ t p h i g e. stays _ (b.coordinator.prepare_parts t p h i g e) refl refl refl;
+      still_waits = λ t p from h e m f c. stays _ (b.coordinator.still_waits t p from h e m f c) refl refl refl;
+      decide = λ t n d. stays _ (b.coordinator.decide t n d) refl refl refl;
+      close = λ t why l n a z y q. stays _ (b.coordinator.close t why l n a z y q.base) refl refl refl;
+      mark_calls = λ l c z q. stays _ (b.coordinator.mark_calls l c z q.base) refl refl refl;
+      acknowledge = λ from txn c w. stays _ (b.coordinator.acknowledge from txn c w) refl refl refl;
     };
     resend_one = λ d o c h p. same o _ refl refl refl refl refl (λ q g. each _ q g) (b.resend_one d o c h p.base) p;
   }
 
   starts : P (begin_step x)
-  starts = stays (begin_step x) refl refl refl begun
+  starts = stays (begin_step x) begun refl refl refl
 
 pub unlisting-step : (catalogue : Catalogue) (x : SiteState) (given : Input) → Table catalogue x given (Base catalogue x given) → Base catalogue x given (begin_step x) → Unlisting catalogue x given (step catalogue x given)
 unlisting-step catalogue x given b begun = step-keeps catalogue x given (Unlisting catalogue x given) (table catalogue x given b begun) (starts catalogue x given b begun)
