@@ -68,8 +68,8 @@ granted_lock catalogue x given from txn number rec exclusive stored g = go exclu
     free_bar = unbarred x rec g.opened
 
     go : (exclusive : Bool) → Requests given from txn g.view number rec exclusive → conflict rec exclusive txn x.locks ≡ None → HasLock rec exclusive (owner.Txn txn) (step catalogue x given).site.locks
-    go false (Requests.reads e) free = rw (e, g.held, g.going, free_bar, g.copy, free) (lock_taken rec false (owner.Txn txn) x.locks)
-    go true (Requests.writes e) free = rw (e, g.held, g.going, free_bar, g.copy, free) (lock_taken rec true (owner.Txn txn) x.locks)
+    go false (Requests.reads e) free = rw (e, g.held, g.going, g.copy, free_bar, free) (lock_taken rec false (owner.Txn txn) x.locks)
+    go true (Requests.writes e) free = rw (e, g.held, g.going, g.copy, free_bar, free) (lock_taken rec true (owner.Txn txn) x.locks)
 
 -- and the views are as before
 granted_views : (catalogue : Catalogue) (x : SiteState) (given : Input) (from : ℕ) (txn : TxnId) (number rec : ℕ) (exclusive : Bool) (stored : Stored) → Granted x given from txn number rec exclusive stored → (step catalogue x given).site.held ≡ x.held
@@ -80,8 +80,8 @@ granted_views catalogue x given from txn number rec exclusive stored g = go excl
     free_bar = unbarred x rec g.opened
 
     go : (exclusive : Bool) → Requests given from txn g.view number rec exclusive → conflict rec exclusive txn x.locks ≡ None → (step catalogue x given).site.held ≡ x.held
-    go false (Requests.reads e) free = rw (e, g.held, g.going, free_bar, g.copy, free) refl
-    go true (Requests.writes e) free = rw (e, g.held, g.going, free_bar, g.copy, free) refl
+    go false (Requests.reads e) free = rw (e, g.held, g.going, g.copy, free_bar, free) refl
+    go true (Requests.writes e) free = rw (e, g.held, g.going, g.copy, free_bar, free) refl
 
 -- a request of this step
 record NewRead (catalogue : Catalogue) (x : SiteState) (given : Input) (live : List Live) (txn : TxnId) (number rec : ℕ) : Type 0 where

@@ -7,7 +7,8 @@ use Rattle.vp_laws.proofs.Invariant.Known.{Known}
 use Rattle.vp_laws.proofs.Worlds.Sites.{Quiet, crash_quiet, restart_quiet}
 use Rattle.vp_laws.proofs.Worlds.Scenes.{Scene, acted, plain_at}
 use Rattle.vp_model.specs.Site.{SiteState}
-use Rattle.std.specs.Prelude.{Some}
+use Rattle.std.specs.Prelude.{Some, None}
+use Rattle.vp_model.specs.World.{Place, place_of}
 use Rattle.vp_laws.proofs.Copies.DoubtBase.{base_keeps}
 use Rattle.vp_laws.specs.Catalogues.{IsWhole}
 use Rattle.vp_laws.proofs.Copies.BarsKept.{bars_keep, bars_quiet, bars_starts}

@@ -11,7 +11,7 @@ use Rattle.vp_model.specs.Words.{is_view}
 use Rattle.vp_model.specs.Catalogue.{Catalogue}
 use Rattle.vp_model.specs.World.{Moment}
 use Rattle.vp_model.specs.Told.{answers_in}
-use Rattle.vp_model.specs.Justified.{was_barred, is_barred_by, closed_by_bar, barred_in, refused_in, site_named, was_blocked, held_other, is_held_by, is_other_view, left_then, closed_then, closed_in, takes_refusal, closed_by_lock, closed_by_view, told_from, tells_end, is_begun, begun_in, justified}
+use Rattle.vp_model.specs.Justified.{was_barred, is_barred_by, closed_by_bar, barred_in, refused_in, site_named, was_blocked, held_other, is_held_by, is_other_view, left_then, closed_then, closed_in, takes_refusal, closed_by_lock, closed_by_view, told_from, tells_end, is_begun, begun_in, refused_once, justified}
 use Rattle.vp_laws.proofs.Replies.RefusedCalls.{Refusal, refusal_is, refusal_more, refused_more, barred_more}
 use Rattle.vp_laws.proofs.Lists.Members.{Has, has_left, any_of, both_true}
 use Rattle.vp_laws.proofs.Lists.Numbers.{eq_not}

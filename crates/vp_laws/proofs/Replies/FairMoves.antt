@@ -25,6 +25,7 @@ use Rattle.vp_model.specs.Step.{step}
 use Rattle.vp_model.specs.Told.{answers_in}
 use Rattle.vp_model.specs.World.{WorldState, Moment}
 use Rattle.vp_model.specs.Justified.{justified, was_blocked, held_other, is_held_by, is_other_view, left_then, closed_then, takes_refusal, is_step_of, tested_before, answers_call, keeps_end, tells_end, Request, handles, is_named, is_begun, table_in, tables_below, sums_are, weighs, bars, held_by_none, was_barred, is_barred_by, is_delivery, site_named, refused_number, refused_in, barred_number, barred_in}
+use Rattle.vp_laws.proofs.Keeping.Settled.{holding}
 use Rattle.vp_laws.proofs.Replies.RefusedCalls.{first_in, first_last, none_first, first_told, refused_of, barred_of}
 use Rattle.vp_laws.proofs.Lists.Members.{Has, filter_has, has_none, has_one, has_left, has_right, has_cases, has_one_is, map_has, any_true, any_of}
 use Rattle.vp_laws.proofs.Moves.Table.{record_of, Comes, Handled, Reads, Changes, Tries, Requests, Asks}
@@ -422,13 +423,16 @@ module _ (catalogue : Catalogue) (world : WorldState) (past : List Moment) (m0 :
 
   -- the weights that an answer names: by the call's own table, by a bar, or none since no member holds the record
   weighs_when : (name : List ℕ) (rec : ℕ) (v : View) (i n : ℕ) → x.held ≡ Some v → nat_le (2 * i) n ≡ true → find_record catalogue name ≡ Some rec → (option_map_or (sums_are i n (members x)) (table_in m0.line.event) false || bars catalogue m0.before.journal rec i n x || held_by_none catalogue rec i n x) ≡ true → weighs catalogue m0 name i n x ≡ true
-  weighs_when name rec v i n held up_to found sums = let some : is_some x.held ≡ true = rw held refl in rw (some, up_to, found) sums
+  weighs_when name rec v i n held up_to found sums = let some : is_some x.held ≡ true = rw held refl in rw (some, found) (all_of_two (nat_le (2 * i) n) _ up_to sums)
 
   one_of_three : (a b c : Bool) → ((a ≡ true) ⊎ ((b ≡ true) ⊎ (c ≡ true))) → (a || b || c) ≡ true
   one_of_three true b c h = refl
   one_of_three false true c h = refl
   one_of_three false false true h = refl
   one_of_three false false false h = ⊎_elim (λ a. let z = a in cc) (λ q. ⊎_elim (λ b. let z = b in cc) (λ c. let z = c in cc) q) h
+
+  none_half : (n : ℕ) → nat_le (2 * 0) n ≡ true
+  none_half n = grind (arith, nat_tests)
 
   half : (i n : ℕ) → nat_lt n (2 * i) ≡ false → nat_le (2 * i) n ≡ true
   half i n short = grind (arith, nat_tests, short)
@@ -464,7 +468,7 @@ module _ (catalogue : Catalogue) (world : WorldState) (past : List Moment) (m0 :
           let is : (0, total catalogue rec) ≡ weights = cc in
           let none : held_by_none catalogue rec 0 (total catalogue rec) x ≡ true = rw (f, eq_self (total catalogue rec)) refl in
           subst (λ (q : ℕ × ℕ). weighs catalogue m0 name q.0 q.1 x ≡ true) is
-          (weighs_when name rec v.0 0 (total catalogue rec) v.1 refl found (one_of_three _ _ _ (inr (inr none))))
+          (weighs_when name rec v.0 0 (total catalogue rec) v.1 (none_half (total catalogue rec)) found (one_of_three _ _ _ (inr (inr none))))
 
       by_bar : (bar : Option (ℕ × ℕ)) → value_at rec x.bars ≡ bar → first_some bar (short_of_holders catalogue rec (members_in x.held)) ≡ Some weights → weighs catalogue m0 name weights.0 weights.1 x ≡ true
       by_bar None f e = by_none (list_any (has (members_in x.held)) (holders catalogue rec)) refl e

@@ -91,6 +91,18 @@ delivered_is e w s given (Gives.came k m is at to) from words c =
 delivered_is e w s given (Gives.ticked is) from words c = cc
 delivered_is e w s given (Gives.probed is) from words c = cc
 
+delivered_event : (e : Event) (w : WorldState) (s : ℕ) (given : Input) → Gives e w s given → (from : ℕ) (words : Message) → Comes given from words → is_delivery e ≡ true
+delivered_event e w s given (Gives.called calls is) from words c = cc
+delivered_event e w s given (Gives.came k m is at to) from words c = rw is refl
+delivered_event e w s given (Gives.ticked is) from words c = cc
+delivered_event e w s given (Gives.probed is) from words c = cc
+
+uncalled_event : (e : Event) (w : WorldState) (s : ℕ) (given : Input) → Gives e w s given → is_delivery e ≡ true → (port : ℕ) (words : Call) → given ≡ input.Call port words → ⊥
+uncalled_event e w s given (Gives.called calls is) delivery port words c = let z = ap is_delivery is in cc
+uncalled_event e w s given (Gives.came k m is at to) delivery port words c = cc
+uncalled_event e w s given (Gives.ticked is) delivery port words c = cc
+uncalled_event e w s given (Gives.probed is) delivery port words c = cc
+
 in_turn : (a b c : Bool) → a ≡ true → b ≡ true → c ≡ true → ((a && b) && c) ≡ true
 in_turn a b c p q r = rw (p, q, r) refl
 
@@ -194,27 +206,20 @@ module _ (catalogue : Catalogue) (m : Moment) (w : WorldState) (s : ℕ) (x : Si
       option_map_or (λ (lock : ℕ × Bool). is_named catalogue name lock.0 && tested_before s (bars catalogue m.before.journal lock.0 i t) m) request.lock false
       && list_any (refuses txn number (is_barred_by i t)) (messages_in m.line.shown)) (asked_for from txn view number rec exclusive asks)
       (rw (named_here name rec found, barred) refused) in
-      rw site all
+      subst (λ (o : Option ℕ).
+      option_map_or
+      (λ at. handles catalogue at txn number
+      (λ request.
+      option_map_or (λ (lock : ℕ × Bool). is_named catalogue name lock.0 && tested_before at (bars catalogue m.before.journal lock.0 i t) m) request.lock false
+      && list_any (refuses txn number (is_barred_by i t)) (messages_in m.line.shown)) m) o false ≡ true) (sym site) all
 
   -- a message is delivered
   pub delivers : (from : ℕ) (words : Message) → Comes given from words → is_delivery m.line.event ≡ true
-  delivers from words c = go is.gives
-    where
-      go : Gives m.line.event w s given → is_delivery m.line.event ≡ true
-      go (Gives.called calls is) = cc
-      go (Gives.came k m is at to) = rw is refl
-      go (Gives.ticked is) = cc
-      go (Gives.probed is) = cc
+  delivers from words c = delivered_event m.line.event w s given is.gives from words c
 
   -- and is no call
   pub delivered_uncalled : is_delivery m.line.event ≡ true → (port : ℕ) (words : Call) → given ≡ input.Call port words → ⊥
-  delivered_uncalled e port words c = go is.gives
-    where
-      go : Gives m.line.event w s given → ⊥
-      go (Gives.called calls is) = let z = ap is_delivery is in cc
-      go (Gives.came k m is at to) = cc
-      go (Gives.ticked is) = cc
-      go (Gives.probed is) = cc
+  delivered_uncalled e port words c = uncalled_event m.line.event w s given is.gives e port words c
 
   -- a request of another site named a view that is not held here
   pub other_there : (from : ℕ) (txn : TxnId) (view : ViewId) (number : ℕ) → Asks given from txn view number → Has o.effects.messages (letter s from (message.Refuse txn number (obstacle.OtherView (held_id x)))) → held_other catalogue txn number s view (held_id x) m ≡ true

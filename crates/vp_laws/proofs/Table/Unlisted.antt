@@ -4,26 +4,29 @@ use Rattle.std.proofs.Common.{◌≡◌, ◌≢◌, ◌⊎◌, ◌∙◌, ap, sy
 use Rattle.std.specs.Prelude.{Option, Some, None, filter, find, option_map, not, ◌==◌, ◌&&◌, nat_lt}
 use Rattle.std.proofs.lemmas.Bool.{eqb-true}
 use Rattle.std.proofs.lemmas.Bool.Decides.{nat_tests}
-use Rattle.vp_model.specs.Types.{TxnId, View, Input, Stored, Refreshing, Doubt}
+use Rattle.vp_model.specs.Types.{TxnId, View, Input, Stored, Live, Ending, Refreshing, Doubt}
+use Rattle.vp_base.specs.declared.site.Ending.TheVariants.{Committed}
+use Rattle.vp_model.specs.Transactions.{keep_writes, complete, decide}
+use Rattle.vp_model.specs.Calls.{start_txn, take_lock, read_at, write_at, prepare_parts}
 use Rattle.vp_model.specs.Types.log_record
 use Rattle.vp_model.specs.Types.input
 use Rattle.vp_model.specs.Types.message
 use Rattle.vp_model.specs.Words.{keys, put, put_at, view_before, replace_at, value_at, is_empty, is_view, has}
 use Rattle.vp_model.specs.Catalogue.{Catalogue, Table as Weights, table_or, accessible_by, weight_inside, weight_total}
 use Rattle.vp_model.specs.Locks.{without_guard}
-use Rattle.vp_model.specs.Site.{SiteState, Stepped, begin_step, put_back, force, change_copies, change_bars}
+use Rattle.vp_model.specs.Site.{Here, SiteState, Lent, Stepped, begin_step, put_back, force, change_copies, change_bars}
 use Rattle.vp_model.specs.Refresh.{members, newest, take_newer, with_bar, unlist, end_refresh, start_refresh, refreshing_of, unanswered, is_doubtful}
 use Rattle.vp_model.specs.Views.{drop_view, start_inviting, hold}
 use Rattle.vp_model.specs.Durable.{doubt_of}
 use Rattle.vp_model.specs.Messages.{with_answer, accept, on_accept, on_stale, grant, end_here}
-use Rattle.vp_model.specs.Step.{fix, ask_again, resend_one, inquire, step}
+use Rattle.vp_model.specs.Step.{fix, mark_calls, ask_again, resend_one, inquire, step}
 use Rattle.vp_laws.proofs.Lists.Members.{Has, filter_keeps, find_has}
 use Rattle.vp_laws.proofs.Lists.Changes.{mapped_has, put_new, put_old}
 use Rattle.vp_laws.proofs.Lists.Views.{Precedes, from_before, not_both, same_site}
 use Rattle.vp_laws.proofs.Journal.Order.{Precedes-trans}
 use Rattle.vp_laws.proofs.Journal.Play.{value_put}
-use Rattle.vp_laws.proofs.Moves.Frames.{judging, judged}
-use Rattle.vp_laws.proofs.Moves.Table.{Comes, Left, Table}
+use Rattle.vp_laws.proofs.Moves.Frames.{Ends, close-ends, decided-ends, decide-cases, judging, judged}
+use Rattle.vp_laws.proofs.Moves.Table.{Comes, Left, lent_at, Back, Table}
 use Rattle.vp_laws.proofs.Table.Copies.{AnswerNow}
 use Rattle.vp_laws.proofs.Table.CopyAt.{CopiesAt}
 use Rattle.vp_laws.proofs.Table.Listed.{IsUnlisted, ListedNow, Listing}
@@ -269,8 +272,33 @@ module _ (catalogue : Catalogue) (x : SiteState) (given : Input) (b : Table cata
   each : (rs : List Refreshing) (r : Refreshing) → Has rs r → (q : Refreshing) × Has rs q × (q.rec ≡ r.rec)
   each rs r h = (r, h, refl)
 
+  starts : P (begin_step x)
+  starts = stays (begin_step x) begun refl refl refl
+
+  abbrev K : Lent → Type 0
+  K = Back x P
+
+  abbrev G : Lent → Type 0
+  G = Back x (Base catalogue x given)
+
+  quiet : (l now : Lent) → G now → now.here.bars ≡ l.here.bars → now.copies ≡ l.copies → K l → K now
+  quiet l now base bs c g = same (put_back (begin_step x) l) (put_back (begin_step x) now) refl refl refl c bs (λ r h. each _ r h) base g
+
+  ends_one : (t : Live) (why : Ending) (commit : Bool) (l now : Lent) → G now → Ends x.id t why commit l now → K l → K now
+  ends_one t why commit l now base e g = quiet l now base (ap (λ (h : Here). h.bars) e.here) (ap (λ (h : Here). h.copies) e.here) g
+
+  decides : (t : Live) → G (decide catalogue x.id t (lent_at x)) → K (decide catalogue x.id t (lent_at x))
+  unfolding keep_writes
+  decides t base = decide-cases (λ (l : Lent). G l → K l) catalogue x.id t (lent_at x)
+      (λ e g. ended (lent_at x) _ refl g (decided-ends x.id t (lent_at x)))
+      (λ e g. ended (keep_writes catalogue x.id t (lent_at x)) _ refl g (decided-ends x.id t (keep_writes catalogue x.id t (lent_at x))))
+      base
+    where
+      ended : (l now : Lent) → l.here.bars ≡ x.bars → G now → Ends x.id t Committed true l now → K now
+      ended l now bs g e = stays (put_back (begin_step x) now) g refl (ap (λ (h : Here). h.bars) e.here ∙ bs) refl
+
   pub table : Table catalogue x given P
-  unfolding drop_view on_stale on_accept hold fix ask_again start_inviting accept grant resend_one inquire
+  unfolding drop_view on_stale on_accept hold fix ask_again start_inviting accept grant start_txn take_lock complete read_at write_at prepare_parts mark_calls resend_one inquire
   table = record {
     sends_back = λ from m t. stays _ (b.sends_back from m t) refl refl refl;
     asks_again = λ o ms all p. same o _ refl refl refl refl refl (λ q g. each _ q g) (b.asks_again o ms all p.base) p;
@@ -294,24 +322,21 @@ module _ (catalogue : Catalogue) (x : SiteState) (given : Input) (b : Table cata
     vote_writing = λ from txn view number reads writes part c e n d f v a w. stays _ (b.vote_writing from txn view number reads writes part c e n d f v a w) refl refl refl;
     end_here = λ from txn commit c. ends_here from txn commit (doubt_of txn x.doubts) (b.end_here from txn commit c);
     coordinator = record {
-      begin = λ port view e g u. stays _ (b.coordinator.begin port view e g u) refl refl refl;
-      answers = λ words port why y. stays _ (b.coordinator.answers words port why y) refl refl refl;
-      take_lock = λ t rec exclusive stored h i a v c. stays _ (b.coordinator.take_lock t rec exclusive stored h i a v c) refl refl refl;
-      complete = λ t p deed l h g y e q. stays _ (b.coordinator.complete t p deed l h g y e q.base) refl refl refl;
-      read_at = λ t p rec q h n r a w c o y. stays _ (b.coordinator.read_at t p rec q h n r a w c o y) refl refl refl;
-      write_at = λ t p rec value l h n w a e o d y v q. stays _ (b.coordinator.write_at t p rec value l h n w a e o d y v q.base) refl refl refl;
-      prepare_parts = λ t p h i g e. stays _ (b.coordinator.prepare_parts t p h i g e) refl refl refl;
-      still_waits = λ t p from h e m f c. stays _ (b.coordinator.still_waits t p from h e m f c) refl refl refl;
-      decide = λ t n d. stays _ (b.coordinator.decide t n d) refl refl refl;
-      close = λ t why l n a z y q. stays _ (b.coordinator.close t why l n a z y q.base) refl refl refl;
-      mark_calls = λ l c z q. stays _ (b.coordinator.mark_calls l c z q.base) refl refl refl;
-      acknowledge = λ from txn c w. stays _ (b.coordinator.acknowledge from txn c w) refl refl refl;
+      begin = λ port view e g u. quiet (lent_at x) _ (b.coordinator.begin port view e g u) refl refl starts;
+      answers = λ words port why y. quiet (lent_at x) _ (b.coordinator.answers words port why y) refl refl starts;
+      take_lock = λ t rec exclusive stored h i a v c. quiet (lent_at x) _ (b.coordinator.take_lock t rec exclusive stored h i a v c) refl refl starts;
+      complete = λ t p deed l h g y e q. quiet l _ (b.coordinator.complete t p deed l h g y e q.base) refl refl q;
+      read_at = λ t p rec q h n r a w c o y. quiet (lent_at x) _ (b.coordinator.read_at t p rec q h n r a w c o y) refl refl starts;
+      write_at = λ t p rec value l h n w a e o d y v q. quiet l _ (b.coordinator.write_at t p rec value l h n w a e o d y v q.base) refl refl q;
+      prepare_parts = λ t p h i g e. quiet (lent_at x) _ (b.coordinator.prepare_parts t p h i g e) refl refl starts;
+      still_waits = λ t p from h e m f c. quiet (lent_at x) _ (b.coordinator.still_waits t p from h e m f c) refl refl starts;
+      decide = λ t n d. decides t (b.coordinator.decide t n d);
+      close = λ t why l n a z y q. ends_one t why false l _ (b.coordinator.close t why l n a z y q.base) (close-ends x.id t why l) q;
+      mark_calls = λ l c z q. quiet l _ (b.coordinator.mark_calls l c z q.base) refl refl q;
+      acknowledge = λ from txn c w. quiet (lent_at x) _ (b.coordinator.acknowledge from txn c w) refl refl starts;
     };
     resend_one = λ d o c h p. same o _ refl refl refl refl refl (λ q g. each _ q g) (b.resend_one d o c h p.base) p;
   }
-
-  starts : P (begin_step x)
-  starts = stays (begin_step x) begun refl refl refl
 
 pub unlisting-step : (catalogue : Catalogue) (x : SiteState) (given : Input) → Table catalogue x given (Base catalogue x given) → Base catalogue x given (begin_step x) → Unlisting catalogue x given (step catalogue x given)
 unlisting-step catalogue x given b begun = step-keeps catalogue x given (Unlisting catalogue x given) (table catalogue x given b begun) (starts catalogue x given b begun)

@@ -4,7 +4,7 @@ use Rattle.std.specs.Prelude.{Option, Some, None, IsTrue, All, ◌==◌, ◌&&�
 use Rattle.std.specs.List.{list_any, list_all}
 use Rattle.std.specs.Option.{option_map_or}
 use Rattle.std.proofs.lemmas.Bool.{eqb-true}
-use Rattle.std.proofs.lemmas.List.Elements.{All-from_recursion, All-to_recursion}
+use Rattle.std.proofs.lemmas.List.Elements.{All-from_recursion, recursion_from_All}
 use Rattle.vp_model.specs.Types.{TxnId, ViewId, View, Stored, Op, Commit, Line}
 use Rattle.vp_model.specs.Types.op
 use Rattle.vp_model.specs.Words.{for_each, keys, put_at, value_at, view_before}
@@ -135,5 +135,5 @@ schedule_weighed s whole = record {
   where
     differ : (e : Commit) → Has (run_of s).world.journal e → Differ (keys e.tables)
     differ e h =
-        let is : e.tables ≡ told_tables s.catalogue (lines_of s) e.txn = all_at (λ (e : Commit). e.tables ≡ told_tables s.catalogue (lines_of s) e.txn) (journal_of s) (All-to_recursion _ (journal_of s) (tables_told s)) e h in
+        let is : e.tables ≡ told_tables s.catalogue (lines_of s) e.txn = all_at (λ (e : Commit). e.tables ≡ told_tables s.catalogue (lines_of s) e.txn) (journal_of s) (recursion_from_All _ (journal_of s) (tables_told s)) e h in
         subst (λ (ts : List (ℕ × Table)). Differ (keys ts)) (sym is) (told_differ s.catalogue (lines_of s) e.txn)
