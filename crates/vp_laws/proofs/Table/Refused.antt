@@ -145,7 +145,7 @@ module _ (catalogue : Catalogue) (x : SiteState) (given : Input) where
       of_record name asked use_record used = by_option Q _ (find_record catalogue name) _
           (λ rec e. by_test Q (is_bad_table catalogue (asked rec)) _ _ (λ bad. k.only _ _)
           (λ table. by_test Q (nat_le 64 (length t.answers) || is_too_large t (asked rec)) _ _ (λ many. k.only _ _)
-          (λ fits. by_option Q _ (short catalogue x.held rec (asked rec)) _ (λ weights s. k.only _ _) (λ enough. used rec))))
+          (λ fits. by_option Q _ (short catalogue x.held x.bars rec (asked rec)) _ (λ weights s. k.only _ _) (λ enough. used rec))))
           (λ none. k.only _ _)
 
       of_new_change : (name : List ℕ) (asked : ℕ → Deed) → Q (new_change catalogue x.id x.held t p name asked (lent_at x))
