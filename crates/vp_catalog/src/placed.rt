@@ -2,6 +2,7 @@
 
 ghost use Rattle.std.specs.Prelude.{◌≡◌, ◌≤◌, ◌<◌, ◌^◌, length, filter, sum_by, IfOk, IsTrue};
 ghost use Rattle.std.specs.Str.{bytes_eq};
+ghost use Rattle.std.specs.List.{list_any};
 ghost use Rattle.std.specs.Option.{option_map_or};
 ghost use Rattle.vp_model.specs.Words.{has, keys, value_at};
 ghost use Rattle.vp_model.specs.Catalogue.{weight_inside, weight_total};
@@ -169,6 +170,13 @@ pub fn has_site(sites: &[SiteId], site: SiteId) -> bool
     ensures { result ≡ has sites.now site }
 {
     sites.contains(&site)
+}
+
+/// Whether some site is in both lists.
+pub(crate) fn has_common(sites: &[SiteId], others: &[SiteId]) -> bool
+    ensures { result ≡ list_any (has others.now) sites.now }
+{
+    sites.iter().any(|site| has_site(others, *site))
 }
 
 /// The weight, by a table, of the copies at the members.
