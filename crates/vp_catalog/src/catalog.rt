@@ -12,13 +12,13 @@ ghost use Rattle.vp_model.specs.Catalogue.{sites_of, find_record, weights_of, ho
 use crate::entry::Entry;
 use crate::fault::CatalogFault;
 use crate::others::{least_other, others_in};
-use crate::placed::{CatalogRecord, has_common, has_site, number_of, weight_inside, weight_total};
+use crate::placed::{CatalogRecord, has_common, number_of};
 use indexmap::IndexSet;
 use std::alloc::Global;
 use std::marker::Model;
 use vp_base::{
-    Copies, CopyOf, MOST_RECORDS, Name, Names, NoMemory, RecId, SiteId, Sites, Stored, Table, Value,
-    View, ViewId,
+    Copies, CopyOf, MOST_RECORDS, Name, Names, NoMemory, RecId, SiteId, Sites, Stored, Table,
+    Value, View, ViewId, has_site,
 };
 
 /// Sites with their ports, ascending by site, and at most 256 records, known by their places. The bytes of the records' names are
@@ -263,12 +263,11 @@ impl Catalog {
     }
 
     /// Whether the table has a weight for each holder of the record, and for no other site.
-    pub fn has_holders(&self, rec: RecId, table: &[(SiteId, u16)]) -> Result<bool, NoMemory>
-        ensures same { IfOk result (λ same. same ≡ has_holders self.now rec table.now) }
-        ensures few { IfOk result (λ same. IsTrue same → length table.now ≤ 16) }
+    pub fn has_holders(&self, rec: RecId, table: &Table) -> Result<bool, NoMemory>
+        ensures { IfOk result (λ same. same ≡ has_holders self.now rec table.now) }
     {
         match self.placed(rec) {
-            None => Ok(table.is_empty()),
+            None => Ok(false),
             Some(placed) => placed.has_holders(table),
         }
     }
@@ -353,16 +352,12 @@ impl Catalog {
 
     /// The weight of the record's copies at the members, and of all of them, by this table or, where none is given, the catalogue's.
     pub fn sums(&self, rec: RecId, table: Option<&Table>, members: &Sites) -> (u32, u32)
-        requires { IfSome (option_copied table.entry) (λ t. length t ≤ 16) }
         ensures { let t = table_or self.now rec (option_copied table.entry) in
             result ≡ (weight_inside members.now t, weight_total t) }
     {
         match table {
             None => (self.inside(rec, members), self.total(rec)),
-            Some(table) => {
-                let weights = table.as_slice();
-                (weight_inside(weights, members.as_slice()), weight_total(weights))
-            }
+            Some(table) => (table.inside(members), table.total()),
         }
     }
 

@@ -1,5 +1,5 @@
 -- The record of a call.
-use Rattle.std.specs.Prelude.{⊤, ℕ, ◌≤◌, Bool, false, ◌==◌, ◌||◌, List, nat_le, if◌then◌else◌, length, Option, Result, Ok, Err}
+use Rattle.std.specs.Prelude.{ℕ, Bool, false, ◌==◌, ◌||◌, List, nat_le, if◌then◌else◌, length, Option, Result, Ok, Err}
 use Rattle.std.specs.Option.{option_map_or}
 use Rattle.vp_model.specs.Types.{View, Answer, Op, Pending, Live}
 use Rattle.vp_model.specs.Types.answer
@@ -8,11 +8,6 @@ use Rattle.vp_model.specs.Catalogue.{Catalogue, find_record}
 use Rattle.vp_model.specs.Site.{Bars}
 use Rattle.vp_model.specs.Transactions.{Deed}
 use Rattle.vp_model.specs.Calls.{is_bad_table, is_too_large, short}
-
--- a table that is asked for has 16 sites at most
-abbrev pub HasFewShares : Deed → Type 0
-HasFewShares (Deed.operates operation) = ⊤
-HasFewShares (Deed.weighs rec table) = length table ≤ 16
 
 -- the record, where the transaction may do this with it; else the answer that refuses its use
 abbrev pub usable_as : Catalogue → Option View → Bars → Live → Pending → List ℕ → ℕ → Deed → Result ℕ Answer

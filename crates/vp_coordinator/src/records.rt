@@ -7,49 +7,47 @@ ghost use Rattle.vp_model.specs.Catalogue.{accessible_by, weight_inside, weight_
 ghost use Rattle.vp_model.specs.Transactions.{entry_of, last_writes, last_changes};
 ghost use Rattle.vp_model.specs.Calls.{is_bad_table, is_too_large, short_by, short_of_holders, short};
 ghost use Rattle.vp_coordinator.specs.Deeds.{as_deed, deed_asked};
-ghost use Rattle.vp_coordinator.specs.Records.{HasFewShares, usable_as, usable_record, writes};
+ghost use Rattle.vp_coordinator.specs.Records.{usable_as, usable_record, writes};
 
 use crate::around::Around;
 use crate::deeds::{Deed, deed_asked};
 use crate::here::Here;
 use crate::sizes::is_too_large;
 use vp_base::{
-    Answer, Bars, Call, CopyOf, Live, MOST_OPS, Name, NoMemory, Op, RecId, SiteId, Sites, Stored, Value,
+    Answer, Bars, Call, CopyOf, Live, MOST_OPS, Name, NoMemory, Op, RecId, Sites, Stored, Table,
+    Value,
 };
-use vp_catalog::{Catalog, members_of, weight_inside, weight_total};
+use vp_catalog::{Catalog, members_of};
 use vp_lists::{find_bar, value_at};
 use vp_transactions::Handled;
 
 /// Whether the table that is asked for has other sites than the record's holders.
 fn is_bad_table(catalog: &Catalog, deed: &Deed) -> Result<bool, NoMemory>
-    ensures bad { IfOk result (λ bad. bad ≡ is_bad_table catalog.now (as_deed deed.now)) }
-    ensures few { IfOk result (λ bad. bad ≡ false → HasFewShares (as_deed deed.now)) }
+    ensures { IfOk result (λ bad. bad ≡ is_bad_table catalog.now (as_deed deed.now)) }
 {
     match deed {
         Deed::Operates { .. } => Ok(false),
-        Deed::Weighs { rec, table } => Ok(!catalog.has_holders(*rec, table.as_slice())?),
+        Deed::Weighs { rec, table } => Ok(!catalog.has_holders(*rec, table)?),
     }
 }
 
 /// The weight inside and the whole weight by the table that is asked for, where no more than half is at the members.
 fn short_by(deed: &Deed, members: &Sites) -> Option<(u32, u32)>
-    requires { HasFewShares (as_deed deed.now) }
     ensures { result ≡ short_by (as_deed deed.now) members.now }
 {
     match deed {
         Deed::Operates { .. } => None,
-        Deed::Weighs { table, .. } => short_table(table.as_slice(), members.as_slice()),
+        Deed::Weighs { table, .. } => short_table(table, members),
     }
 }
 
 /// Both weights by a table, where no more than half is at the members.
-fn short_table(table: &[(SiteId, u16)], members: &[SiteId]) -> Option<(u32, u32)>
-    requires { length table.now ≤ 16 }
+fn short_table(table: &Table, members: &Sites) -> Option<(u32, u32)>
     ensures { result ≡
         (if accessible_by table.now members.now then None else Some (weight_inside members.now table.now, weight_total table.now)) }
 {
-    let inside = weight_inside(table, members);
-    let total = weight_total(table);
+    let inside = table.inside(members);
+    let total = table.total();
     if u64::from(total) < 2 * u64::from(inside) {
         None
     } else {
@@ -69,12 +67,7 @@ fn short_of_holders(catalog: &Catalog, rec: RecId, members: &Sites) -> Option<(u
 }
 
 /// Why the record may not be used, whatever is asked of it: the bar on the copy here, or that no member holds it.
-fn short_here(
-    catalog: &Catalog,
-    bars: &Bars,
-    rec: RecId,
-    members: &Sites,
-) -> Option<(u32, u32)>
+fn short_here(catalog: &Catalog, bars: &Bars, rec: RecId, members: &Sites) -> Option<(u32, u32)>
     ensures { result ≡ first_some (value_at rec bars.now) (short_of_holders catalog.now rec members.now) }
 {
     match find_bar(bars, rec) {
@@ -85,7 +78,6 @@ fn short_here(
 
 /// Why the record may not be used so in the held view, as two weights.
 fn short(at: &Around<'_, '_>, bars: &Bars, rec: RecId, deed: &Deed) -> Option<(u32, u32)>
-    requires { HasFewShares (as_deed deed.now) }
     ensures { result ≡ short at.now.catalog.now (option_copied at.now.held) bars.now rec (as_deed deed.now) }
 {
     let none = Sites::new(bars.allocator());

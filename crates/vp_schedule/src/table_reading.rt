@@ -43,14 +43,22 @@ fn goes_on(cursor: &Cursor, above: u8) -> bool
 pub fn parse_table(alloc: Global, cursor: &mut Cursor) -> Result<Table, LineFault>
     ensures { Tries (λ t. t) line_left result cursor.new (table_at cursor.old) }
 {
+    let shares = parse_shares(alloc, cursor)?;
+    Ok(Table::of(shares))
+}
+
+/// Reads a share, and more as long as they go on.
+fn parse_shares(alloc: Global, cursor: &mut Cursor) -> Result<Vec<(SiteId, u16)>, LineFault>
+    ensures { Tries (λ t. t.items) line_left result cursor.new (table_at cursor.old) }
+{
     let first = parse_share(cursor, 0)?;
     let mut above = first.0.get();
-    let mut table = Table::new(alloc);
-    table.push(first)?;
+    let mut shares = Vec::new(alloc);
+    shares.push(first)?;
     while goes_on(cursor, above) {
         let share = parse_share(cursor, above)?;
         above = share.0.get();
-        table.push(share)?;
+        shares.push(share)?;
     }
-    Ok(table)
+    Ok(shares)
 }

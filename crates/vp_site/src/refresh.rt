@@ -12,9 +12,10 @@ ghost use Rattle.vp_site.specs.Refreshing.{keep_or_bar};
 
 use crate::stepped::Stepped;
 use vp_base::{
-    Boxed, Change, CopyOf, LogRecord, Message, NoMemory, RecId, SiteId, Sites, Stored, View, ViewId,
+    Boxed, Change, CopyOf, LogRecord, Message, NoMemory, RecId, SiteId, Sites, Stored, View,
+    ViewId, has_site,
 };
-use vp_catalog::{Catalog, has_site, members_of};
+use vp_catalog::{Catalog, members_of};
 use vp_lists::{put_in, view_comes_before};
 use vp_refresh::Done;
 
