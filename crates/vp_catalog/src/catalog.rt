@@ -353,7 +353,7 @@ impl Catalog {
 
     /// The weight of the record's copies at the members, and of all of them, by this table or, where none is given, the catalogue's.
     pub fn sums(&self, rec: RecId, table: Option<&Table>, members: &Sites) -> (u32, u32)
-        requires { IfSome (option_copied table.entry) (λ t. length t ≤ 16) }
+        requires { IfSome (option_copied table) (λ t. length t ≤ 16) }
         ensures { let t = table_or self.now rec (option_copied table.entry) in
             result ≡ (weight_inside members.now t, weight_total t) }
     {
