@@ -69,7 +69,11 @@ fn refuses_barred(
 ) -> bool {
     let mut bars = Bars::new(held.members.allocator());
     bars.push((RecId::new(1), (2, 5))).expect(rt, "memory");
-    let other = TxnId { seq: 2, ..txn() };
+    let other = TxnId {
+        site: SiteId::of(2),
+        life: 1,
+        seq: 2,
+    };
     let write = Request::new(other, ID, number(rt), RecId::new(1));
     matches!(
         participant.write_request(locks, &bars, Some(held), &write),
