@@ -4,7 +4,7 @@
 usage: compare_check.py PROGRAM OTHER [SEED [COUNT]]
 
 PROGRAM is the built vpdb, OTHER the path of the reference program with the words for its version, as in
-"../shared/oracle/vporacle --version 2 --stage e1". Both are called with the word `check`. A history has up to six records and thirty
+"../shared/oracle/vporacle --version 2". Both are called with the word `check`. A history has up to six records and thirty
 transactions of rising views, which read, write and delete; its reads are right but for one in fifty. Two in three are mutated:
 cut anywhere, a byte changed or put in, two lines swapped, a line twice, lines before it. Bytes and statuses have to agree.
 """

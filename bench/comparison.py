@@ -13,7 +13,7 @@ REFERENCE = pathlib.Path(__file__).resolve().parent.parent.parent / "shared/orac
 
 
 # what the reference implementation speaks, if nothing else is said: its version and its stage
-SPOKEN = (2, "e1")
+SPOKEN = (2, None)
 # the most bytes of a value, and of one in the frames and the log records of the first version
 MOST_BYTES, MOST_BYTES_OF_OLD = 1024, 64
 
@@ -42,15 +42,9 @@ def reference_in(folder):
 
 
 def modules(folder, *names):
-    """Modules of the reference implementation, which speak the version that the command line says.
-
-    At the stage `e1` it answers a `weigh` by a status of its own. The program has no such line so far, and at that stage the grammar here has none.
-    """
+    """Modules of the reference implementation, which speak the version that the command line says."""
     sys.path.insert(0, str(reference_in(folder)))
-    spoken = without_version(sys.argv[1:])[1]
-    importlib.import_module("version").choose(*spoken)
-    if spoken[1] == "e1":
-        importlib.import_module("schedule").table = lambda sites: importlib.import_module("grammar").NONE
+    importlib.import_module("version").choose(*without_version(sys.argv[1:])[1])
     return [importlib.import_module(name) for name in names]
 
 

@@ -25,6 +25,8 @@ pub mod Closed
 pub mod Entered
 pub mod Used
 pub mod Listed
+pub mod Barred
+pub mod Bars
 pub mod Reading
 pub mod Settled
 pub mod Copies

@@ -4,6 +4,7 @@ pub mod Order
 pub mod Places
 pub mod UpTo
 pub mod Acts
+pub mod TablesAfter
 pub mod ValuesAfter
 pub mod Changed
 pub mod LastChanges

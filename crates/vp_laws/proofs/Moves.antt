@@ -7,6 +7,7 @@ pub mod OnlyCoordinator
 pub mod Reasons
 pub mod Numbered
 pub mod Frames
+pub mod Both
 pub mod Coordinator
 pub mod Rows
 pub mod FrontRows

@@ -28,8 +28,9 @@ pub mod Fair
 pub mod Locks
 pub mod Alone
 pub mod Replies
+pub mod Listed
+pub mod Barred
 pub mod Unlisted
 pub mod Told
-pub mod Listed
 pub mod Covered
 pub mod Reports

@@ -23,6 +23,14 @@ pub mod NoEvents
 pub mod LastNumbers
 pub mod ManyFinished
 pub mod Limited
+pub mod OwnCopy
+pub mod Barred
+pub mod Weighed
+pub mod TooLarge
+pub mod OwnTable
+pub mod Chain
+pub mod BadTable
+pub mod Absent
 use Rattle.vp_model.specs.Durable.{apply}
 use Rattle.vp_model.specs.Transactions.{finish, close, keep_writes, decided, decide, complete}
 use Rattle.vp_model.specs.Refresh.{take_newer, unlist, end_refresh, settle_one, settle, start_refresh}

@@ -25,6 +25,13 @@ pub mod NoEvents
 pub mod LastNumbers
 pub mod ManyFinished
 pub mod Limited
+pub mod OwnCopy
+pub mod Barred
+pub mod Weighed
+pub mod OwnTable
+pub mod Chain
+pub mod BadTable
+pub mod Absent
 use Rattle.std.specs.Prelude.{ℕ, List, [], None}
 use Rattle.vp_model.specs.Types.puts
 use Rattle.vp_model.specs.Types.{ViewId, TxnId, Change, Op, Commit, Message, Sent, Answer, Reply, Event, Shown, Line}

@@ -1,7 +1,7 @@
 //! Worked schedules: the lines of each are exactly the ones given. Of an answer it is also said whether it is justified, and why a
 //! false one isn't.
 
-ghost use Rattle.std.specs.Prelude.{◌≡◌, true, false, [], ◌++◌, Some, None, codes, drop, take, map};
+ghost use Rattle.std.specs.Prelude.{◌≡◌, flat_map, true, false, [], ◌++◌, Some, None, codes, drop, take, map};
 ghost use Rattle.vp_model.specs.Types.answer;
 ghost use Rattle.vp_model.specs.Types.call;
 ghost use Rattle.vp_model.specs.Types.counted;
@@ -10,7 +10,7 @@ ghost use Rattle.vp_model.specs.Types.input;
 ghost use Rattle.vp_model.specs.Types.shown;
 ghost use Rattle.vp_model.specs.Step.{step};
 ghost use Rattle.vp_model.specs.World.{numbered_lines, journal_of, lines_of, next};
-ghost use Rattle.vp_model.specs.Told.{told};
+ghost use Rattle.vp_model.specs.Told.{told, answers_in};
 ghost use Rattle.vp_model.specs.OneCopy.{order};
 ghost use Rattle.vp_model.specs.Worked.FirstRun as first_run;
 ghost use Rattle.vp_model.specs.Worked.TwoOfThree as two_of_three;
@@ -38,6 +38,13 @@ ghost use Rattle.vp_model.specs.Worked.NoEvents as no_events;
 ghost use Rattle.vp_model.specs.Worked.LastNumbers as last;
 ghost use Rattle.vp_model.specs.Worked.ManyFinished as many_finished;
 ghost use Rattle.vp_model.specs.Worked.Limited as limited;
+ghost use Rattle.vp_model.specs.Worked.OwnCopy as own_copy;
+ghost use Rattle.vp_model.specs.Worked.Barred as barred;
+ghost use Rattle.vp_model.specs.Worked.Absent as absent;
+ghost use Rattle.vp_model.specs.Worked.BadTable as bad_table;
+ghost use Rattle.vp_model.specs.Worked.OwnTable as own_table;
+ghost use Rattle.vp_model.specs.Worked.Weighed as weighed;
+ghost use Rattle.vp_model.specs.Worked.Chain as chain;
 ghost use Rattle.vp_model.specs.Texts.Trace.{trace_text, printed_lines};
 ghost use Rattle.vp_model.specs.Texts.History.{history_text};
 ghost use Rattle.vp_model.specs.Limits.{limit_reached, lines_within};
@@ -312,4 +319,44 @@ pub fn limited_generation()
     ensures steps { limit_made (limited.at_most 13 8) 7 14 ≡ Some counted.Steps }
     ensures few_messages { made_within (limited.at_most 19 2) 7 14 ≡ record (made 7 14) { events = take 10 (made 7 14).events } }
     ensures messages { limit_made (limited.at_most 19 2) 7 14 ≡ Some counted.Messages }
+{}
+
+/// A record is deleted, read and written again.
+pub fn absent()
+    ensures lines { numbered_lines absent.schedule ≡ absent.lines }
+    ensures history { order (journal_of absent.schedule) ≡ absent.history }
+{}
+
+/// A table with other sites than the holders.
+pub fn bad_table()
+    ensures lines { numbered_lines bad_table.schedule ≡ bad_table.lines }
+    ensures history { order (journal_of bad_table.schedule) ≡ bad_table.history }
+{}
+
+/// No more than half of the weight by the table that is asked for.
+pub fn own_table()
+    ensures lines { numbered_lines own_table.schedule ≡ own_table.lines }
+    ensures history { order (journal_of own_table.schedule) ≡ own_table.history }
+{}
+
+/// What is accessible is judged by the newest table among the copies.
+pub fn weighed()
+    ensures lines { numbered_lines weighed.schedule ≡ weighed.lines }
+    ensures history { order (journal_of weighed.schedule) ≡ weighed.history }
+{}
+
+/// Two views without a site in common are both used, and the view between them gave the table.
+pub fn chain()
+    ensures lines { numbered_lines chain.schedule ≡ chain.lines }
+    ensures history { order (journal_of chain.schedule) ≡ chain.history }
+{}
+
+/// The newest table among the copies counts, and not that of the own copy.
+pub fn own_copy()
+    ensures { flat_map answers_in (lines_of own_copy.schedule) ≡ own_copy.answers }
+{}
+
+/// A bar of another site ends a transaction.
+pub fn barred()
+    ensures { flat_map answers_in (lines_of barred.schedule) ≡ barred.answers }
 {}

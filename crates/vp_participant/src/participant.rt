@@ -147,8 +147,8 @@ impl Participant {
         ensures refused { IfSome (lock_refused result)
             (λ why. (self.new ≡ self.old) × (locks.new ≡ locks.old)) }
     {
-        if let Some(why) = self.obstacle(bars, held, request) {
-            return Err(why);
+        if let Some(fault) = self.obstacle(bars, held, request) {
+            return Err(fault);
         }
         locks.take_shared(request.rec, request.txn)?;
         self.join(&request.txn, request.view)?;
@@ -171,8 +171,8 @@ impl Participant {
         ensures refused { IfSome (lock_refused result)
             (λ why. (self.new ≡ self.old) × (locks.new ≡ locks.old)) }
     {
-        if let Some(why) = self.obstacle(bars, held, request) {
-            return Err(why);
+        if let Some(fault) = self.obstacle(bars, held, request) {
+            return Err(fault);
         }
         locks.take_exclusive(request.rec, request.txn)?;
         self.join(&request.txn, request.view)?;

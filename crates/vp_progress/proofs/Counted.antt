@@ -75,11 +75,11 @@ module _ (catalogue : Catalogue) (x : SiteState) (given : Input) (n : ℕ) (seen
     without_wait = λ id c i w. same;
     probe = λ view c h. same;
     answers_inviting = λ port c e p. p;
-    start_refresh = λ view rec o j a h p. p;
+    start_refresh = λ view rec o j h p. p;
     end_refresh = λ rec r own o e u d v p. subst AreLow (sym (ap (λ (z : ViewState × ParticipantState × CoordinatorState). z.0) (ends catalogue r own o).front)) p;
     keep_answer = λ from view rec stored r c h f u. same;
-    grant_read = λ from txn view number rec stored c h n v f. same;
-    grant_write = λ from txn view number rec stored c h n v f. same;
+    grant_read = λ from txn view number rec stored c h n v f u. same;
+    grant_write = λ from txn view number rec stored c h n v f u. same;
     vote_reading = λ from txn view number reads writes part c h n d f v l e. same;
     vote_writing = λ from txn view number reads writes part c h n d f v l e. same;
     end_here = λ from txn commit c. subst AreLow (sym (ap (λ (z : ViewState × ParticipantState × CoordinatorState). z.0) (ended_front x from txn commit (doubt_of txn x.doubts)))) same;

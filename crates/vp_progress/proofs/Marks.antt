@@ -232,11 +232,11 @@ module _ (catalogue : Catalogue) (x : SiteState) (given : Input) (tidy : Tidy x)
     without_wait = λ id c i w. first;
     probe = λ view c h. first;
     answers_inviting = λ port c e p. p;
-    start_refresh = λ view rec o j a h p. guarded o (start_refresh catalogue view rec o) rec refl refl refl p;
+    start_refresh = λ view rec o j h p. guarded o (start_refresh catalogue view rec o) rec refl refl refl p;
     end_refresh = λ rec r own o e u d v p. finishes r own o p;
     keep_answer = λ from view rec stored r c h f u. first;
-    grant_read = λ from txn view number rec stored c h n v f. granted from (message.ReadRequest txn view number rec) txn view rec false (message.ReadAnswer txn number stored.value) c refl h (λ z. absurd (let y = z in cc));
-    grant_write = λ from txn view number rec stored c h n v f. granted from (message.WriteRequest txn view number rec) txn view rec true (message.WriteAnswer txn number) c refl h (λ z. FromExclusive.asked_now from number view c);
+    grant_read = λ from txn view number rec stored c h n v f u. granted from (message.ReadRequest txn view number rec) txn view rec false (message.ReadAnswer txn number stored.value) c refl h (λ z. absurd (let y = z in cc));
+    grant_write = λ from txn view number rec stored c h n v f u. granted from (message.WriteRequest txn view number rec) txn view rec true (message.WriteAnswer txn number) c refl h (λ z. FromExclusive.asked_now from number view c);
     vote_reading = λ from txn view number reads writes part c h n d f v l e. first;
     vote_writing = λ from txn view number reads writes part c h n d f v l e. voted part writes (send (message.Vote part.txn) from (force (log_record.Yes part.txn part.view writes) (change_participant (with_new_doubt part writes) (begin_step x)))) (part_there txn x.parts part f) refl refl refl;
     end_here = λ from txn commit c. over from txn commit;

@@ -128,7 +128,7 @@ impl RefreshEntry {
         Ok(())
     }
 
-    /// The newest of the own copy and those that have come, with the record's weights.
+    /// The newest of the own copy and those that have come, with the weights by its table.
     pub(crate) fn done(
         &self,
         catalog: &Catalog,
@@ -139,7 +139,7 @@ impl RefreshEntry {
         ensures newest { IfOk result (λ done. IsNewest own.now self.now.answers done.stored) }
     {
         let newest = newest(own, self.refreshing.answers.as_slice());
-        let (inside, total) = catalog.sums(self.refreshing.rec, None, members);
+        let (inside, total) = catalog.sums(self.refreshing.rec, newest.table.as_ref(), members);
         Ok(Done {
             stored: newest.copy_of()?,
             inside,

@@ -4,7 +4,8 @@ ghost use Rattle.std.specs.Prelude.{◌≡◌};
 
 use vp_base::Stored;
 
-/// The newest copy of a record, with the weight of its copies at the members of the view, and the weight of all of them.
+/// The newest copy of a record, with the weight of its copies at the members of the view and the weight of all of them, by the table
+/// of that copy.
 pub struct Done {
     pub stored: Stored,
     pub inside: u32,

@@ -103,8 +103,8 @@ impl Refresh {
         keep(&mut self.listed, from, rec, stored)
     }
 
-    /// The newest of the own copy and those that have come for the record, with the record's weights among the members; `None` where
-    /// its copy is not under refresh.
+    /// The newest of the own copy and those that have come for the record, with the weights by its table; `None` where its copy is
+    /// not under refresh.
     pub fn done(
         &self,
         catalog: &Catalog,

@@ -68,11 +68,11 @@ weigh_at txn number bytes = do
   table ← table_at name.1
   Ok (call.Weigh txn number name.0 table.0, table.1)
 
-unfoldable pub reshaping_at : TxnId → ℕ → List ℕ → Result (Call × List ℕ) ℕ
-reshaping_at txn number bytes = either (weigh_at txn number bytes) (removal_at txn number bytes)
+unfoldable pub other_change_at : TxnId → ℕ → List ℕ → Result (Call × List ℕ) ℕ
+other_change_at txn number bytes = either (weigh_at txn number bytes) (removal_at txn number bytes)
 
 unfoldable pub change_at : TxnId → ℕ → List ℕ → Result (Call × List ℕ) ℕ
-change_at txn number bytes = either (write_at txn number bytes) (reshaping_at txn number bytes)
+change_at txn number bytes = either (write_at txn number bytes) (other_change_at txn number bytes)
 
 unfoldable pub deed_at : TxnId → ℕ → List ℕ → Result (Call × List ℕ) ℕ
 deed_at txn number bytes = either (read_at txn number bytes) (change_at txn number bytes)

@@ -5,7 +5,7 @@ ghost use Rattle.vp_text.specs.Meaning.{Answers};
 ghost use Rattle.vp_text.specs.Reading.{Reads, Tries, whole, number_at};
 ghost use Rattle.vp_base.specs.Faults.{name_place, line_left};
 ghost use Rattle.vp_schedule.specs.Grammar.{IsCallText};
-ghost use Rattle.vp_schedule.specs.Reading.{begin_at, regroup_at, bare_at, read_at, write_at, delete_at, removal_at, weigh_at, reshaping_at, commit_at, abort_at, ending_at, change_at, deed_at, numbered_at, call_at};
+ghost use Rattle.vp_schedule.specs.Reading.{begin_at, regroup_at, bare_at, read_at, write_at, delete_at, removal_at, weigh_at, other_change_at, commit_at, abort_at, ending_at, change_at, deed_at, numbered_at, call_at};
 
 use crate::table_reading::parse_table;
 use std::alloc::Global;
@@ -214,14 +214,14 @@ fn parse_weigh(
 }
 
 /// Reads a weigh, a delete, or the end of a transaction.
-#[tactic(auto, unfolding(crate::specs::Reading::reshaping_at))]
-fn parse_reshaping(
+#[tactic(auto, unfolding(crate::specs::Reading::other_change_at))]
+fn parse_other_change(
     alloc: Global,
     cursor: &mut Cursor,
     txn: &TxnId,
     number: CallNo,
 ) -> Result<Call, LineFault>
-    ensures { Tries (λ c. c) line_left result cursor.new (reshaping_at txn.now number cursor.old) }
+    ensures { Tries (λ c. c) line_left result cursor.new (other_change_at txn.now number cursor.old) }
 {
     let mut other = cursor.fork();
     match parse_weigh(alloc, cursor, txn, number) {
@@ -252,7 +252,9 @@ fn parse_change(
     match parse_write(alloc, cursor, txn, number) {
         Ok(call) => Ok(call),
         Err(LineFault::NoMemory) => Err(LineFault::NoMemory),
-        Err(LineFault::Unexpected(first)) => match parse_reshaping(alloc, &mut other, txn, number) {
+        Err(LineFault::Unexpected(first)) => match parse_other_change(
+            alloc, &mut other, txn, number,
+        ) {
             Ok(call) => {
                 *cursor = other;
                 Ok(call)

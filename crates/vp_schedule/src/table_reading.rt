@@ -40,6 +40,7 @@ fn goes_on(cursor: &Cursor, above: u8) -> bool
 }
 
 /// Reads the weights of 1 to 16 sites, ascending, up to the first byte that isn't a space after one of them.
+#[tactic(auto, using(crate::proofs::Tables::table_read))]
 pub fn parse_table(alloc: Global, cursor: &mut Cursor) -> Result<Table, LineFault>
     ensures { Tries (λ t. t) line_left result cursor.new (table_at cursor.old) }
 {

@@ -6,7 +6,8 @@ use Rattle.vp_model.specs.Types.{Change, TxnId, View, Commit, Input, Stored, Dou
 use Rattle.vp_model.specs.Types.message
 use Rattle.vp_model.specs.Words.{keys, has}
 use Rattle.vp_model.specs.Transactions.{last_changes}
-use Rattle.vp_laws.proofs.Copies.Force.{Table, accessible_by, weighs, below as below_table, after, Weighed, none_between}
+use Rattle.vp_laws.proofs.Journal.TablesAfter.{Table, accessible_by, weighs}
+use Rattle.vp_laws.proofs.Copies.Force.{below as below_table, after, Weighed, none_between}
 use Rattle.vp_model.specs.Catalogue.{Catalogue, holders, accessible}
 use Rattle.vp_model.specs.Durable.{DurableState}
 use Rattle.vp_model.specs.Site.{SiteState, Stepped}

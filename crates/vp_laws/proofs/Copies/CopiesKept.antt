@@ -4,7 +4,8 @@ use Rattle.std.specs.Prelude.{Option, Some, None}
 use Rattle.vp_model.specs.Types.{ViewId, View, Commit, Input, Stored, Doubt}
 use Rattle.vp_model.specs.Words.{value_at, keys, has}
 use Rattle.vp_model.specs.Transactions.{last_changes}
-use Rattle.vp_laws.proofs.Copies.Force.{Table, accessible_by, weighs, below, after, Weighed, none_between, in_force}
+use Rattle.vp_laws.proofs.Journal.TablesAfter.{Table, accessible_by, weighs}
+use Rattle.vp_laws.proofs.Copies.Force.{below, after, Weighed, none_between, in_force}
 use Rattle.vp_laws.proofs.Copies.ForceKept.{OpenBy}
 use Rattle.vp_model.specs.Catalogue.{Catalogue, holders, accessible}
 use Rattle.vp_model.specs.Durable.{DurableState}
@@ -15,7 +16,8 @@ use Rattle.vp_laws.proofs.Lists.Views.{Precedes, same_site}
 use Rattle.vp_laws.proofs.Journal.Order.{Precedes-trans}
 use Rattle.vp_laws.proofs.Table.Copies.{AnswerNow}
 use Rattle.vp_laws.proofs.Table.CopyAt.{Certain}
-use Rattle.vp_laws.proofs.Table.Unlisted.{IsUnlisted, Ended}
+use Rattle.vp_laws.proofs.Table.Unlisted.{Ended}
+use Rattle.vp_laws.proofs.Table.Listed.{IsUnlisted}
 use Rattle.vp_laws.proofs.Table.Covered.{Quits}
 use Rattle.vp_laws.proofs.Worlds.Scenes.{Scene, kept_at}
 use Rattle.vp_laws.proofs.Invariant.Shares.{InDoubt}

@@ -12,7 +12,8 @@ use Rattle.vp_laws.proofs.Lists.Views.{AtMost, Precedes, AtMost-refl, from_befor
 use Rattle.vp_laws.proofs.Journal.Order.{Split, order_has, order_more}
 use Rattle.vp_laws.proofs.Worlds.Scenes.{Scene}
 use Rattle.vp_laws.proofs.Invariant.Entered.{AgreedAs}
-use Rattle.vp_laws.proofs.Copies.Force.{Table, accessible_by, weighs, table_one, table_in, table_below, below, leaves_table, Weighed}
+use Rattle.vp_laws.proofs.Journal.TablesAfter.{Table, accessible_by, weighs, table_one, table_in, table_below, leaves_table}
+use Rattle.vp_laws.proofs.Copies.Force.{below, Weighed}
 use Rattle.vp_laws.proofs.Journal.Acts.{level, upto_parts, nothing_under, after_append}
 use Rattle.vp_laws.proofs.Journal.UpTo.{upto_all, under, Ascends, order_ascends}
 

@@ -18,7 +18,8 @@ use Rattle.vp_laws.proofs.Keeping.Does.{Does}
 use Rattle.vp_laws.proofs.Keeping.Listed.{not_below_itself}
 use Rattle.vp_laws.proofs.Keeping.NewEntries.{JournalNow, journal_now, one_entry, entering, entering_agreed, agreed_was}
 use Rattle.vp_laws.proofs.Keeping.Stopping.{met_stops}
-use Rattle.vp_laws.proofs.Copies.Force.{Table, accessible_by, weighs, below, Weighed, usable_after, walk_up}
+use Rattle.vp_laws.proofs.Journal.TablesAfter.{Table, accessible_by, weighs}
+use Rattle.vp_laws.proofs.Copies.Force.{below, Weighed, usable_after, walk_up}
 use Rattle.vp_laws.proofs.Copies.ForceAt.{below_more}
 
 module _ (tables : Commit → List (ℕ × Table)) (rec : ℕ) where

@@ -17,7 +17,7 @@ use Rattle.vp_laws.proofs.Lists.LockTables.{HasLock}
 use Rattle.vp_laws.proofs.Moves.Table.{Reads}
 use Rattle.vp_laws.proofs.Table.Led.{IsOf}
 use Rattle.vp_laws.proofs.Table.Copies.{value_pair}
-use Rattle.vp_laws.proofs.Table.Unlisted.{IsUnlisted}
+use Rattle.vp_laws.proofs.Table.Listed.{IsUnlisted}
 use Rattle.vp_laws.proofs.Worlds.Scenes.{Scene, plain_at}
 use Rattle.vp_laws.proofs.Invariant.Ops.{op_used, HasUsed}
 use Rattle.vp_laws.proofs.Invariant.Answers.{HasRead}

@@ -25,7 +25,7 @@ use Rattle.vp_laws.proofs.Table.Steps.{SentFor}
 use Rattle.vp_laws.proofs.Table.Shares.{is_reply, ReplyTo, Granted}
 use Rattle.vp_laws.proofs.Table.CopyAt.{Certain}
 use Rattle.vp_laws.proofs.Table.Leaves.{Uses}
-use Rattle.vp_laws.proofs.Table.Unlisted.{IsUnlisted}
+use Rattle.vp_laws.proofs.Table.Listed.{IsUnlisted}
 use Rattle.vp_laws.proofs.Worlds.Scenes.{Scene, plain_at, kept_at}
 use Rattle.vp_laws.proofs.Invariant.Shares.{HasRequest}
 use Rattle.vp_laws.proofs.Invariant.Ops.{HasUsed}

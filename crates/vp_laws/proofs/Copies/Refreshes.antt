@@ -15,7 +15,7 @@ use Rattle.vp_laws.proofs.Lists.Views.{AtMost, Precedes, AtMost-trans, AtMost-al
 use Rattle.vp_laws.proofs.Moves.LocalViews.{letter}
 use Rattle.vp_laws.proofs.Table.Copies.{AnswerNow}
 use Rattle.vp_laws.proofs.Table.CopyAt.{Certain}
-use Rattle.vp_laws.proofs.Table.Unlisted.{IsUnlisted}
+use Rattle.vp_laws.proofs.Table.Listed.{IsUnlisted}
 use Rattle.vp_laws.proofs.Lists.Numbers.{unequal}
 use Rattle.vp_laws.proofs.Table.Leaves.{Uses}
 use Rattle.vp_laws.proofs.Worlds.Scenes.{Scene, kept_at, promise_at}

@@ -1,5 +1,6 @@
 -- The whole invariant: all that is known of sites and messages, and what follows for copies, for the order of entries and for ends.
 use Rattle.vp_model.specs.Catalogue.{Catalogue}
+use Rattle.vp_laws.proofs.Invariant.Bars.{InvBars}
 use Rattle.vp_laws.proofs.Invariant.Base.{InvBase}
 use Rattle.vp_laws.proofs.Invariant.Copies.{InvCopies}
 use Rattle.vp_laws.proofs.Invariant.Order.{InvOrder}
@@ -18,6 +19,8 @@ pub record Invariant (catalogue : Catalogue) (w : Scene) : Type 0 where
   pub refresh : InvRefresh catalogue w
   -- between the date of a copy and a standing doubt on it no entry wrote the record
   pub base : InvBase w
+  -- bars have the sums by a table that was given
+  pub bars : InvBars catalogue w
   -- reads are of what was not written, or were answered
   pub reading : InvReading catalogue w
   -- the entries by view are a serial run

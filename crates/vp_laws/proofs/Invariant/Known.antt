@@ -19,6 +19,7 @@ use Rattle.vp_laws.proofs.Invariant.Dated.{InvDated}
 use Rattle.vp_laws.proofs.Invariant.Reads.{InvReads}
 use Rattle.vp_laws.proofs.Invariant.Held.{InvHeld}
 use Rattle.vp_laws.proofs.Invariant.Listed.{InvListed}
+use Rattle.vp_laws.proofs.Invariant.Barred.{InvBarred}
 use Rattle.vp_laws.proofs.Invariant.Repeated.{InvRepeated}
 
 -- a part is a record of clauses in the file of its name
@@ -59,5 +60,7 @@ pub record Known (catalogue : Catalogue) (w : Scene) : Type 0 where
   pub held : InvHeld catalogue w
   -- what is under refresh
   pub listed : InvListed catalogue w
+  -- what is barred
+  pub barred : InvBarred w
   -- the answers that may be repeated
   pub repeated : InvRepeated w

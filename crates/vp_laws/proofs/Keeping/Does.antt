@@ -25,7 +25,8 @@ use Rattle.vp_laws.proofs.Table.Leaves.{Leaves, leaves-step}
 use Rattle.vp_laws.proofs.Table.Locks.{Guards, guards-step}
 use Rattle.vp_laws.proofs.Table.Copies.{Copies, copies-step}
 use Rattle.vp_laws.proofs.Keeping.Once.{once_each}
-use Rattle.vp_laws.proofs.Table.Unlisted.{IsUnlisted, Unlisting, unlisting-step}
+use Rattle.vp_laws.proofs.Table.Unlisted.{Unlisting, unlisting-step}
+use Rattle.vp_laws.proofs.Table.Listed.{IsUnlisted}
 use Rattle.vp_laws.proofs.Table.Covered.{Quits, quits}
 use Rattle.vp_laws.proofs.Worlds.Scenes.{Scene, plain_at, Acted, acted, stepping}
 use Rattle.vp_laws.proofs.Worlds.Events.{Arrives, came_in}

@@ -1,4 +1,4 @@
--- A record under refresh has a copy, may be used, and was not written in the held view.
+-- A record under refresh has a copy, and was not written in the held view.
 use Rattle.std.proofs.Common.{◌≡◌, ◌≢◌, ◌⊎◌, ◌∙◌, ap, sym, subst, ℕ, true, false, List, refl, arith, ⊎_elim}
 use Rattle.std.specs.Prelude.{Some, None}
 use Rattle.vp_model.specs.Types.{Change, ViewId, TxnId, View, Commit, Input, Live, Refreshing, Doubt}
@@ -16,7 +16,7 @@ use Rattle.vp_laws.proofs.Table.Led.{IsOf, Led}
 use Rattle.vp_laws.proofs.Table.Steps.{Steps}
 use Rattle.vp_laws.proofs.Table.Shares.{Shares}
 use Rattle.vp_laws.proofs.Table.Leaves.{Uses}
-use Rattle.vp_laws.proofs.Table.Listed.{IsListed, ListedNow, Listing}
+use Rattle.vp_laws.proofs.Table.Listed.{ListedNow, Listing}
 use Rattle.vp_laws.proofs.Worlds.Scenes.{Scene, plain_at, kept_at, Acted, scene_of}
 use Rattle.vp_laws.proofs.Invariant.Views.{InvViews, SiteOk}
 use Rattle.vp_laws.proofs.Invariant.Led.{InvLed}
@@ -79,7 +79,7 @@ module _ (catalogue : Catalogue) (w new : Scene) (s : ℕ) (x : SiteState) (give
   entered_here e r h listed wrote =
       let f = entering e h in
       let locks = guards.site s x up in
-      let lock = (locks.own f.was f.live).wrote r.rec (subst (λ (e : Commit). Wrote e r.rec) (sym f.done) wrote) (inv.listed s x r up listed).0 in
+      let lock = (locks.own f.was f.live).wrote r.rec (subst (λ (e : Commit). Wrote e r.rec) (sym f.done) wrote) (inv.listed s x r up listed) in
       let low = locks.lower r listed in
       let d = low.3 lock.lock f.was.txn lock.has lock.on lock.by in
       let says = doubt_says e h s d.0 (subst (λ (k : DurableState). Has k.doubts d.0) here.kept d.1) (d.2 ∙ f.named) in
@@ -92,7 +92,7 @@ module _ (catalogue : Catalogue) (w new : Scene) (s : ℕ) (x : SiteState) (give
   entered_there e k y v r other at_k holds h listed wrote is =
       let f = entering e h in
       let there = views.site k y at_k in
-      let copied = (inv.listed k y r at_k listed).0 in
+      let copied = inv.listed k y r at_k listed in
       let holder = copy_held catalogue w k y at_k there.kept held r.rec copied in
       let member = subst (Has v.members) there.id (there.tidy.held v holds).3 in
       let affected : Affected catalogue new e k = record { view = v; agreed = (st.moved.agreed v (there.held v holds), sym is); rec = r.rec; wrote = wrote; holder = holder; member = member } in
@@ -141,18 +141,39 @@ module _ (catalogue : Catalogue) (w new : Scene) (s : ℕ) (x : SiteState) (give
           let z : has_txn x.ended e.txn ≡ true = subst (λ (y : SiteState). has_txn y.ended e.txn ≡ true) (sym same) has_ended in
           (let n : has_txn x.ended e.txn ≡ false = rw nothing refl in cc)
 
-  joined_old : (e : Commit) (v : View) (r : Refreshing) → Has w.journal e → o.site.held ≡ Some v → Has o.site.refresh r → Wrote e r.rec → e.view ≡ v.id → (x.waiting ≡ Some v.id) ⊎ (x.inviting ≡ Some (v.id, v.members)) → ⊥
-  joined_old e v r h holds listed wrote is origin =
+  joined_old : (e : Commit) (v : View) (rec : ℕ) → Has w.journal e → o.site.held ≡ Some v → Has (keys x.copies) rec → Wrote e rec → e.view ≡ v.id → (x.waiting ≡ Some v.id) ⊎ (x.inviting ≡ Some (v.id, v.members)) → ⊥
+  joined_old e v rec h holds listed wrote is origin =
       let now = views_now.site s o.site st.now in
       let q = asked.entry e h in
       let same : q.0 ≡ v = views_now.unique q.0 v (st.moved.agreed q.0 q.1) (now.held v holds) (q.2 ∙ is) in
-      let copied = subst (λ (ks : List ℕ). Has ks r.rec) (sym g.copied) (g.listed r listed).0 in
-      let holder = copy_held catalogue new s o.site st.now now.kept held_now r.rec copied in
+      let copied = subst (λ (ks : List ℕ). Has ks rec) (sym g.copied) listed in
+      let holder = copy_held catalogue new s o.site st.now now.kept held_now rec copied in
       let member = subst (Has v.members) now.id (now.tidy.held v holds).3 in
       ⊎_elim
-      (λ awaits. joined_awaited e v r.rec h (record { view = v; agreed = (subst (Has w.agreed) same q.1, sym is); rec = r.rec; wrote = wrote; holder = holder; member = member }) wrote awaits is)
+      (λ awaits. joined_awaited e v rec h (record { view = v; agreed = (subst (Has w.agreed) same q.1, sym is); rec = rec; wrote = wrote; holder = holder; member = member }) wrote awaits is)
       (λ invites. here.unfixed (v.id, v.members) q.0 invites q.1 (sym (q.2 ∙ is)))
       origin
+
+  since : (rec : ℕ) (v : View) (e : Commit) → Has w.journal e → o.site.held ≡ Some v → Has (keys x.copies) rec → Wrote e rec → e.view ≡ v.id → ListedNow x o rec → ⊥
+  since rec v e h holds listed wrote is (ListedNow.still q there same same_view) = inv.unwritten s x v q e up (sym same_view ∙ holds) there h (subst (Wrote e) (sym same) wrote) is
+  since rec v e h holds listed wrote is (ListedNow.joined u now origin) =
+      let same : u ≡ v = (let b = now in cc) in
+      joined_old e v rec h holds listed wrote is (subst (λ (v : View). (x.waiting ≡ Some v.id) ⊎ (x.inviting ≡ Some (v.id, v.members))) same origin)
+
+  of_new : (rec : ℕ) (e : Commit) → Has o.effects.commits e → Wrote e rec → ListedNow x o rec → ⊥
+  of_new rec e h wrote (ListedNow.still q there same same_view) = entered_here e q h there (subst (Wrote e) (sym same) wrote)
+  of_new rec e h wrote (ListedNow.joined u now origin) =
+      let f = entering e h in
+      let of : IsOf x f.was = led.live f.was f.live in
+      let none : x.held ≡ None = ⊎_elim (λ a. (here.tidy.waiting u.id a).1) (λ a. (here.tidy.inviting (u.id, u.members) a).1) origin in
+      let z = of.1 in cc
+
+  -- no entry of the held view wrote a record that was under refresh in this step
+  pub unwritten_since : (rec : ℕ) (v : View) (e : Commit) → Has new.journal e → o.site.held ≡ Some v → Has (keys x.copies) rec → ListedNow x o rec → Wrote e rec → e.view ≡ v.id → ⊥
+  unwritten_since rec v e there holds copied listed wrote is = ⊎_elim
+      (λ old. since rec v e old holds copied wrote is listed)
+      (λ more. of_new rec e more wrote listed)
+      (st.entered e there)
 
   pub listed_keep : InvListed catalogue new
   listed_keep = record {
@@ -163,35 +184,21 @@ module _ (catalogue : Catalogue) (w new : Scene) (s : ℕ) (x : SiteState) (give
         (st.entered e there);
   }
     where
-      listed_now : (k : ℕ) (y : SiteState) (r : Refreshing) → Has y.refresh r → plain_at new k ≡ Some y → NowIs w s o.site k y → IsListed catalogue (keys y.copies) y r.rec
+      listed_now : (k : ℕ) (y : SiteState) (r : Refreshing) → Has y.refresh r → plain_at new k ≡ Some y → NowIs w s o.site k y → Has (keys y.copies) r.rec
       listed_now k y r h at_k (NowIs.other n old) = inv.listed k y r old h
       listed_now k y r h at_k (NowIs.here e same) =
           let l = g.listed r (subst (λ (y : SiteState). Has y.refresh r) (sym same) h) in
-          subst (λ (y : SiteState). IsListed catalogue (keys y.copies) y r.rec) same (subst (λ (ks : List ℕ). Has ks r.rec) (sym g.copied) l.0, l.1)
-
-      since : (r : Refreshing) (v : View) (e : Commit) → Has w.journal e → o.site.held ≡ Some v → Has o.site.refresh r → Wrote e r.rec → e.view ≡ v.id → ListedNow x o r.rec → ⊥
-      since r v e h holds listed wrote is (ListedNow.still q there same same_view) = inv.unwritten s x v q e up (sym same_view ∙ holds) there h (subst (Wrote e) (sym same) wrote) is
-      since r v e h holds listed wrote is (ListedNow.joined u now origin) =
-          let same : u ≡ v = (let b = now in cc) in
-          joined_old e v r h holds listed wrote is (subst (λ (v : View). (x.waiting ≡ Some v.id) ⊎ (x.inviting ≡ Some (v.id, v.members))) same origin)
+          subst (λ (y : SiteState). Has (keys y.copies) r.rec) same (subst (λ (ks : List ℕ). Has ks r.rec) (sym g.copied) l)
 
       old_entry : (k : ℕ) (y : SiteState) (v : View) (r : Refreshing) (e : Commit) → y.held ≡ Some v → Has y.refresh r → Has w.journal e → Wrote e r.rec → e.view ≡ v.id → NowIs w s o.site k y → ⊥
       old_entry k y v r e holds h there wrote is (NowIs.other n old) = inv.unwritten k y v r e old holds h there wrote is
       old_entry k y v r e holds h there wrote is (NowIs.here z same) =
           let listed = subst (λ (y : SiteState). Has y.refresh r) (sym same) h in
-          since r v e there (ap (λ (y : SiteState). y.held) same ∙ holds) listed wrote is (g.since r listed)
-
-      of_new : (r : Refreshing) (e : Commit) → Has o.effects.commits e → Wrote e r.rec → ListedNow x o r.rec → ⊥
-      of_new r e h wrote (ListedNow.still q there same same_view) = entered_here e q h there (subst (Wrote e) (sym same) wrote)
-      of_new r e h wrote (ListedNow.joined u now origin) =
-          let f = entering e h in
-          let of : IsOf x f.was = led.live f.was f.live in
-          let none : x.held ≡ None = ⊎_elim (λ a. (here.tidy.waiting u.id a).1) (λ a. (here.tidy.inviting (u.id, u.members) a).1) origin in
-          let z = of.1 in cc
+          since r.rec v e there (ap (λ (y : SiteState). y.held) same ∙ holds) (g.listed r listed) wrote is (g.since r listed)
 
       new_entry : (k : ℕ) (y : SiteState) (v : View) (r : Refreshing) (e : Commit) → y.held ≡ Some v → Has y.refresh r → Has o.effects.commits e → Wrote e r.rec → e.view ≡ v.id → NowIs w s o.site k y → ⊥
       new_entry k y v r e holds h there wrote is (NowIs.other n old) = entered_there e k y v r n old holds there h wrote is
-      new_entry k y v r e holds h there wrote is (NowIs.here z same) = of_new r e there wrote (g.since r (subst (λ (y : SiteState). Has y.refresh r) (sym same) h))
+      new_entry k y v r e holds h there wrote is (NowIs.here z same) = of_new r.rec e there wrote (g.since r (subst (λ (y : SiteState). Has y.refresh r) (sym same) h))
 
 pub listed_starts : (catalogue : Catalogue) → InvListed catalogue (scene_of (start_world catalogue))
 listed_starts catalogue = record {

@@ -1,11 +1,11 @@
 -- The rows of the coordinator consist of its small moves, so they keep a property of its part that survives these.
 use Rattle.std.proofs.Common.{◌≡◌, ◌∙◌, ℕ, zero, suc, ◌+◌, ◌-◌, ◌^◌, Bool, true, false, List, [], ◌∷◌, refl, arith, length, ap, sym, ⊎_elim}
-use Rattle.std.specs.Prelude.{Option, Some, None, is_some, filter, slice_get, if◌then◌else◌, ◌==◌, ◌||◌, nat_le, nat_lt}
+use Rattle.std.specs.Prelude.{Option, Some, None, is_some, filter, slice_get, not, ◌==◌, ◌||◌, nat_le, nat_lt}
 use Rattle.std.specs.List.{AllByRecursion}
 use Rattle.std.proofs.lemmas.Bool.Decides.{nat_tests}
 use Rattle.std.proofs.lemmas.Bool.{eqb-true}
 use Rattle.vp_model.specs.Types.{TxnId, Stored, Call, Message, Obstacle, Input, Pending, Live, Ending, Finished, Sent}
-use Rattle.vp_base.specs.declared.site.Ending.TheVariants.{LockHeld, ViewChanged, TimedOut, Aborted}
+use Rattle.vp_base.specs.declared.site.Ending.TheVariants.{LockHeld, ViewChanged, TimedOut, Aborted, Inaccessible}
 use Rattle.vp_model.specs.Types.answer
 use Rattle.vp_model.specs.Types.call
 use Rattle.vp_model.specs.Types.input
@@ -17,9 +17,9 @@ use Rattle.vp_model.specs.Catalogue.{Catalogue, find_record}
 use Rattle.vp_model.specs.Locks.{conflict}
 use Rattle.vp_model.specs.Site.{SiteState, Lent, surroundings, lent_reply, CoordinatorState, letters, lent_send}
 use Rattle.vp_model.specs.Transactions.{Deed, last_changes, entry_of, live_of, finished_of, close, close_all, complete, decide}
-use Rattle.vp_model.specs.Refresh.{is_open, other_holders}
+use Rattle.vp_model.specs.Refresh.{is_open, members_in, other_holders}
 use Rattle.vp_model.specs.Views.{abandon}
-use Rattle.vp_model.specs.Calls.{handling, begin_in, on_begin, with_record, take_lock, lock_here, answer_read, read, read_at, change_elsewhere, change, new_change, is_bad_table, is_too_large, short, short_here, change_asked, commit, new_call, live_call, finished_call, handled, on_txn_call, own_call}
+use Rattle.vp_model.specs.Calls.{handling, begin_in, on_begin, with_record, take_lock, lock_here, answer_read, read, read_at, change_elsewhere, change, new_change, is_bad_table, is_too_large, short, short_of_holders, change_asked, commit, new_call, live_call, finished_call, handled, on_txn_call, own_call}
 use Rattle.vp_model.specs.Answers.{with_missing, count_in, read_answered, on_read_answer, write_answered, on_write_answer, refused_by, on_refuse, voted, on_vote, on_ack, on_inquire, on_answer, is_live}
 use Rattle.vp_model.specs.Step.{is_marked_call, least_missing, time_out_calls}
 use Rattle.vp_laws.proofs.Lists.Members.{Has, find_has, find_true, filter_has, has_first, has_more, has_none, has_cases, map_has}
@@ -60,17 +60,17 @@ pub nor : (a b : Bool) → (a || b) ≡ false → b ≡ false
 nor true b e = cc
 nor false b e = e
 
--- not short by the record's own table
-none_first : {X : Type 0} (a b : Option X) → first_some a b ≡ None → b ≡ None
+-- not short for the first reason, so not for the next one
+pub none_first : {X : Type 0} (a b : Option X) → first_some a b ≡ None → b ≡ None
 none_first (Some y) b e = cc
 none_first None b e = e
 
-pub open_here : (catalogue : Catalogue) (x : SiteState) (rec : ℕ) (deed : Deed) → short catalogue x.held rec deed ≡ None → is_open catalogue x rec ≡ true
-open_here catalogue x rec deed e = usable (is_open catalogue x rec) _ (none_first _ (short_here catalogue x.held rec) e)
+pub open_here : (catalogue : Catalogue) (x : SiteState) (rec : ℕ) (deed : Deed) → short catalogue x.held x.bars rec deed ≡ None → is_open x rec ≡ true
+open_here catalogue x rec deed e = usable (value_at rec x.bars) (short_of_holders catalogue rec (members_in x.held)) (none_first _ (first_some (value_at rec x.bars) (short_of_holders catalogue rec (members_in x.held))) e)
   where
-    usable : (b : Bool) (w : ℕ × ℕ) → (if b then None else Some w) ≡ None → b ≡ true
-    usable true w e = refl
-    usable false w e = cc
+    usable : (a b : Option (ℕ × ℕ)) → first_some a b ≡ None → not (is_some a) ≡ true
+    usable None b e = refl
+    usable (Some bar) b e = cc
 
 module _ (catalogue : Catalogue) (x : SiteState) (given : Input) (Q : Lent → Type 0) (k : OfCoordinator catalogue x given Q) (h : Q (lent_at x)) where
   abbrev Closing : (Live → Ending) → Live → Type 0
@@ -135,12 +135,12 @@ module _ (catalogue : Catalogue) (x : SiteState) (given : Input) (Q : Lent → T
     closing-kept : (why : Ending) → is_abort why ≡ true → Closes x given (handling t p) why → Q (close x.id (handling t p) why (lent_at x))
     closing-kept why a c = k.close (handling t p) why (lent_at x) (handled_by t p here) a refl c h
 
-    lock_here-kept : (name : List ℕ) (rec : ℕ) (exclusive : Bool) (stored : Stored) (rest : Lent → Lent) → Names p.call name → is_open catalogue x rec ≡ true → value_at rec x.copies ≡ Some stored → (conflict rec exclusive t.txn x.locks ≡ None → Q (take_lock t.txn rec exclusive (lent_at x)) → Q (rest (take_lock t.txn rec exclusive (lent_at x)))) → Q (lock_here x.id t p name rec exclusive rest (lent_at x))
+    lock_here-kept : (name : List ℕ) (rec : ℕ) (exclusive : Bool) (stored : Stored) (rest : Lent → Lent) → Names p.call name → is_open x rec ≡ true → value_at rec x.copies ≡ Some stored → (conflict rec exclusive t.txn x.locks ≡ None → Q (take_lock t.txn rec exclusive (lent_at x)) → Q (rest (take_lock t.txn rec exclusive (lent_at x)))) → Q (lock_here x.id t p name rec exclusive rest (lent_at x))
     unfolding lock_here
     lock_here-kept name rec exclusive stored rest m a e n =
         by_option Q _ _ _ (λ holder f. closing-kept (LockHeld name x.id holder) refl (Closes.held_here t p name rec exclusive holder here next refl m f)) (λ c. n c (k.take_lock t rec exclusive stored here next.idle a e c))
 
-    read-kept : (name : List ℕ) (rec : ℕ) → nat_le 64 (length t.answers) ≡ false → Names p.call name → Reads catalogue p rec → is_open catalogue x rec ≡ true → Q (read catalogue x.id x.held t p name rec (lent_at x))
+    read-kept : (name : List ℕ) (rec : ℕ) → nat_le 64 (length t.answers) ≡ false → Names p.call name → Reads catalogue p rec → is_open x rec ≡ true → Q (read catalogue x.id x.held t p name rec (lent_at x))
     unfolding read take_lock
     read-kept name rec few m r a =
         by_option Q _ _ _ (λ value e. k.complete t p _ (lent_at x) here (Completes.own_write rec value next r a e refl refl) (λ i. few) refl h)
@@ -167,7 +167,7 @@ module _ (catalogue : Catalogue) (x : SiteState) (given : Input) (Q : Lent → T
     with_record-kept name asked use_record m tries used = by_option Q _ _ _
         (λ rec e. by_test Q (is_bad_table catalogue (asked rec)) _ _ (λ bad. k.answers _ _ (Replies.other refl) (Says.bad_table t p.call p.number next.comes here next.number))
         (λ table. by_test Q (nat_le 64 (length t.answers) || is_too_large t (asked rec)) _ _ (λ many. k.answers _ _ (Replies.other refl) (Says.many t p.call p.number next.comes here next.number))
-        (λ fits. by_option Q _ (short catalogue x.held rec (asked rec)) _ (λ weights s. k.answers _ _ (Replies.other refl) (Says.inaccessible t p.call p.number name rec (asked rec) weights next.comes here next.number m e (tries rec) s))
+        (λ fits. by_option Q _ (short catalogue x.held x.bars rec (asked rec)) _ (λ weights s. k.answers _ _ (Replies.other refl) (Says.inaccessible t p.call p.number name rec (asked rec) weights next.comes here next.number m e (tries rec) s))
         (λ enough. used rec e (neither _ _ fits) (record { table = table; fits = nor (nat_le 64 (length t.answers)) _ fits; enough = enough; usable = open_here catalogue x rec (asked rec) enough })))))
         (λ none. k.answers _ _ (Replies.other refl) (Says.no_record t p.call p.number next.comes here next.number))
 
@@ -285,7 +285,14 @@ module _ (catalogue : Catalogue) (x : SiteState) (given : Input) (Q : Lent → T
   refused_by-kept (obstacle.Held holder) (call.Abort txn number) from t p u n f e c here = h
   refused_by-kept (obstacle.Held holder) call.Begin from t p u n f e c here = h
   refused_by-kept (obstacle.Held holder) call.Regroup from t p u n f e c here = h
-  refused_by-kept (obstacle.Barred inside total) words from t p u n f e c here = h
+  refused_by-kept (obstacle.Barred inside total) (call.Read txn number name) from t p u n f e c here = k.close t (Inaccessible name inside total) (lent_at x) (handled_as t here) refl refl (Closes.barred_there p u n from name inside total here f (Names.reads txn number e) c) h
+  refused_by-kept (obstacle.Barred inside total) (call.Write txn number name value) from t p u n f e c here = k.close t (Inaccessible name inside total) (lent_at x) (handled_as t here) refl refl (Closes.barred_there p u n from name inside total here f (Names.writes txn number value e) c) h
+  refused_by-kept (obstacle.Barred inside total) (call.Delete txn number name) from t p u n f e c here = k.close t (Inaccessible name inside total) (lent_at x) (handled_as t here) refl refl (Closes.barred_there p u n from name inside total here f (Names.deletes txn number e) c) h
+  refused_by-kept (obstacle.Barred inside total) (call.Weigh txn number name table) from t p u n f e c here = k.close t (Inaccessible name inside total) (lent_at x) (handled_as t here) refl refl (Closes.barred_there p u n from name inside total here f (Names.weighs txn number table e) c) h
+  refused_by-kept (obstacle.Barred inside total) (call.Commit txn number) from t p u n f e c here = h
+  refused_by-kept (obstacle.Barred inside total) (call.Abort txn number) from t p u n f e c here = h
+  refused_by-kept (obstacle.Barred inside total) call.Begin from t p u n f e c here = h
+  refused_by-kept (obstacle.Barred inside total) call.Regroup from t p u n f e c here = h
   refused_by-kept (obstacle.OtherView now) words from t p u n f e c here = k.close t (ViewChanged from t.view now) (lent_at x) (handled_as t here) refl refl (Closes.other_view u n from now here c) h
 
   on_refuse-kept : (from : ℕ) (txn : TxnId) (number : ℕ) (why : Obstacle) → Comes given from (message.Refuse txn number why) → Q (on_refuse x.id from txn number why (lent_at x))

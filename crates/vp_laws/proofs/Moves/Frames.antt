@@ -1,17 +1,17 @@
 -- What the ends of transactions leave of the coordinator's state, and what they send; what the end of a refresh removes.
 use Rattle.std.proofs.Common.{◌≡◌, ◌∙◌, ℕ, Bool, true, false, cond, List, [], ◌∷◌, ◌++◌, refl}
 use Rattle.std.specs.Prelude.{Option, Some, None}
-use Rattle.vp_model.specs.Types.{TxnId, Effects, Pending, Live, Ending, Stored}
+use Rattle.vp_model.specs.Types.{TxnId, Effects, Pending, Live, Ending, Stored, Refreshing}
 use Rattle.vp_base.specs.declared.site.Ending.TheVariants.{Committed}
 use Rattle.vp_model.specs.Types.owner
 use Rattle.vp_model.specs.Types.log_record
 use Rattle.vp_model.specs.Types.message
-use Rattle.vp_model.specs.Catalogue.{Catalogue}
+use Rattle.vp_model.specs.Catalogue.{Catalogue, Table, accessible_by, table_or}
 use Rattle.vp_model.specs.Words.{is_empty, view_before, replace_at}
 use Rattle.vp_model.specs.Locks.{without_owner}
-use Rattle.vp_model.specs.Site.{Lent, letters, Stepped, force, change_copies}
+use Rattle.vp_model.specs.Site.{Lent, letters, Stepped, force, change_copies, change_bars}
 use Rattle.vp_model.specs.Transactions.{last_changes, entry_of, with_pending_reply, finish, close, close_all, with_finished, keep_writes, decided, decide}
-use Rattle.vp_model.specs.Refresh.{take_newer}
+use Rattle.vp_model.specs.Refresh.{members, newest, take_newer, with_bar, take_or_bar}
 use Rattle.vp_model.proofs.SameTxn.{same_txn-self}
 use Rattle.vp_laws.proofs.Lists.Keeps.{by_test}
 
@@ -85,7 +85,17 @@ pub close_all-beside : (id : ℕ) (why : Live → Ending) (live : List Live) (l 
 close_all-beside id why [] l = record { copies = refl; seq = refl; decisions = refl }
 close_all-beside id why (t ∷ live) l = Beside-trans l _ _ (close-beside id t (why t) l) (close_all-beside id why live (close id t (why t) l))
 
--- a copy is replaced where another one is newer, or stays
-pub take-cases : (P : Stepped → Type 0) (rec : ℕ) (own best : Stored) (o : Stepped) → P (force (log_record.Copy rec best) (change_copies (replace_at rec best) o)) → P o → P (take_newer rec own best o)
+-- the table of the newest copy, by which the end of a refresh judges; and what it does then, before the record is unlisted
+abbrev pub judging : Catalogue → Refreshing → Stored → Table
+judging catalogue r own = table_or catalogue r.rec (newest own r.answers).table
+
+abbrev pub judged : Catalogue → Refreshing → Stored → Stepped → Stepped
+judged catalogue r own o = take_or_bar r.rec own (newest own r.answers) (judging catalogue r own) o
+
+-- a copy is replaced where another one is newer, or stays; or its record is barred
+pub judged-cases : (P : Stepped → Type 0) (catalogue : Catalogue) (r : Refreshing) (own : Stored) (o : Stepped) → (accessible_by (judging catalogue r own) (members o.site) ≡ true → P (force (log_record.Copy r.rec (newest own r.answers)) (change_copies (replace_at r.rec (newest own r.answers)) o))) → P o → P (change_bars (with_bar r.rec (judging catalogue r own) (members o.site)) o) → P (judged catalogue r own o)
 unfolding take_newer
-take-cases P rec own best o newer older = by_test P (view_before own.date best.date) _ _ (λ e. newer) (λ e. older)
+judged-cases P catalogue r own o newer older barred = by_test P (accessible_by (judging catalogue r own) (members o.site)) _ _ (λ a. by_test P (view_before own.date (newest own r.answers).date) _ _ (λ e. newer a) (λ e. older)) (λ a. barred)
+
+pub take-cases : (P : Stepped → Type 0) (catalogue : Catalogue) (r : Refreshing) (own : Stored) (o : Stepped) → P (force (log_record.Copy r.rec (newest own r.answers)) (change_copies (replace_at r.rec (newest own r.answers)) o)) → P o → P (change_bars (with_bar r.rec (judging catalogue r own) (members o.site)) o) → P (judged catalogue r own o)
+take-cases P catalogue r own o newer older barred = judged-cases P catalogue r own o (λ a. newer) older barred

@@ -4,7 +4,7 @@ use Rattle.std.specs.Prelude.{Option, Some, None, is_some, filter, ◌==◌, nat
 use Rattle.std.proofs.lemmas.Bool.{eqb-true}
 use Rattle.std.proofs.lemmas.Bool.Decides.{nat_tests}
 use Rattle.vp_model.specs.Types.{TxnId, Commit, Reply, Call, Answer, Message, Obstacle, Input, Pending, Live, Ending, Finished, Effects}
-use Rattle.vp_base.specs.declared.site.Ending.TheVariants.{Committed, LockHeld, ViewChanged, TimedOut, Aborted}
+use Rattle.vp_base.specs.declared.site.Ending.TheVariants.{Committed, LockHeld, ViewChanged, TimedOut, Aborted, Inaccessible}
 use Rattle.vp_model.specs.Types.answer
 use Rattle.vp_model.specs.Types.call
 use Rattle.vp_model.specs.Types.input
@@ -128,7 +128,7 @@ module _ (catalogue : Catalogue) (x : SiteState) (given : Input) (after : SiteSt
     unfolding complete
     completes deed l c rs cs done = rw (c, rs, cs) (k.complete t p deed l at.live (IsDone.at_once at) done)
 
-    read-front : (name : List ℕ) (rec : ℕ) → Operates p.call name false → find_record catalogue name ≡ Some rec → Reads catalogue p rec → is_open catalogue x rec ≡ true → Q (read catalogue x.id x.held t p name rec (lent_at x))
+    read-front : (name : List ℕ) (rec : ℕ) → Operates p.call name false → find_record catalogue name ≡ Some rec → Reads catalogue p rec → is_open x rec ≡ true → Q (read catalogue x.id x.held t p name rec (lent_at x))
     unfolding read take_lock read_at
     read-front name rec o f r a =
         by_option Q _ _ _ (λ value e. completes _ (lent_at x) refl refl refl (Completes.own_write rec value at.next r a e refl refl))
@@ -155,7 +155,7 @@ module _ (catalogue : Catalogue) (x : SiteState) (given : Input) (after : SiteSt
     with_record-front name exclusive op asked use_record tries used = by_option Q _ _ _
         (λ rec e. by_test Q (is_bad_table catalogue (asked rec)) _ _ (λ bad. numbered t p at.called _ refl (turned t.txn p.number))
         (λ table. by_test Q (nat_le 64 (length t.answers) || is_too_large t (asked rec)) _ _ (λ many. numbered t p at.called _ refl (turned t.txn p.number))
-        (λ fits. by_option Q _ (short catalogue x.held rec (asked rec)) _ (λ weights s. told _ _ (Tells.inaccessible t p name rec exclusive (asked rec) weights at op e (tries rec) s))
+        (λ fits. by_option Q _ (short catalogue x.held x.bars rec (asked rec)) _ (λ weights s. told _ _ (Tells.inaccessible t p name rec exclusive (asked rec) weights at op e (tries rec) s))
         (λ enough. used rec e (record { table = table; fits = nor (nat_le 64 (length t.answers)) _ fits; enough = enough; usable = open_here catalogue x rec (asked rec) enough })))))
         (λ none. numbered t p at.called _ refl (turned t.txn p.number))
 
@@ -266,7 +266,14 @@ module _ (catalogue : Catalogue) (x : SiteState) (given : Input) (after : SiteSt
   refused_by-front (obstacle.Held holder) (call.Abort txn number) from t p e a c = h
   refused_by-front (obstacle.Held holder) call.Begin from t p e a c = h
   refused_by-front (obstacle.Held holder) call.Regroup from t p e a c = h
-  refused_by-front (obstacle.Barred inside total) words from t p e a c = h
+  refused_by-front (obstacle.Barred inside total) (call.Read txn number name) from t p e a c = refused t p (Inaccessible name inside total) a (Why.barred_there p from name false inside total a c (Operates.reads txn number e))
+  refused_by-front (obstacle.Barred inside total) (call.Write txn number name value) from t p e a c = refused t p (Inaccessible name inside total) a (Why.barred_there p from name true inside total a c (Operates.writes txn number value e))
+  refused_by-front (obstacle.Barred inside total) (call.Delete txn number name) from t p e a c = refused t p (Inaccessible name inside total) a (Why.barred_there p from name true inside total a c (Operates.deletes txn number e))
+  refused_by-front (obstacle.Barred inside total) (call.Weigh txn number name table) from t p e a c = refused t p (Inaccessible name inside total) a (Why.barred_there p from name true inside total a c (Operates.weighs txn number table e))
+  refused_by-front (obstacle.Barred inside total) (call.Commit txn number) from t p e a c = h
+  refused_by-front (obstacle.Barred inside total) (call.Abort txn number) from t p e a c = h
+  refused_by-front (obstacle.Barred inside total) call.Begin from t p e a c = h
+  refused_by-front (obstacle.Barred inside total) call.Regroup from t p e a c = h
   refused_by-front (obstacle.OtherView now) words from t p e a c = refused t p (ViewChanged from t.view now) a (Why.other_view p from now a c)
 
   on_refuse-front : (from : ℕ) (txn : TxnId) (number : ℕ) (why : Obstacle) → Comes given from (message.Refuse txn number why) → Q (on_refuse x.id from txn number why (lent_at x))

@@ -7,16 +7,17 @@ use Rattle.vp_model.specs.Types.obstacle
 use Rattle.vp_model.specs.Types.call
 use Rattle.vp_model.specs.Types.input
 use Rattle.vp_model.specs.Types.message
-use Rattle.vp_model.specs.Words.{view_before, for_each}
+use Rattle.vp_model.specs.Words.{view_before, for_each, keys}
 use Rattle.vp_model.specs.Catalogue.{Catalogue}
 use Rattle.vp_model.specs.Durable.{doubt_of}
 use Rattle.vp_model.specs.Site.{CoordinatorState, SiteState, Lent, Stepped, begin_step, lent, put_back, send, force, change_views, change_refresh, change_participant}
-use Rattle.vp_model.specs.Refresh.{newest, take_newer, unlist, end_refresh, settle_one, settle, settle_all, start_refresh, start_refresh_all, refreshing_of}
-use Rattle.vp_model.specs.Views.{drop_view, leave, start_inviting, invite, refresh_here, hold, join, is_spent, usable_here}
+use Rattle.vp_model.specs.Refresh.{unlist, end_refresh, settle_one, settle, settle_all, start_refresh, start_refresh_all, refreshing_of}
+use Rattle.vp_model.specs.Views.{drop_view, leave, start_inviting, invite, refresh_here, hold, join, is_spent}
 use Rattle.vp_model.specs.Calls.{on_regroup, on_call}
 use Rattle.vp_model.specs.Messages.{with_heard, refuse_view, with_vote, with_new_doubt, doubted_records, with_answer, accept, on_invite, on_accept, on_stale, on_view_commit, on_probe_message, grant, lock_copy, on_request, on_read_request, on_write_request, first_vote, on_prepare, end_here, end_part, on_outcome, on_refresh_request, on_refresh_answer, answered, on_message}
 use Rattle.vp_model.specs.Step.{time_out_calls, fix, fix_view, ask_again, ask_again_all, time_out, without_wait, tick_view, resend_one, resend, resend_decisions, inquire, inquire_all, on_tick, probe_in, probe_all, on_probe, on_input, step}
 use Rattle.vp_laws.proofs.Lists.Keeps.{for_each-same, by_some, by_test}
+use Rattle.vp_laws.proofs.Moves.Frames.{judged, take-cases}
 use Rattle.vp_laws.proofs.Moves.Table.{Comes, lent_at}
 use Rattle.vp_laws.proofs.Moves.Reasons.{Tells, Front}
 use Rattle.vp_laws.proofs.Moves.FrontRows.{abandon-front, time_out_calls-front, own_call-front, on_answer-front}
@@ -46,13 +47,12 @@ shut e = record { same = e }
 nothing : (o : Stepped) → Unseen o o
 nothing o = record { same = refl }
 
-take_newer-seen : (rec : ℕ) (own best : Stored) (o : Stepped) → Unseen o (take_newer rec own best o)
-unfolding take_newer
-take_newer-seen rec own best o = by_test (Unseen o) (view_before own.date best.date) _ o (λ e. shut refl) (λ e. shut refl)
+judged-seen : (catalogue : Catalogue) (r : Refreshing) (own : Stored) (o : Stepped) → Unseen o (judged catalogue r own o)
+judged-seen catalogue r own o = take-cases (Unseen o) catalogue r own o (shut refl) (shut refl) (shut refl)
 
 end_refresh-seen : (catalogue : Catalogue) (r : Refreshing) (own : Stored) (o : Stepped) → Unseen o (end_refresh catalogue r own o)
 unfolding end_refresh unlist
-end_refresh-seen catalogue r own o = shut (take_newer-seen r.rec own (newest own r.answers) o).same
+end_refresh-seen catalogue r own o = shut (judged-seen catalogue r own o).same
 
 settle_one-seen : (catalogue : Catalogue) (r : Refreshing) (o : Stepped) → Unseen o (settle_one catalogue r o)
 unfolding settle_one
@@ -72,8 +72,8 @@ start_refresh-seen catalogue view rec o = (shut refl)
 refresh_here-seen : (catalogue : Catalogue) (view : View) (o : Stepped) → Unseen o (refresh_here catalogue view o)
 unfolding refresh_here
 refresh_here-seen catalogue view o =
-    unseen_then o (start_refresh_all catalogue view (usable_here catalogue o.site) o) _ (each_unseen (start_refresh catalogue view) (start_refresh-seen catalogue view) (usable_here catalogue o.site) o)
-    (settle_all-seen catalogue (usable_here catalogue o.site) (start_refresh_all catalogue view (usable_here catalogue o.site) o))
+    unseen_then o (start_refresh_all catalogue view (keys o.site.copies) o) _ (each_unseen (start_refresh catalogue view) (start_refresh-seen catalogue view) (keys o.site.copies) o)
+    (settle_all-seen catalogue (keys o.site.copies) (start_refresh_all catalogue view (keys o.site.copies) o))
 
 join-seen : (catalogue : Catalogue) (view : View) (o : Stepped) → Unseen o (join catalogue view o)
 unfolding join hold
@@ -93,8 +93,9 @@ on_request-seen txn view number rec exclusive reply_with from o =
     let self = nothing o in
     let other_view : Unseen o (refuse_view txn number from o) = shut refl in
     let blocked : (holder : Owner) → Unseen o (send (message.Refuse txn number (obstacle.Held holder)) from o) = λ holder. shut refl in
+    let barred : (bar : ℕ × ℕ) → Unseen o (send (message.Refuse txn number (obstacle.Barred bar.0 bar.1)) from o) = λ bar. shut refl in
     let granted = grant-seen txn view rec exclusive from o in
-    grind (arith, self, other_view, blocked, granted)
+    grind (arith, self, other_view, blocked, barred, granted)
 
 on_prepare-seen : (from : ℕ) (txn : TxnId) (view : ViewId) (number : ℕ) (reads : List ℕ) (writes : List (ℕ × Change)) (o : Stepped) → Unseen o (on_prepare from txn view number reads writes o)
 unfolding on_prepare first_vote

@@ -7,14 +7,14 @@ use Rattle.vp_model.specs.Types.message
 use Rattle.vp_model.specs.Catalogue.{Catalogue}
 use Rattle.vp_model.specs.Durable.{doubt_of}
 use Rattle.vp_model.specs.Site.{CoordinatorState, SiteState, Lent, Stepped, begin_step, lent, put_back, letters}
-use Rattle.vp_model.specs.Refresh.{newest, take_newer, unlist, end_refresh, start_refresh, other_holders}
+use Rattle.vp_model.specs.Refresh.{unlist, end_refresh, start_refresh, other_holders}
 use Rattle.vp_model.specs.Views.{other_sites, drop_view, start_inviting, hold}
 use Rattle.vp_model.specs.Messages.{accept, on_accept, on_stale, grant, end_here}
 use Rattle.vp_model.specs.Step.{fix, ask_again, resend_one}
 use Rattle.vp_laws.proofs.Lists.Members.{Has, has_one_is, map_has}
 use Rattle.vp_laws.proofs.Moves.Table.{next_view, OfCoordinator, Back, SendsBack, Table, AsksAgain}
 use Rattle.vp_laws.proofs.Moves.LocalViews.{letter}
-use Rattle.vp_laws.proofs.Moves.Frames.{take-cases}
+use Rattle.vp_laws.proofs.Moves.Frames.{judged, take-cases}
 
 -- a message that no coordinator sends for a transaction of its own
 abbrev pub is_aside : Message → Bool
@@ -80,7 +80,7 @@ module _ (catalogue : Catalogue) (x : SiteState) (given : Input) (R : Coordinato
 
   ends_refresh : (r : Refreshing) (own : Stored) (o : Stepped) → P o → P (end_refresh catalogue r own o)
   unfolding end_refresh unlist
-  ends_refresh r own o p = silent (take_newer r.rec own (newest own r.answers) o) _ refl refl refl refl (take-cases P r.rec own (newest own r.answers) o (silent o _ refl refl refl refl p) p)
+  ends_refresh r own o p = silent (judged catalogue r own o) _ refl refl refl refl (take-cases P catalogue r own o (silent o _ refl refl refl refl p) p (silent o _ refl refl refl refl p))
 
   ends_here : (from : ℕ) (txn : TxnId) (commit : Bool) (doubt : Option Doubt) → P (end_here from txn commit doubt (begin_step x))
   unfolding end_here
@@ -125,11 +125,11 @@ module _ (catalogue : Catalogue) (x : SiteState) (given : Input) (R : Coordinato
     without_wait = λ id c i w. silent (begin_step x) _ refl refl refl refl only_begins;
     probe = λ view c e. many (begin_step x) _ (λ q. message.Probe view.id) (other_sites catalogue x.id) refl refl refl refl (λ q. refl) only_begins;
     answers_inviting = λ port c s p. silent _ _ refl refl refl refl p;
-    start_refresh = λ view rec o e a h p. many o (start_refresh catalogue view rec o) (λ q. message.RefreshRequest view.id rec) (other_holders catalogue o.site rec) refl refl refl refl (λ q. refl) p;
+    start_refresh = λ view rec o e h p. many o (start_refresh catalogue view rec o) (λ q. message.RefreshRequest view.id rec) (other_holders catalogue o.site rec) refl refl refl refl (λ q. refl) p;
     end_refresh = λ rec r own o e a d v p. ends_refresh r own o p;
     keep_answer = λ from view rec stored r c e f g. silent (begin_step x) _ refl refl refl refl only_begins;
-    grant_read = λ from txn view number rec stored c e n v f. one _ from (message.ReadAnswer txn number stored.value) refl refl refl refl refl;
-    grant_write = λ from txn view number rec stored c e n v f. one _ from (message.WriteAnswer txn number) refl refl refl refl refl;
+    grant_read = λ from txn view number rec stored c e n v f u. one _ from (message.ReadAnswer txn number stored.value) refl refl refl refl refl;
+    grant_write = λ from txn view number rec stored c e n v f u. one _ from (message.WriteAnswer txn number) refl refl refl refl refl;
     vote_reading = λ from txn view number reads writes part c e n d f v a w. one _ from (message.Vote part.txn) refl refl refl refl refl;
     vote_writing = λ from txn view number reads writes part c e n d f v a w. one _ from (message.Vote part.txn) refl refl refl refl refl;
     end_here = λ from txn commit c. ends_here from txn commit (doubt_of txn x.doubts);

@@ -3,7 +3,7 @@
 use Rattle.std.proofs.Common.{◌≡◌, ◌++◌, ℕ, Bool, true, false, List, [], ◌∷◌, map, length}
 use Rattle.std.specs.Prelude.{Some, None, Option, option_map, option_to_list, nat_le}
 use Rattle.vp_model.specs.Types.{ViewId, TxnId, View, Owner, Call, Answer, Reply, Commit, Input, Pending, Live, Ending, Finished}
-use Rattle.vp_base.specs.declared.site.Ending.TheVariants.{Committed, Aborted, LockHeld, ViewChanged, TimedOut}
+use Rattle.vp_base.specs.declared.site.Ending.TheVariants.{Committed, Aborted, LockHeld, ViewChanged, TimedOut, Inaccessible}
 use Rattle.vp_model.specs.Types.answer
 use Rattle.vp_model.specs.Types.call
 use Rattle.vp_model.specs.Types.input
@@ -58,6 +58,7 @@ pub data Why (catalogue : Catalogue) (x : SiteState) (given : Input) (after : Si
   held_here : (was : Live) (p : Pending) (name : List ℕ) (rec : ℕ) (exclusive : Bool) (holder : Owner) → Takes x given was p → t ≡ handling was p → Operates p.call name exclusive → find_record catalogue name ≡ Some rec → conflict rec exclusive was.txn x.locks ≡ Some holder → Why catalogue x given after t (LockHeld name x.id holder)
   held_there : (p : Pending) (from : ℕ) (name : List ℕ) (exclusive : Bool) (holder : Owner) → Awaits x t p → Comes given from (message.Refuse t.txn p.number (obstacle.Held holder)) → Operates p.call name exclusive → Why catalogue x given after t (LockHeld name from holder)
   other_view : (p : Pending) (from : ℕ) (now : Option ViewId) → Awaits x t p → Comes given from (message.Refuse t.txn p.number (obstacle.OtherView now)) → Why catalogue x given after t (ViewChanged from t.view now)
+  barred_there : (p : Pending) (from : ℕ) (name : List ℕ) (exclusive : Bool) (inside total : ℕ) → Awaits x t p → Comes given from (message.Refuse t.txn p.number (obstacle.Barred inside total)) → Operates p.call name exclusive → Why catalogue x given after t (Inaccessible name inside total)
   left : Has x.live t → after.held ≡ None → Why catalogue x given after t (ViewChanged x.id t.view None)
   timed_out : (missing : ℕ) → Has x.live t → Why catalogue x given after t (TimedOut missing)
 
@@ -78,7 +79,7 @@ is_plain _ = false
 -- what the call from this port is told that changes nothing
 pub data Tells (catalogue : Catalogue) (x : SiteState) (given : Input) : ℕ → Answer → Type 0 where
   plain : (words : Answer) → is_plain words ≡ true → (port : ℕ) (called : Call) → given ≡ input.Call port called → answers called words ≡ true → Tells catalogue x given port words
-  inaccessible : (t : Live) (p : Pending) (name : List ℕ) (rec : ℕ) (exclusive : Bool) (deed : Deed) (weights : ℕ × ℕ) → Takes x given t p → Operates p.call name exclusive → find_record catalogue name ≡ Some rec → Tries p.call rec deed → short catalogue x.held rec deed ≡ Some weights → Tells catalogue x given p.port (answer.Inaccessible t.txn p.number name weights.0 weights.1)
+  inaccessible : (t : Live) (p : Pending) (name : List ℕ) (rec : ℕ) (exclusive : Bool) (deed : Deed) (weights : ℕ × ℕ) → Takes x given t p → Operates p.call name exclusive → find_record catalogue name ≡ Some rec → Tries p.call rec deed → short catalogue x.held x.bars rec deed ≡ Some weights → Tells catalogue x given p.port (answer.Inaccessible t.txn p.number name weights.0 weights.1)
   again : (t : Live) (number : ℕ) (words : Answer) → Has x.live t → kept_answer number t.answers ≡ Some words → (c : IsCallOf given t.txn number) → Tells catalogue x given c.port words
   finished_again : (f : Finished) (number : ℕ) (words : Answer) → Has x.finished f → kept_answer number f.answers ≡ Some words → (c : IsCallOf given f.txn number) → Tells catalogue x given c.port words
   ended : (f : Finished) (number : ℕ) → Has x.finished f → nat_le number (length f.answers) ≡ false → (c : IsCallOf given f.txn number) → Tells catalogue x given c.port (answer_of f.txn number f.ending)

@@ -13,12 +13,12 @@ use Rattle.vp_model.specs.Catalogue.{Catalogue}
 use Rattle.vp_model.specs.Durable.{doubt_of}
 use Rattle.vp_model.specs.Site.{SiteState, Lent, Stepped, begin_step, lent, put_back, change_views, letters}
 use Rattle.vp_model.specs.Refresh.{is_open, is_doubtful, refreshing_of, settle_one, settle, settle_all, start_refresh, start_refresh_all, unanswered}
-use Rattle.vp_model.specs.Views.{part_of, has_doubt, abandon, highest, is_spent, drop_view, leave, invite, usable_here, refresh_here, hold, join}
+use Rattle.vp_model.specs.Views.{part_of, has_doubt, abandon, highest, is_spent, drop_view, leave, invite, refresh_here, hold, join}
 use Rattle.vp_model.specs.Locks.{conflict}
 use Rattle.vp_model.specs.Calls.{on_regroup, on_call}
 use Rattle.vp_model.specs.Messages.{holds_view, doubted_records, on_invite, on_view_commit, on_probe_message, lock_copy, on_request, on_read_request, on_write_request, first_vote, on_prepare, end_part, on_outcome, on_refresh_request, on_refresh_answer, answered, on_message}
 use Rattle.vp_model.specs.Step.{fix, without_wait, fix_view, ask_again, ask_again_all, time_out_calls, time_out, tick_view, resend_one, resend, resend_decisions, on_tick, probe_in, on_probe, on_input, step, known, inquire}
-use Rattle.vp_laws.proofs.Lists.Members.{Has, filter_has, has_first, has_more, both_true, map_has}
+use Rattle.vp_laws.proofs.Lists.Members.{Has, has_first, has_more, both_true, map_has}
 use Rattle.vp_laws.proofs.Lists.Views.{is_view_is}
 use Rattle.vp_laws.proofs.Moves.Frames.{close_all-beside, close_all-none}
 use Rattle.vp_laws.proofs.Moves.Table.{Comes, Replies, Says, Left, Joined, Requests, Asks, SendsBack, lent_at, Back, Table, AsksAgain}
@@ -26,9 +26,9 @@ use Rattle.vp_laws.proofs.Moves.Coordinator.{abandon-closed, abandon-kept, time_
 use Rattle.vp_laws.proofs.Moves.LocalViews.{letter}
 use Rattle.vp_laws.proofs.Lists.Keeps.{by_test}
 
--- a record that is accessible and has a copy here
-usable_here-has : (catalogue : Catalogue) (site : SiteState) (rec : ℕ) → Has (usable_here catalogue site) rec → (is_open catalogue site rec ≡ true) × Has (keys site.copies) rec
-usable_here-has catalogue site rec h = let q = filter_has _ _ rec h in (q.1, q.0)
+-- a record without a bar is open
+not_barred : (x : SiteState) (rec : ℕ) → value_at rec x.bars ≡ None → is_open x rec ≡ true
+not_barred x rec e = rw e refl
 
 module _ (catalogue : Catalogue) (x : SiteState) (given : Input) (P : Stepped → Type 0) (k : Table catalogue x given P) (h : P (begin_step x)) where
   -- what the coordinator does, all else being as the step began
@@ -45,6 +45,7 @@ module _ (catalogue : Catalogue) (x : SiteState) (given : Input) (P : Stepped �
     id = refl;
     life = refl;
     views = refl;
+    bars = refl;
     participant = refl;
     copies = b.copies;
     live = close_all-none x.id (λ t. ViewChanged x.id t.view None) x.live (lent_at x) refl;
@@ -77,22 +78,22 @@ module _ (catalogue : Catalogue) (x : SiteState) (given : Input) (P : Stepped �
   settle_all-kept [] o p = p
   settle_all-kept (rec ∷ recs) o p = settle_all-kept recs (settle catalogue rec o) (settle-kept rec o p)
 
-  start_refresh_all-kept : (view : View) (recs : List ℕ) (o : Stepped) → ((rec : ℕ) → Has recs rec → (is_open catalogue o.site rec ≡ true) × Has (keys o.site.copies) rec) → Joined x view o → P o → P (start_refresh_all catalogue view recs o)
+  start_refresh_all-kept : (view : View) (recs : List ℕ) (o : Stepped) → ((rec : ℕ) → Has recs rec → Has (keys o.site.copies) rec) → Joined x view o → P o → P (start_refresh_all catalogue view recs o)
   unfolding start_refresh
   start_refresh_all-kept view [] o all e p = p
   start_refresh_all-kept view (rec ∷ recs) o all e p =
       let now = all rec (has_first rec recs) in
-      start_refresh_all-kept view recs (start_refresh catalogue view rec o) (λ other q. all other (has_more rec recs other q)) (record { held = e.held; origin = e.origin; participant = e.participant; live = e.live }) (k.start_refresh view rec o e now.0 now.1 p)
+      start_refresh_all-kept view recs (start_refresh catalogue view rec o) (λ other q. all other (has_more rec recs other q)) (record { held = e.held; origin = e.origin; participant = e.participant; bars = e.bars; live = e.live }) (k.start_refresh view rec o e now p)
 
   refresh_here-kept : (view : View) (o : Stepped) → Joined x view o → P o → P (refresh_here catalogue view o)
   unfolding refresh_here
   refresh_here-kept view o e p =
-      settle_all-kept (usable_here catalogue o.site) _ (start_refresh_all-kept view (usable_here catalogue o.site) o (usable_here-has catalogue o.site) e p)
+      settle_all-kept (keys o.site.copies) _ (start_refresh_all-kept view (keys o.site.copies) o (λ rec h. h) e p)
 
   held_then-kept : (id : ViewId) (members : List ℕ) → (is_view x.waiting id && has members x.id) ≡ true → P (hold (record { id = id; members = members }) (begin_step x)) → P (refresh_here catalogue (record { id = id; members = members }) (hold (record { id = id; members = members }) (begin_step x)))
   unfolding hold
   held_then-kept id members e p =
-      refresh_here-kept (record { id = id; members = members }) (hold (record { id = id; members = members }) (begin_step x)) (record { held = refl; origin = inl (is_view_is x.waiting id (both_true _ _ e).0); participant = refl; live = refl }) p
+      refresh_here-kept (record { id = id; members = members }) (hold (record { id = id; members = members }) (begin_step x)) (record { held = refl; origin = inl (is_view_is x.waiting id (both_true _ _ e).0); participant = refl; bars = refl; live = refl }) p
 
   on_view_commit-kept : (from : ℕ) (id : ViewId) (members : List ℕ) → Comes given from (message.ViewCommit id members) → P (on_view_commit catalogue id members (begin_step x))
   unfolding on_view_commit join
@@ -104,7 +105,7 @@ module _ (catalogue : Catalogue) (x : SiteState) (given : Input) (P : Stepped �
 
   fix_view-kept : (inviting : ViewId × List ℕ) → given ≡ input.Tick → x.inviting ≡ Some inviting → P (fix_view catalogue inviting (begin_step x))
   unfolding fix_view fix hold
-  fix_view-kept inviting c e = let view : View = record { id = inviting.0; members = inviting.1 } in refresh_here-kept view (fix view (begin_step x)) (record { held = refl; origin = inr e; participant = refl; live = refl }) (k.fix view c e)
+  fix_view-kept inviting c e = let view : View = record { id = inviting.0; members = inviting.1 } in refresh_here-kept view (fix view (begin_step x)) (record { held = refl; origin = inr e; participant = refl; bars = refl; live = refl }) (k.fix view c e)
 
   -- parts
   on_read_request-kept : (from : ℕ) (txn : TxnId) (view : ViewId) (number rec : ℕ) → Comes given from (message.ReadRequest txn view number rec) → P (on_read_request from txn view number rec (begin_step x))
@@ -112,14 +113,18 @@ module _ (catalogue : Catalogue) (x : SiteState) (given : Input) (P : Stepped �
   on_read_request-kept from txn view number rec c =
       let refusing = λ (e : holds_view x view ≡ false). k.sends_back from _ (SendsBack.refuse_view txn view number (Asks.reads rec c) e) in
       let locked = λ (holder : Owner) (e : holds_view x view ≡ true) (n : has_txn x.ended txn ≡ false) (f : conflict rec false txn x.locks ≡ Some holder). k.sends_back from _ (SendsBack.refuse_lock txn view number rec false holder (Requests.reads c) e n f) in
-      grind (arith, refusing, locked, k.grant_read from txn view number rec, h)
+      let barred = λ (bar : ℕ × ℕ) (e : holds_view x view ≡ true) (n : has_txn x.ended txn ≡ false) (b : value_at rec x.bars ≡ Some bar). k.sends_back from _ (SendsBack.refuse_bar txn view number rec false bar (Requests.reads c) e n b) in
+      let granted = λ (stored : Stored) (e : holds_view x view ≡ true) (n : has_txn x.ended txn ≡ false) (v : value_at rec x.copies ≡ Some stored) (b : value_at rec x.bars ≡ None) (f : conflict rec false txn x.locks ≡ None). k.grant_read from txn view number rec stored c e n v f (not_barred x rec b) in
+      grind (arith, refusing, locked, barred, granted, h)
 
   on_write_request-kept : (from : ℕ) (txn : TxnId) (view : ViewId) (number rec : ℕ) → Comes given from (message.WriteRequest txn view number rec) → P (on_write_request from txn view number rec (begin_step x))
   unfolding on_write_request on_request lock_copy
   on_write_request-kept from txn view number rec c =
       let refusing = λ (e : holds_view x view ≡ false). k.sends_back from _ (SendsBack.refuse_view txn view number (Asks.writes rec c) e) in
       let locked = λ (holder : Owner) (e : holds_view x view ≡ true) (n : has_txn x.ended txn ≡ false) (f : conflict rec true txn x.locks ≡ Some holder). k.sends_back from _ (SendsBack.refuse_lock txn view number rec true holder (Requests.writes c) e n f) in
-      grind (arith, refusing, locked, k.grant_write from txn view number rec, h)
+      let barred = λ (bar : ℕ × ℕ) (e : holds_view x view ≡ true) (n : has_txn x.ended txn ≡ false) (b : value_at rec x.bars ≡ Some bar). k.sends_back from _ (SendsBack.refuse_bar txn view number rec true bar (Requests.writes c) e n b) in
+      let granted = λ (stored : Stored) (e : holds_view x view ≡ true) (n : has_txn x.ended txn ≡ false) (v : value_at rec x.copies ≡ Some stored) (b : value_at rec x.bars ≡ None) (f : conflict rec true txn x.locks ≡ None). k.grant_write from txn view number rec stored c e n v f (not_barred x rec b) in
+      grind (arith, refusing, locked, barred, granted, h)
 
   on_prepare-kept : (from : ℕ) (txn : TxnId) (view : ViewId) (number : ℕ) (reads : List ℕ) (writes : List (ℕ × Change)) → Comes given from (message.Prepare txn view number reads writes) → P (on_prepare from txn view number reads writes (begin_step x))
   unfolding on_prepare first_vote

@@ -46,6 +46,7 @@ pub record Left (x : SiteState) (o : Stepped) : Type 0 where
   pub id : o.site.id ≡ x.id
   pub life : o.site.life ≡ x.life
   pub views : o.site.views ≡ without_view x.views
+  pub bars : o.site.bars ≡ []
   pub participant : o.site.participant ≡ without_parts x.participant
   pub copies : o.site.copies ≡ x.copies
   pub live : o.site.live ≡ []
@@ -58,6 +59,7 @@ pub record Joined (x : SiteState) (view : View) (o : Stepped) : Type 0 where
   pub held : o.site.held ≡ Some view
   pub origin : (x.waiting ≡ Some view.id) ⊎ (x.inviting ≡ Some (view.id, view.members))
   pub participant : o.site.participant ≡ x.participant
+  pub bars : o.site.bars ≡ x.bars
   pub live : o.site.live ≡ x.live
 
 -- a request for a lock, shared or exclusive, and any message that names the view of its transaction
@@ -124,18 +126,17 @@ pub data Locked (x : SiteState) (t : Live) (rec : ℕ) (l : Lent) : Type 0 where
   no_copy : value_at rec x.copies ≡ None → l ≡ lent_at x → Locked x t rec l
   locked : (stored : Stored) → value_at rec x.copies ≡ Some stored → conflict rec true t.txn x.locks ≡ None → l ≡ take_lock t.txn rec true (lent_at x) → Locked x t rec l
 
--- a change has passed the tests before its row: its table is the record's, it isn't too large, and neither by its own table nor by the record's is
--- there too little weight
+-- a change has passed the tests before its row: its table is the record's, it isn't too large, there is enough weight by its own table, and no bar here
 pub record May (catalogue : Catalogue) (x : SiteState) (t : Live) (rec : ℕ) (deed : Deed) : Type 0 where
   pub table : is_bad_table catalogue deed ≡ false
   pub fits : is_too_large t deed ≡ false
-  pub enough : short catalogue x.held rec deed ≡ None
-  pub usable : is_open catalogue x rec ≡ true
+  pub enough : short catalogue x.held x.bars rec deed ≡ None
+  pub usable : is_open x rec ≡ true
 
 -- how a call is done: what it does, and the coordinator's part so far
 pub data Completes (catalogue : Catalogue) (x : SiteState) (given : Input) (t : Live) (p : Pending) (deed : Deed) (l : Lent) : Type 0 where
-  own_write : (rec : ℕ) (value : Option (List ℕ)) → IsNext given t p → Reads catalogue p rec → is_open catalogue x rec ≡ true → value_at rec (last_writes t.ops) ≡ Some value → deed ≡ Deed.operates (op.Read rec value) → l ≡ lent_at x → Completes catalogue x given t p deed l
-  own_copy : (rec : ℕ) (stored : Stored) → IsNext given t p → Reads catalogue p rec → is_open catalogue x rec ≡ true → value_at rec (last_writes t.ops) ≡ None → value_at rec x.copies ≡ Some stored → conflict rec false t.txn x.locks ≡ None → deed ≡ Deed.operates (op.Read rec stored.value) → l ≡ take_lock t.txn rec false (lent_at x) → Completes catalogue x given t p deed l
+  own_write : (rec : ℕ) (value : Option (List ℕ)) → IsNext given t p → Reads catalogue p rec → is_open x rec ≡ true → value_at rec (last_writes t.ops) ≡ Some value → deed ≡ Deed.operates (op.Read rec value) → l ≡ lent_at x → Completes catalogue x given t p deed l
+  own_copy : (rec : ℕ) (stored : Stored) → IsNext given t p → Reads catalogue p rec → is_open x rec ≡ true → value_at rec (last_writes t.ops) ≡ None → value_at rec x.copies ≡ Some stored → conflict rec false t.txn x.locks ≡ None → deed ≡ Deed.operates (op.Read rec stored.value) → l ≡ take_lock t.txn rec false (lent_at x) → Completes catalogue x given t p deed l
   change_again : (rec : ℕ) (before : Change) → IsNext given t p → Changes catalogue p rec deed → May catalogue x t rec deed → value_at rec (last_changes (entry_of t)) ≡ Some before → l ≡ lent_at x → Completes catalogue x given t p deed l
   change_alone : (rec : ℕ) → IsNext given t p → Changes catalogue p rec deed → May catalogue x t rec deed → value_at rec (last_changes (entry_of t)) ≡ None → is_empty (other_holders catalogue x rec) ≡ true → Locked x t rec l → Completes catalogue x given t p deed l
   read_answered : (from rec : ℕ) (value : Option (List ℕ)) → Comes given from (message.ReadAnswer t.txn p.number value) → IsLast t p from → Reads catalogue p rec → deed ≡ Deed.operates (op.Read rec value) → l ≡ lent_at x → Completes catalogue x given t p deed l
@@ -210,7 +211,7 @@ pub data Says (catalogue : Catalogue) (x : SiteState) (given : Input) (port : �
   busy : (t : Live) (words : Call) (number : ℕ) → given ≡ input.Call port words → Has x.live t → number ≡ length t.answers + 1 → Says catalogue x given port (answer.Busy t.txn number)
   skipped : (t : Live) (words : Call) → given ≡ input.Call port words → Has x.live t → Says catalogue x given port (answer.Skipped t.txn (length t.answers + 1))
   bad_table : (t : Live) (words : Call) (number : ℕ) → given ≡ input.Call port words → Has x.live t → number ≡ length t.answers + 1 → Says catalogue x given port (answer.BadTable t.txn number)
-  inaccessible : (t : Live) (words : Call) (number : ℕ) (name : List ℕ) (rec : ℕ) (deed : Deed) (weights : ℕ × ℕ) → given ≡ input.Call port words → Has x.live t → number ≡ length t.answers + 1 → Names words name → find_record catalogue name ≡ Some rec → Tries words rec deed → short catalogue x.held rec deed ≡ Some weights → Says catalogue x given port (answer.Inaccessible t.txn number name weights.0 weights.1)
+  inaccessible : (t : Live) (words : Call) (number : ℕ) (name : List ℕ) (rec : ℕ) (deed : Deed) (weights : ℕ × ℕ) → given ≡ input.Call port words → Has x.live t → number ≡ length t.answers + 1 → Names words name → find_record catalogue name ≡ Some rec → Tries words rec deed → short catalogue x.held x.bars rec deed ≡ Some weights → Says catalogue x given port (answer.Inaccessible t.txn number name weights.0 weights.1)
   again : (t : Live) (words : Call) (said : Answer) → given ≡ input.Call port words → Has x.live t → Has t.answers said → Says catalogue x given port said
   again_ended : (f : Finished) (words : Call) (said : Answer) → given ≡ input.Call port words → Has x.finished f → Has f.answers said → Says catalogue x given port said
   over : (f : Finished) (words : Call) (txn : TxnId) (number : ℕ) → given ≡ input.Call port words → IsCallOf words txn number → Has x.finished f → Says catalogue x given port (answer_of f.txn number f.ending)
@@ -222,6 +223,7 @@ pub data Closes (x : SiteState) (given : Input) (t : Live) : Ending → Type 0 w
   held_here : (was : Live) (p : Pending) (name : List ℕ) (rec : ℕ) (exclusive : Bool) (holder : Owner) → Has x.live was → IsNext given was p → t ≡ handling was p → Names p.call name → conflict rec exclusive was.txn x.locks ≡ Some holder → Closes x given t (LockHeld name x.id holder)
   held_there : (p : Pending) (txn : TxnId) (number from : ℕ) (name : List ℕ) (holder : Owner) → Has x.live t → t.pending ≡ Some p → Names p.call name → Comes given from (message.Refuse txn number (obstacle.Held holder)) → Closes x given t (LockHeld name from holder)
   other_view : (txn : TxnId) (number from : ℕ) (now : Option ViewId) → Has x.live t → Comes given from (message.Refuse txn number (obstacle.OtherView now)) → Closes x given t (ViewChanged from t.view now)
+  barred_there : (p : Pending) (txn : TxnId) (number from : ℕ) (name : List ℕ) (inside total : ℕ) → Has x.live t → t.pending ≡ Some p → Names p.call name → Comes given from (message.Refuse txn number (obstacle.Barred inside total)) → Closes x given t (Inaccessible name inside total)
   left : Has x.live t → Closes x given t (ViewChanged x.id t.view None)
   timed_out : Has x.live t → is_marked_call t.pending ≡ true → Closes x given t (TimedOut (least_missing t.pending))
 
@@ -229,9 +231,9 @@ pub data Closes (x : SiteState) (given : Input) (t : Live) : Ending → Type 0 w
 pub record OfCoordinator (catalogue : Catalogue) (x : SiteState) (given : Input) (Q : Lent → Type 0) : Type 0 where
   pub begin : (port : ℕ) (view : View) → x.held ≡ Some view → given ≡ input.Call port call.Begin → (x.seq == 2 ^ 32 - 1) ≡ false → Q (start_txn (next_name x) port view.id (lent_at x))
   pub answers : (words : Answer) (port : ℕ) → Replies x words → Says catalogue x given port words → Q (lent_reply words port (lent_at x))
-  pub take_lock : (t : Live) (rec : ℕ) (exclusive : Bool) (stored : Stored) → Has x.live t → is_some t.pending ≡ false → is_open catalogue x rec ≡ true → value_at rec x.copies ≡ Some stored → conflict rec exclusive t.txn x.locks ≡ None → Q (take_lock t.txn rec exclusive (lent_at x))
+  pub take_lock : (t : Live) (rec : ℕ) (exclusive : Bool) (stored : Stored) → Has x.live t → is_some t.pending ≡ false → is_open x rec ≡ true → value_at rec x.copies ≡ Some stored → conflict rec exclusive t.txn x.locks ≡ None → Q (take_lock t.txn rec exclusive (lent_at x))
   pub complete : (t : Live) (p : Pending) (deed : Deed) (l : Lent) → Has x.live t → Completes catalogue x given t p deed l → (is_some t.pending ≡ false → nat_le 64 (length t.answers) ≡ false) → l.live ≡ x.live → Q l → Q (complete t p deed l)
-  pub read_at : (t : Live) (p : Pending) (rec q : ℕ) → Has x.live t → IsNext given t p → Reads catalogue p rec → is_open catalogue x rec ≡ true → value_at rec (last_writes t.ops) ≡ None → value_at rec x.copies ≡ None → Has (other_holders catalogue x rec) q → nat_le 64 (length t.answers) ≡ false → Q (read_at x.id t p rec q (lent_at x))
+  pub read_at : (t : Live) (p : Pending) (rec q : ℕ) → Has x.live t → IsNext given t p → Reads catalogue p rec → is_open x rec ≡ true → value_at rec (last_writes t.ops) ≡ None → value_at rec x.copies ≡ None → Has (other_holders catalogue x rec) q → nat_le 64 (length t.answers) ≡ false → Q (read_at x.id t p rec q (lent_at x))
   pub write_at : (t : Live) (p : Pending) (rec : ℕ) (deed : Deed) (l : Lent) → Has x.live t → IsNext given t p → Changes catalogue p rec deed → May catalogue x t rec deed → value_at rec (last_changes (entry_of t)) ≡ None → is_empty (other_holders catalogue x rec) ≡ false → Locked x t rec l → nat_le 64 (length t.answers) ≡ false → l.live ≡ x.live → Q l → Q (write_at x.id t p rec (other_holders catalogue x rec) l)
   pub prepare_parts : (t : Live) (p : Pending) → Has x.live t → IsNext given t p → is_commit p.call ≡ true → is_empty t.parts ≡ false → Q (prepare_parts catalogue x.id t p (lent_at x))
   pub still_waits : (t : Live) (p : Pending) (from : ℕ) → Has x.live t → t.pending ≡ Some p → has p.missing from ≡ true → is_empty (remaining from p) ≡ false → Counts catalogue given t p from → Q (wait_for t p (remaining from p) (lent_at x))
@@ -247,6 +249,7 @@ pub data SendsBack (x : SiteState) (given : Input) (from : ℕ) : Message → Ty
   answer_refresh : (view : ViewId) (rec : ℕ) (stored : Stored) → Comes given from (message.RefreshRequest view rec) → holds_view x view ≡ true → is_doubtful x rec ≡ false → value_at rec x.copies ≡ Some stored → SendsBack x given from (message.RefreshAnswer view rec stored)
   refuse_view : (txn : TxnId) (view : ViewId) (number : ℕ) → Asks given from txn view number → holds_view x view ≡ false → SendsBack x given from (message.Refuse txn number (obstacle.OtherView (held_id x)))
   refuse_lock : (txn : TxnId) (view : ViewId) (number rec : ℕ) (exclusive : Bool) (holder : Owner) → Requests given from txn view number rec exclusive → holds_view x view ≡ true → has_txn x.ended txn ≡ false → conflict rec exclusive txn x.locks ≡ Some holder → SendsBack x given from (message.Refuse txn number (obstacle.Held holder))
+  refuse_bar : (txn : TxnId) (view : ViewId) (number rec : ℕ) (exclusive : Bool) (bar : ℕ × ℕ) → Requests given from txn view number rec exclusive → holds_view x view ≡ true → has_txn x.ended txn ≡ false → value_at rec x.bars ≡ Some bar → SendsBack x given from (message.Refuse txn number (obstacle.Barred bar.0 bar.1))
   doubt_again : (txn : TxnId) (view : ViewId) (number : ℕ) (reads : List ℕ) (writes : List (ℕ × Change)) → Comes given from (message.Prepare txn view number reads writes) → holds_view x view ≡ true → has_txn x.ended txn ≡ false → has_doubt txn x.doubts ≡ true → SendsBack x given from (message.Vote txn)
   vote_again : (txn : TxnId) (view : ViewId) (number : ℕ) (reads : List ℕ) (writes : List (ℕ × Change)) (part : Part) → Comes given from (message.Prepare txn view number reads writes) → holds_view x view ≡ true → has_txn x.ended txn ≡ false → part_of txn x.parts ≡ Some part → part.voted ≡ true → SendsBack x given from (message.Vote part.txn)
   answer_inquiry : (txn : TxnId) → Comes given from (message.Inquire txn) → (txn.site == x.id) ≡ true → is_live txn x.live ≡ false → SendsBack x given from (message.Outcome txn (is_decided txn x.decisions))
@@ -267,6 +270,7 @@ sent_back_for x given from _ (SendsBack.accept_again id c e) = (_, c)
 sent_back_for x given from _ (SendsBack.answer_refresh view rec stored c e d v) = (_, c)
 sent_back_for x given from _ (SendsBack.refuse_view txn view number a e) = asks_came given from txn view number a
 sent_back_for x given from _ (SendsBack.refuse_lock txn view number rec exclusive holder r e n c) = requests_came given from txn view number rec exclusive r
+sent_back_for x given from _ (SendsBack.refuse_bar txn view number rec exclusive bar r e n b) = requests_came given from txn view number rec exclusive r
 sent_back_for x given from _ (SendsBack.doubt_again txn view number rs ws c e n d) = (_, c)
 sent_back_for x given from _ (SendsBack.vote_again txn view number rs ws part c e n f v) = (_, c)
 sent_back_for x given from _ (SendsBack.answer_inquiry txn c s n) = (_, c)
@@ -299,12 +303,12 @@ pub record Table (catalogue : Catalogue) (x : SiteState) (given : Input) (P : St
   pub probe : (view : View) → given ≡ input.Probe → x.held ≡ Some view → P (probe_all catalogue view (begin_step x))
   pub answers_inviting : (port : ℕ) → given ≡ input.Call port call.Regroup → is_spent x.views ≡ false → P (invite catalogue (begin_step x)) → P (reply (answer.Inviting (next_view x)) port (invite catalogue (begin_step x)))
   -- refresh
-  pub start_refresh : (view : View) (rec : ℕ) (o : Stepped) → Joined x view o → is_open catalogue o.site rec ≡ true → Has (keys o.site.copies) rec → P o → P (start_refresh catalogue view rec o)
+  pub start_refresh : (view : View) (rec : ℕ) (o : Stepped) → Joined x view o → Has (keys o.site.copies) rec → P o → P (start_refresh catalogue view rec o)
   pub end_refresh : (rec : ℕ) (r : Refreshing) (own : Stored) (o : Stepped) → refreshing_of rec o.site.refresh ≡ Some r → is_empty (unanswered catalogue o.site r) ≡ true → is_doubtful o.site r.rec ≡ false → value_at r.rec o.site.copies ≡ Some own → P o → P (end_refresh catalogue r own o)
   pub keep_answer : (from : ℕ) (view : ViewId) (rec : ℕ) (stored : Stored) (r : Refreshing) → Comes given from (message.RefreshAnswer view rec stored) → holds_view x view ≡ true → refreshing_of rec x.refresh ≡ Some r → has (unanswered catalogue x r) from ≡ true → P (change_refresh (map (with_answer rec from stored)) (begin_step x))
   -- parts of other sites' transactions
-  pub grant_read : (from : ℕ) (txn : TxnId) (view : ViewId) (number rec : ℕ) (stored : Stored) → Comes given from (message.ReadRequest txn view number rec) → holds_view x view ≡ true → has_txn x.ended txn ≡ false → value_at rec x.copies ≡ Some stored → conflict rec false txn x.locks ≡ None → P (grant txn view rec false (message.ReadAnswer txn number stored.value) from (begin_step x))
-  pub grant_write : (from : ℕ) (txn : TxnId) (view : ViewId) (number rec : ℕ) (stored : Stored) → Comes given from (message.WriteRequest txn view number rec) → holds_view x view ≡ true → has_txn x.ended txn ≡ false → value_at rec x.copies ≡ Some stored → conflict rec true txn x.locks ≡ None → P (grant txn view rec true (message.WriteAnswer txn number) from (begin_step x))
+  pub grant_read : (from : ℕ) (txn : TxnId) (view : ViewId) (number rec : ℕ) (stored : Stored) → Comes given from (message.ReadRequest txn view number rec) → holds_view x view ≡ true → has_txn x.ended txn ≡ false → value_at rec x.copies ≡ Some stored → conflict rec false txn x.locks ≡ None → is_open x rec ≡ true → P (grant txn view rec false (message.ReadAnswer txn number stored.value) from (begin_step x))
+  pub grant_write : (from : ℕ) (txn : TxnId) (view : ViewId) (number rec : ℕ) (stored : Stored) → Comes given from (message.WriteRequest txn view number rec) → holds_view x view ≡ true → has_txn x.ended txn ≡ false → value_at rec x.copies ≡ Some stored → conflict rec true txn x.locks ≡ None → is_open x rec ≡ true → P (grant txn view rec true (message.WriteAnswer txn number) from (begin_step x))
   pub vote_reading : (from : ℕ) (txn : TxnId) (view : ViewId) (number : ℕ) (reads : List ℕ) (writes : List (ℕ × Change)) (part : Part) → Comes given from (message.Prepare txn view number reads writes) → holds_view x view ≡ true → has_txn x.ended txn ≡ false → has_doubt txn x.doubts ≡ false → part_of txn x.parts ≡ Some part → part.voted ≡ false → has_all_locks x.locks part.txn reads writes ≡ true → is_empty writes ≡ true → P (send (message.Vote part.txn) from (change_participant (with_vote part) (begin_step x)))
   pub vote_writing : (from : ℕ) (txn : TxnId) (view : ViewId) (number : ℕ) (reads : List ℕ) (writes : List (ℕ × Change)) (part : Part) → Comes given from (message.Prepare txn view number reads writes) → holds_view x view ≡ true → has_txn x.ended txn ≡ false → has_doubt txn x.doubts ≡ false → part_of txn x.parts ≡ Some part → part.voted ≡ false → has_all_locks x.locks part.txn reads writes ≡ true → is_empty writes ≡ false → P (send (message.Vote part.txn) from (force (log_record.Yes part.txn part.view writes) (change_participant (with_new_doubt part writes) (begin_step x))))
   pub end_here : (from : ℕ) (txn : TxnId) (commit : Bool) → Comes given from (message.Outcome txn commit) → P (end_here from txn commit (doubt_of txn x.doubts) (begin_step x))

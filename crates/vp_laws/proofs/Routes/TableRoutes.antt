@@ -10,14 +10,14 @@ use Rattle.vp_model.specs.Catalogue.{Catalogue, sites_of}
 use Rattle.vp_model.specs.Durable.{doubt_of, put_decision, with_decision, acknowledged}
 use Rattle.vp_model.specs.Site.{CoordinatorState, SiteState, Lent, Stepped, begin_step, lent, put_back, letters}
 use Rattle.vp_model.specs.Transactions.{last_changes, entry_of, writes_held, writing_parts, keep_writes, complete}
-use Rattle.vp_model.specs.Refresh.{newest, take_newer, unlist, end_refresh, start_refresh, other_holders, unanswered}
+use Rattle.vp_model.specs.Refresh.{unlist, end_refresh, start_refresh, other_holders, unanswered}
 use Rattle.vp_model.specs.Views.{other_sites, drop_view, start_inviting, hold}
 use Rattle.vp_model.specs.Calls.{start_txn, take_lock, read_at, write_at, prepare_parts, prepare_for}
 use Rattle.vp_model.specs.Messages.{accept, on_accept, on_stale, grant, end_here}
 use Rattle.vp_model.specs.Step.{step, fix, probe_all, mark_calls, resend_one}
 use Rattle.vp_laws.proofs.Lists.Members.{Has, has_none, has_one_is, has_cases, filter_has, map_has}
 use Rattle.vp_laws.proofs.Lists.Changes.{put_has}
-use Rattle.vp_laws.proofs.Moves.Frames.{Ends, close-ends, decided-ends, decide-cases}
+use Rattle.vp_laws.proofs.Moves.Frames.{Ends, close-ends, decided-ends, decide-cases, judged, take-cases}
 use Rattle.vp_laws.proofs.Moves.Table.{Comes, next_view, lent_at, sent_back_for, Handled, Back, Table, AsksAgain}
 use Rattle.vp_laws.proofs.Moves.Rows.{step-keeps}
 use Rattle.vp_laws.proofs.Moves.LocalViews.{letter, Tidy}
@@ -151,13 +151,12 @@ module _ (catalogue : Catalogue) (k : IsCatalogue catalogue) where
     unfolding start_refresh
     starts_refresh view rec o g = more o _ (letters o.site.id (λ q. message.RefreshRequest view.id rec) (other_holders catalogue o.site rec)) refl refl (letters_to o.site.id (λ q. message.RefreshRequest view.id rec) (other_holders catalogue o.site rec) (to_holders o.site rec)) g
 
-    takes_newer : (rec : ℕ) (own best : Stored) (o : Stepped) → Goes o → Goes (take_newer rec own best o)
-    unfolding take_newer
-    takes_newer rec own best o g = grind (arith, g)
+    takes_newer : (r : Refreshing) (own : Stored) (o : Stepped) → Goes o → Goes (judged catalogue r own o)
+    takes_newer r own o g = take-cases Goes catalogue r own o (silent o _ refl refl g) g (silent o _ refl refl g)
 
     ends_refresh : (r : Refreshing) (own : Stored) (o : Stepped) → Goes o → Goes (end_refresh catalogue r own o)
     unfolding end_refresh unlist
-    ends_refresh r own o g = silent (take_newer r.rec own (newest own r.answers) o) _ refl refl (takes_newer r.rec own (newest own r.answers) o g)
+    ends_refresh r own o g = silent (judged catalogue r own o) _ refl refl (takes_newer r own o g)
 
     grants : (from : ℕ) (txn : TxnId) (view : ViewId) (rec : ℕ) (exclusive : Bool) (words : Message) → S from → Goes (grant txn view rec exclusive words from (begin_step x))
     unfolding grant
@@ -208,11 +207,11 @@ module _ (catalogue : Catalogue) (k : IsCatalogue catalogue) where
       fix = λ view c e. (calls.fix view c e, fixes view e);
       without_wait = λ id c i w. (calls.without_wait id c i w, silent (begin_step x) _ refl refl begins);
       probe = λ view c e. (calls.probe view c e, more (begin_step x) (probe_all catalogue view (begin_step x)) (letters x.id (λ q. message.Probe view.id) (other_sites catalogue x.id)) refl refl (letters_to x.id (λ q. message.Probe view.id) (other_sites catalogue x.id) (to_others x.id)) begins);
-      start_refresh = λ view rec o e a h l. (calls.start_refresh view rec o e a h l.0, starts_refresh view rec o l.1);
+      start_refresh = λ view rec o e h l. (calls.start_refresh view rec o e h l.0, starts_refresh view rec o l.1);
       end_refresh = λ rec r own o e a d v l. (calls.end_refresh rec r own o e a d v l.0, ends_refresh r own o l.1);
       keep_answer = λ from view rec stored r c e f g. (calls.keep_answer from view rec stored r c e f g, silent (begin_step x) _ refl refl begins);
-      grant_read = λ from txn view number rec stored c e n v f. (calls.grant_read from txn view number rec stored c e n v f, grants from txn view rec false (message.ReadAnswer txn number stored.value) (from_is from _ c));
-      grant_write = λ from txn view number rec stored c e n v f. (calls.grant_write from txn view number rec stored c e n v f, grants from txn view rec true (message.WriteAnswer txn number) (from_is from _ c));
+      grant_read = λ from txn view number rec stored c e n v f u. (calls.grant_read from txn view number rec stored c e n v f u, grants from txn view rec false (message.ReadAnswer txn number stored.value) (from_is from _ c));
+      grant_write = λ from txn view number rec stored c e n v f u. (calls.grant_write from txn view number rec stored c e n v f u, grants from txn view rec true (message.WriteAnswer txn number) (from_is from _ c));
       vote_reading = λ from txn view number reads writes part c e n d f v a w. (calls.vote_reading from txn view number reads writes part c e n d f v a w, one _ from (message.Vote part.txn) (from_is from _ c) refl refl);
       vote_writing = λ from txn view number reads writes part c e n d f v a w. (calls.vote_writing from txn view number reads writes part c e n d f v a w, one _ from (message.Vote part.txn) (from_is from _ c) refl refl);
       end_here = λ from txn commit c. (calls.end_here from txn commit c, ends_here from txn commit (from_is from _ c));

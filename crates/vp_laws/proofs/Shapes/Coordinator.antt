@@ -1,11 +1,11 @@
 -- The moves of the coordinator keep a site well formed.
 use Rattle.std.proofs.Common.{◌≡◌, ◌≤◌, ◌<◌, ◌∙◌, sym, subst, ℕ, ◌+◌, ◌-◌, ◌^◌, Bool, true, false, cond, List, [], ◌∷◌, ◌++◌, refl, arith, length}
 use Rattle.std.specs.Prelude.{Option, Some, None, IfSome, option_map, not, is_some, ◌==◌, nat_le}
-use Rattle.std.specs.List.{AllByRecursion}
+use Rattle.std.specs.List.{AllByRecursion, list_any}
 use Rattle.std.proofs.lemmas.Bool.Decides.{nat_tests}
 use Rattle.std.proofs.lemmas.List.{length-append}
 use Rattle.vp_base.specs.Words.{IsName, IsValue}
-use Rattle.vp_base.specs.Tables.{IsTable as IsCallTable}
+use Rattle.vp_base.specs.Tables.{IsTable}
 use Rattle.vp_contents.specs.Contents.{IsContent}
 use Rattle.vp_contents.specs.declared.version.Version.TheVariants as versions
 use Rattle.vp_base.specs.Identifiers.{IsView, IsTxn}
@@ -22,14 +22,14 @@ use Rattle.vp_model.specs.Types.message
 use Rattle.vp_model.specs.Types.obstacle
 use Rattle.vp_model.specs.Types.op
 use Rattle.vp_model.specs.Types.owner
-use Rattle.vp_model.specs.Words.{first_some, has, is_empty, put_number, for_each}
+use Rattle.vp_model.specs.Words.{first_some, has, value_at, is_empty, put_number, for_each}
 use Rattle.vp_model.specs.Catalogue.{Catalogue, Table, holders, find_record, inside, total, weight_inside, weight_total, accessible_by}
 use Rattle.vp_model.specs.Durable.{with_writes}
 use Rattle.vp_model.specs.Locks.{with_lock, without_owner}
 use Rattle.vp_model.specs.Site.{CoordinatorState, SiteState, Lent, Stepped, begin_step, lent, put_back, lent_force, lent_reply, lent_coordinator}
 use Rattle.vp_model.specs.Transactions.{Deed, with_done, deed_answer, last_changes, entry_of, writes_held, with_pending_reply, with_finished, finish, close, writing_parts, with_kept, keep_writes, decided, decide, complete, put_live, wait_for, answer_of}
-use Rattle.vp_model.specs.Refresh.{members_in, is_usable_in, other_holders}
-use Rattle.vp_model.specs.Calls.{change_asked, is_too_large, short_by, short_here, short, begun, with_begun, start_txn, handling, take_lock, read_at, write_at, prepare_for, prepare_parts}
+use Rattle.vp_model.specs.Refresh.{members_in, other_holders}
+use Rattle.vp_model.specs.Calls.{change_asked, is_too_large, short_by, short_of_holders, short, begun, with_begun, start_txn, handling, take_lock, read_at, write_at, prepare_for, prepare_parts}
 use Rattle.vp_model.specs.Answers.{with_acknowledged}
 use Rattle.vp_model.specs.Step.{with_marks, mark_calls, resend_one}
 use Rattle.vp_laws.specs.Votes.{is_commit}
@@ -38,11 +38,11 @@ use Rattle.vp_laws.proofs.Moves.Frames.{decide-cases}
 use Rattle.vp_laws.proofs.Moves.Table.{Comes, next_name, record_of, IsNext, Reads, Changes, Tries, remaining, Completes, Decides, Says, Closes, Names, IsCallOf, lent_at, Back}
 use Rattle.vp_laws.specs.Shapes.{IsAnswer, IsInput, IsPending, operates, asked, IsLive, IsEnding, IsFinished, IsCoordinator, IsLock, IsShaped, AreShaped}
 use Rattle.vp_laws.proofs.Lists.Items.{all_at, all_and_one, all_filter}
-use Rattle.vp_laws.proofs.Shapes.Numbers.{each_site, put_sites, put_all_sites, sites_of_ascending, some_sites, ascending_filter, written_is, changes_are, table_of_call}
+use Rattle.vp_laws.proofs.Shapes.Numbers.{each_site, put_sites, put_all_sites, sites_of_ascending, some_sites, ascending_filter, written_is, changes_are}
 use Rattle.vp_laws.proofs.Shapes.Sizes.{writes_length}
 use Rattle.vp_laws.proofs.Shapes.Doubts.{with_decisions, fewer_decisions}
 use Rattle.vp_laws.proofs.Shapes.Catalogue.{others_ascend, found_is, inside_fits, total_fits, table_fits, part_fits}
-use Rattle.vp_laws.proofs.Shapes.Moves.{Forms, gives_entry, gives_commit, gives_reply, gives_message, gives_each, with_gives, with_locks, with_copies, with_coordinator, some_at, with_lock_is, conflict_is, writes_are, copy_is}
+use Rattle.vp_laws.proofs.Shapes.Moves.{Forms, gives_entry, gives_commit, gives_reply, gives_message, gives_each, with_gives, with_locks, with_copies, with_coordinator, some_at, with_lock_is, conflict_is, bar_is, writes_are, copy_is}
 use Rattle.vp_laws.proofs.Shapes.Views.{came_is, called_is, id_is, starts}
 use Rattle.vp_laws.proofs.Shapes.Live.{puts_live, begins_one, marks_are, idle_asked, IsDeed, deed_said, done_is, waiting_is, IsOver, live_over, handled_over, end_said, finishes, missing_is, recs_are}
 
@@ -116,7 +116,7 @@ module _ (catalogue : Catalogue) (k : IsCatalogue catalogue) (x : SiteState) (sx
   delete_call : (words : Call) (txn : TxnId) (number : ℕ) (name : List ℕ) → IsCall words → words ≡ call.Delete txn number name → IsNumbered txn number × IsName name name
   delete_call words txn number name i e = rw e at i
 
-  weigh_call : (words : Call) (txn : TxnId) (number : ℕ) (name : List ℕ) (table : Table) → IsCall words → words ≡ call.Weigh txn number name table → IsNumbered txn number × IsName name name × IsCallTable table
+  weigh_call : (words : Call) (txn : TxnId) (number : ℕ) (name : List ℕ) (table : Table) → IsCall words → words ≡ call.Weigh txn number name table → IsNumbered txn number × IsName name name × IsTable table
   weigh_call words txn number name table i e = rw e at i
 
   named_is : (words : Call) (name : List ℕ) → Names words name → IsCall words → IsName name name
@@ -126,17 +126,24 @@ module _ (catalogue : Catalogue) (k : IsCatalogue catalogue) (x : SiteState) (sx
   named_is words name (Names.weighs txn number table e) i = (weigh_call words txn number name table i e).1
 
   -- the weights of a record that may not be used
-  short_fits : (words : Call) (rec : ℕ) (deed : Deed) (weights : ℕ × ℕ) → IsCall words → Tries words rec deed → short catalogue x.held rec deed ≡ Some weights → (weights.0 < 2 ^ 32) × (weights.1 < 2 ^ 32)
+  short_fits : (words : Call) (rec : ℕ) (deed : Deed) (weights : ℕ × ℕ) → IsCall words → Tries words rec deed → short catalogue x.held x.bars rec deed ≡ Some weights → (weights.0 < 2 ^ 32) × (weights.1 < 2 ^ 32)
   short_fits words rec deed weights i tries e = go deed tries (short_by deed (members_in x.held)) refl e
     where
       of_sums : (b : Bool) (a n : ℕ) (weights : ℕ × ℕ) → a < 2 ^ 32 → n < 2 ^ 32 → cond b None (Some (a, n)) ≡ Some weights → (weights.0 < 2 ^ 32) × (weights.1 < 2 ^ 32)
       of_sums true a n weights p q e = cc
       of_sums false a n weights p q e = let is : (a, n) ≡ weights = cc in subst (λ (k : ℕ × ℕ). (k.0 < 2 ^ 32) × (k.1 < 2 ^ 32)) is (p, q)
 
-      go : (d : Deed) → Tries words rec d → (o : Option (ℕ × ℕ)) → short_by d (members_in x.held) ≡ o → first_some o (short_here catalogue x.held rec) ≡ Some weights → (weights.0 < 2 ^ 32) × (weights.1 < 2 ^ 32)
-      go d from None q e = of_sums (is_usable_in catalogue x.held rec) (inside catalogue rec (members_in x.held)) (total catalogue rec) weights (inside_fits catalogue k rec (members_in x.held)) (total_fits catalogue k rec) e
+      -- the bar here, or the lack of a holder
+      here : (o : Option (ℕ × ℕ)) → value_at rec x.bars ≡ o → first_some o (short_of_holders catalogue rec (members_in x.held)) ≡ Some weights → (weights.0 < 2 ^ 32) × (weights.1 < 2 ^ 32)
+      here None q e = of_sums (list_any (has (members_in x.held)) (holders catalogue rec)) 0 (total catalogue rec) weights (omega arith) (total_fits catalogue k rec) e
+      here (Some bar) q e =
+          let is : bar ≡ weights = cc in
+          subst (λ (k : ℕ × ℕ). (k.0 < 2 ^ 32) × (k.1 < 2 ^ 32)) is (bar_is rec bar x.here.bars sx.bars_are q)
+
+      go : (d : Deed) → Tries words rec d → (o : Option (ℕ × ℕ)) → short_by d (members_in x.held) ≡ o → first_some o (first_some (value_at rec x.bars) (short_of_holders catalogue rec (members_in x.held))) ≡ Some weights → (weights.0 < 2 ^ 32) × (weights.1 < 2 ^ 32)
+      go d from None q e = here (value_at rec x.bars) refl e
       go _ (Tries.weighs txn number name table w) (Some own) q e =
-          let is = table_of_call table (weigh_call words txn number name table i w).2 in
+          let is = (weigh_call words txn number name table i w).2 in
           of_sums (accessible_by table (members_in x.held)) (weight_inside (members_in x.held) table) (weight_total table) weights (part_fits catalogue k table (members_in x.held) is) (table_fits catalogue k table is) (q ∙ e)
       go _ (Tries.reads txn number name w) (Some own) q e = cc
       go _ (Tries.writes txn number name value w) (Some own) q e = cc
@@ -218,7 +225,7 @@ module _ (catalogue : Catalogue) (k : IsCatalogue catalogue) (x : SiteState) (sx
   asked_deed : (deed : Deed) (words : Call) → IsCall words → change_asked catalogue words ≡ Some deed → IsDeed deed
   asked_deed deed (call.Write txn number name value) i a = of_record IsDeed name (λ rec. Deed.operates (op.Write rec (Some value))) deed (λ rec r. (r, i.2)) a
   asked_deed deed (call.Delete txn number name) i a = of_record IsDeed name (λ rec. Deed.operates (op.Write rec None)) deed (λ rec r. (r, tt)) a
-  asked_deed deed (call.Weigh txn number name table) i a = of_record IsDeed name (λ rec. Deed.weighs rec table) deed (λ rec r. (r, table_of_call table i.2)) a
+  asked_deed deed (call.Weigh txn number name table) i a = of_record IsDeed name (λ rec. Deed.weighs rec table) deed (λ rec r. (r, i.2)) a
   asked_deed deed (call.Read txn number name) i a = cc
   asked_deed deed (call.Commit txn number) i a = cc
   asked_deed deed (call.Abort txn number) i a = cc
@@ -420,6 +427,7 @@ module _ (catalogue : Catalogue) (k : IsCatalogue catalogue) (x : SiteState) (sx
   closes_over t _ (Closes.held_here was p name rec exclusive holder h n e m f) = (next_over t was p h n e, (named_is p.call name m (next_call was p n).1, own_id, conflict_is rec exclusive was.txn x.here.locks holder sx.locks_are f))
   closes_over t _ (Closes.held_there p txn number from name holder h e m c) = let q = came_is given from (message.Refuse txn number (obstacle.Held holder)) came c in (live_over catalogue t (own_live t h), (named_is p.call name m (pending_at t p h e).words_are, q.0, q.1.1))
   closes_over t _ (Closes.other_view txn number from now h c) = let q = came_is given from (message.Refuse txn number (obstacle.OtherView now)) came c in let i = own_live t h in (live_over catalogue t i, (q.0, i.view_is, q.1.1))
+  closes_over t _ (Closes.barred_there p txn number from name inside total h e m c) = let q = came_is given from (message.Refuse txn number (obstacle.Barred inside total)) came c in (live_over catalogue t (own_live t h), (named_is p.call name m (pending_at t p h e).words_are, q.1.1.1, q.1.1.2))
   closes_over t _ (Closes.left h) = let i = own_live t h in (live_over catalogue t i, (own_id, i.view_is, tt))
   closes_over t _ (Closes.timed_out h e) = let i = own_live t h in (live_over catalogue t i, missing_is t.pending i.pending_is e)
 

@@ -1,6 +1,6 @@
 -- A site and the effects of its step so far are well formed, and stay so after a single change.
-use Rattle.std.proofs.Common.{◌≡◌, ◌<◌, ◌∙◌, ℕ, suc, ◌^◌, Bool, false, cond, List, [], ◌∷◌, ◌++◌, map}
-use Rattle.std.specs.Prelude.{Option, Some, None, IfSome, fold, nat_lt, ◌==◌, ◌||◌}
+use Rattle.std.proofs.Common.{◌≡◌, ◌<◌, ◌∙◌, subst, ℕ, suc, ◌^◌, Bool, true, false, cond, List, [], ◌∷◌, ◌++◌, map}
+use Rattle.std.specs.Prelude.{Option, Some, None, IfSome, option_map, find, fold, nat_lt, ◌==◌, ◌||◌}
 use Rattle.std.specs.List.{AllByRecursion}
 use Rattle.vp_base.specs.Identifiers.{IsView, IsTxn}
 use Rattle.vp_bytes.specs.Fields.{IsSite, IsOwner}
@@ -15,13 +15,13 @@ use Rattle.vp_model.specs.Words.{for_each, value_at, change_at, replace_at, same
 use Rattle.vp_model.specs.Catalogue.{Catalogue, Table}
 use Rattle.vp_model.specs.Durable.{with_put, with_new_table, changed, with_writes, doubt_of}
 use Rattle.vp_model.specs.Locks.{lesser, conflict, holds, raised, with_lock}
-use Rattle.vp_model.specs.Site.{ViewState, ParticipantState, CoordinatorState, SiteState, Stepped, with_entry, with_commit, with_reply, with_message, with_sent, letters, with_each_message, change_views, change_locks, change_copies, change_participant, change_refresh}
+use Rattle.vp_model.specs.Site.{Bars, change_bars, ViewState, ParticipantState, CoordinatorState, SiteState, Stepped, with_entry, with_commit, with_reply, with_message, with_sent, letters, with_each_message, change_views, change_locks, change_copies, change_participant, change_refresh}
 use Rattle.vp_model.specs.Refresh.{newer, newest}
 use Rattle.vp_model.specs.Messages.{with_answer}
 use Rattle.vp_model.specs.Step.{known}
 use Rattle.vp_laws.proofs.Lists.Members.{find_has}
 use Rattle.vp_laws.proofs.Lists.Changes.{value_has}
-use Rattle.vp_laws.specs.Shapes.{IsMessage, IsAnswer, IsStored, IsDoubt, AreCopies, AreDoubts, AreViews, IsLock, IsPart, IsRefreshing, IsCoordinator, IsShaped, IsShort, IsSent, IsReply, AreShaped}
+use Rattle.vp_laws.specs.Shapes.{IsBar, IsMessage, IsAnswer, IsStored, IsDoubt, AreCopies, AreDoubts, AreViews, IsLock, IsPart, IsRefreshing, IsCoordinator, IsShaped, IsShort, IsSent, IsReply, AreShaped}
 use Rattle.vp_laws.proofs.Lists.Items.{all_at, all_append, all_and_one, all_filter, all_put, all_map}
 use Rattle.vp_laws.proofs.Lists.Keeps.{by_test}
 use Rattle.vp_records.proofs.Held.{changed_keys, replaced_keys}
@@ -64,42 +64,49 @@ module _ (catalogue : Catalogue) (x : SiteState) (o : Stepped) (p : Forms catalo
 
   pub with_views : (f : ViewState → ViewState) → AreViews (f o.site.views) → Forms catalogue x (change_views f o)
   with_views f v = let s = p.site_is in record {
-    site_is = record { listed = s.listed; lived = s.lived; life_fits = s.life_fits; views_are = v; locks_are = s.locks_are; copies_are = s.copies_are; parts_are = s.parts_are; doubts_are = s.doubts_are; refresh_are = s.refresh_are; coordinator_is = s.coordinator_is };
+    site_is = record { listed = s.listed; lived = s.lived; life_fits = s.life_fits; views_are = v; locks_are = s.locks_are; copies_are = s.copies_are; bars_are = s.bars_are; parts_are = s.parts_are; doubts_are = s.doubts_are; refresh_are = s.refresh_are; coordinator_is = s.coordinator_is };
     same = p.same;
     gives = p.gives;
   }
 
   pub with_locks : (f : List Lock → List Lock) → AllByRecursion IsLock (f o.site.here.locks) → Forms catalogue x (change_locks f o)
   with_locks f v = let s = p.site_is in record {
-    site_is = record { listed = s.listed; lived = s.lived; life_fits = s.life_fits; views_are = s.views_are; locks_are = v; copies_are = s.copies_are; parts_are = s.parts_are; doubts_are = s.doubts_are; refresh_are = s.refresh_are; coordinator_is = s.coordinator_is };
+    site_is = record { listed = s.listed; lived = s.lived; life_fits = s.life_fits; views_are = s.views_are; locks_are = v; copies_are = s.copies_are; bars_are = s.bars_are; parts_are = s.parts_are; doubts_are = s.doubts_are; refresh_are = s.refresh_are; coordinator_is = s.coordinator_is };
     same = p.same;
     gives = p.gives;
   }
 
   pub with_copies : (f : List (ℕ × Stored) → List (ℕ × Stored)) → AreCopies catalogue o.site.id (f o.site.here.copies) → Forms catalogue x (change_copies f o)
   with_copies f v = let s = p.site_is in record {
-    site_is = record { listed = s.listed; lived = s.lived; life_fits = s.life_fits; views_are = s.views_are; locks_are = s.locks_are; copies_are = v; parts_are = s.parts_are; doubts_are = s.doubts_are; refresh_are = s.refresh_are; coordinator_is = s.coordinator_is };
+    site_is = record { listed = s.listed; lived = s.lived; life_fits = s.life_fits; views_are = s.views_are; locks_are = s.locks_are; copies_are = v; bars_are = s.bars_are; parts_are = s.parts_are; doubts_are = s.doubts_are; refresh_are = s.refresh_are; coordinator_is = s.coordinator_is };
+    same = p.same;
+    gives = p.gives;
+  }
+
+  pub with_bars : (f : Bars → Bars) → AllByRecursion IsBar (f o.site.here.bars) → Forms catalogue x (change_bars f o)
+  with_bars f v = let s = p.site_is in record {
+    site_is = record { listed = s.listed; lived = s.lived; life_fits = s.life_fits; views_are = s.views_are; locks_are = s.locks_are; copies_are = s.copies_are; bars_are = v; parts_are = s.parts_are; doubts_are = s.doubts_are; refresh_are = s.refresh_are; coordinator_is = s.coordinator_is };
     same = p.same;
     gives = p.gives;
   }
 
   pub with_participant : (f : ParticipantState → ParticipantState) → AllByRecursion IsPart (f o.site.participant).parts → AreDoubts (f o.site.participant).doubts → Forms catalogue x (change_participant f o)
   with_participant f v d = let s = p.site_is in record {
-    site_is = record { listed = s.listed; lived = s.lived; life_fits = s.life_fits; views_are = s.views_are; locks_are = s.locks_are; copies_are = s.copies_are; parts_are = v; doubts_are = d; refresh_are = s.refresh_are; coordinator_is = s.coordinator_is };
+    site_is = record { listed = s.listed; lived = s.lived; life_fits = s.life_fits; views_are = s.views_are; locks_are = s.locks_are; copies_are = s.copies_are; bars_are = s.bars_are; parts_are = v; doubts_are = d; refresh_are = s.refresh_are; coordinator_is = s.coordinator_is };
     same = p.same;
     gives = p.gives;
   }
 
   pub with_refresh : (f : List Refreshing → List Refreshing) → AllByRecursion IsRefreshing (f o.site.refresh) → Forms catalogue x (change_refresh f o)
   with_refresh f v = let s = p.site_is in record {
-    site_is = record { listed = s.listed; lived = s.lived; life_fits = s.life_fits; views_are = s.views_are; locks_are = s.locks_are; copies_are = s.copies_are; parts_are = s.parts_are; doubts_are = s.doubts_are; refresh_are = v; coordinator_is = s.coordinator_is };
+    site_is = record { listed = s.listed; lived = s.lived; life_fits = s.life_fits; views_are = s.views_are; locks_are = s.locks_are; copies_are = s.copies_are; bars_are = s.bars_are; parts_are = s.parts_are; doubts_are = s.doubts_are; refresh_are = v; coordinator_is = s.coordinator_is };
     same = p.same;
     gives = p.gives;
   }
 
   pub with_coordinator : (c : CoordinatorState) → IsCoordinator catalogue c → Forms catalogue x (record o { site = record o.site { coordinator = c } })
   with_coordinator c v = let s = p.site_is in record {
-    site_is = record { listed = s.listed; lived = s.lived; life_fits = s.life_fits; views_are = s.views_are; locks_are = s.locks_are; copies_are = s.copies_are; parts_are = s.parts_are; doubts_are = s.doubts_are; refresh_are = s.refresh_are; coordinator_is = v };
+    site_is = record { listed = s.listed; lived = s.lived; life_fits = s.life_fits; views_are = s.views_are; locks_are = s.locks_are; copies_are = s.copies_are; bars_are = s.bars_are; parts_are = s.parts_are; doubts_are = s.doubts_are; refresh_are = s.refresh_are; coordinator_is = v };
     same = p.same;
     gives = p.gives;
   }
@@ -127,6 +134,14 @@ some_at P o a h e = rw e at h
 
 pub conflict_is : (rec : ℕ) (exclusive : Bool) (txn : TxnId) (locks : List Lock) (holder : Owner) → AllByRecursion IsLock locks → conflict rec exclusive txn locks ≡ Some holder → IsOwner holder
 conflict_is rec exclusive txn locks holder h e = some_at IsOwner _ holder (least_is None _ tt (all_filter IsLock _ locks h)) e
+
+pub bar_is : (rec : ℕ) (bar : ℕ × ℕ) (bars : Bars) → AllByRecursion IsBar bars → value_at rec bars ≡ Some bar → (bar.0 < 2 ^ 32) × (bar.1 < 2 ^ 32)
+bar_is rec bar [] h e = cc
+bar_is rec bar (b ∷ bars) h e = go (b.0 == rec) e
+  where
+    go : (c : Bool) → option_map (λ (p : ℕ × (ℕ × ℕ)). p.1) (cond c (Some b) (find (λ (p : ℕ × (ℕ × ℕ)). p.0 == rec) bars)) ≡ Some bar → (bar.0 < 2 ^ 32) × (bar.1 < 2 ^ 32)
+    go true q = let same : b.1 ≡ bar = cc in subst (λ (k : ℕ × ℕ). (k.0 < 2 ^ 32) × (k.1 < 2 ^ 32)) same h.0
+    go false q = bar_is rec bar bars h.1 q
 
 -- ---- copies
 

@@ -1,5 +1,5 @@
 -- The moves of refresh and of parts of other sites' transactions keep a site well formed.
-use Rattle.std.proofs.Common.{◌≡◌, ℕ, Bool, true, false, List, [], map, refl, subst, ◌∙◌}
+use Rattle.std.proofs.Common.{◌≡◌, ◌<◌, ◌^◌, ℕ, Bool, true, false, List, [], map, refl, subst, ◌∙◌}
 use Rattle.std.specs.Prelude.{Option, Some, None, IfSome, filter, not, option_map, is_some, ◌==◌, nat_lt}
 use Rattle.std.specs.List.{AllByRecursion}
 use Rattle.vp_base.specs.Identifiers.{IsView, IsTxn}
@@ -11,25 +11,25 @@ use Rattle.vp_model.specs.Types.log_record
 use Rattle.vp_model.specs.Types.message
 use Rattle.vp_model.specs.Types.owner
 use Rattle.vp_model.specs.Words.{same_txn, txn_before, keys, value_at, replace_at, put}
-use Rattle.vp_model.specs.Catalogue.{Catalogue}
+use Rattle.vp_model.specs.Catalogue.{Catalogue, Table, table_or, weight_inside, weight_total}
 use Rattle.vp_model.specs.Durable.{doubt_of, with_outcome}
 use Rattle.vp_model.specs.Locks.{with_lock, without_owner, with_guard, without_guard}
 use Rattle.vp_model.specs.Site.{SiteState, ParticipantState, Stepped, begin_step, force, send, change_locks, change_participant, change_refresh, with_sent}
-use Rattle.vp_model.specs.Refresh.{other_holders, refreshing_of, unanswered, newest, take_newer, unlist, end_refresh, start_refresh}
+use Rattle.vp_model.specs.Refresh.{other_holders, refreshing_of, unanswered, members, newest, with_bar, unlist, end_refresh, start_refresh}
 use Rattle.vp_model.specs.Views.{part_of}
 use Rattle.vp_model.specs.Messages.{put_part, with_part, grant, with_vote, with_new_doubt, with_ended, acknowledge, end_here, with_answer}
 use Rattle.vp_model.specs.Step.{known}
 use Rattle.vp_laws.proofs.Lists.Members.{Has, find_has, all_of}
 use Rattle.vp_laws.proofs.Moves.Table.{Comes, Requests, Asks, Joined, SendsBack, sent_back_for, AsksAgain}
-use Rattle.vp_laws.specs.Shapes.{IsMessage, IsShort, IsDoubt, IsInput, IsStored, AreCopies, IsLock, IsPart, IsRefreshing, IsShaped, IsSent}
+use Rattle.vp_laws.specs.Shapes.{IsMessage, IsShort, IsDoubt, IsInput, IsStored, AreCopies, IsLock, IsPart, IsRefreshing, IsShaped, IsSent, IsBar}
 use Rattle.vp_laws.proofs.Lists.Items.{all_at, all_filter, all_put, all_map}
 use Rattle.vp_laws.proofs.Shapes.Numbers.{each_site, ascending_filter}
 use Rattle.vp_laws.proofs.Shapes.Doubts.{put_doubts, fewer_doubts}
-use Rattle.vp_laws.proofs.Shapes.Catalogue.{others_ascend, held_is}
-use Rattle.vp_laws.proofs.Shapes.Moves.{Forms, gives_entry, gives_sent, with_gives, with_locks, with_copies, with_participant, with_refresh, some_at, with_lock_is, conflict_is, replace_is, writes_are, copy_is, newest_is, answer_is, doubt_is, known_are}
+use Rattle.vp_laws.proofs.Shapes.Catalogue.{others_ascend, held_is, inside_fits, total_fits, table_fits, part_fits}
+use Rattle.vp_laws.proofs.Shapes.Moves.{Forms, gives_entry, gives_sent, with_gives, with_locks, with_copies, with_bars, with_participant, with_refresh, some_at, with_lock_is, conflict_is, bar_is, replace_is, writes_are, copy_is, newest_is, answer_is, doubt_is, known_are}
 use Rattle.vp_laws.proofs.Shapes.Views.{came_is, starts, sends, sends_all}
 use Rattle.vp_laws.proofs.Lists.Keeps.{by_test}
-use Rattle.vp_laws.proofs.Moves.Frames.{take-cases}
+use Rattle.vp_laws.proofs.Moves.Frames.{judging, judged, take-cases}
 
 module _ (catalogue : Catalogue) (k : IsCatalogue catalogue) (x : SiteState) (sx : IsShaped catalogue x) (given : Input) (came : IsInput given) where
   abbrev F : Stepped → Type 0
@@ -53,17 +53,25 @@ module _ (catalogue : Catalogue) (k : IsCatalogue catalogue) (x : SiteState) (sx
       let b = with_refresh catalogue x _ a (put (λ a b. a.rec == b.rec) (λ a b. nat_lt a.rec b.rec) (record { rec = rec; answers = [] })) (all_put IsRefreshing (λ a b. a.rec == b.rec) (λ a b. nat_lt a.rec b.rec) (record { rec = rec; answers = [] }) o.site.refresh (r, tt) s.refresh_are) in
       sends_all catalogue k x sx given came (message.RefreshRequest view.id rec) (other_holders catalogue o.site rec) _ b (each_site _ (others_ascend catalogue k o.site.id o.site.held rec)) (v, r) tt
 
-  takes_newer : (rec : ℕ) (own best : Stored) (o : Stepped) → IsRecord rec → IsStored best → F o → F (take_newer rec own best o)
-  takes_newer rec own best o r i p =
-      let a = with_copies catalogue x o p (replace_at rec best) (replace_is catalogue o.site.id rec best o.site.here.copies i p.site_is.copies_are) in
-      take-cases F rec own best o (with_gives catalogue x _ a _ (gives_entry x.id _ a.gives (log_record.Copy rec best) (r, i))) p
+  -- the sums by a table of a copy fit
+  sums_fit : (rec : ℕ) (table : Option Table) (members : List ℕ) → IsMaybeTable versions.Second table → IsBar (rec, (weight_inside members (table_or catalogue rec table), weight_total (table_or catalogue rec table)))
+  sums_fit rec None members i = (inside_fits catalogue k rec members, total_fits catalogue k rec)
+  sums_fit rec (Some table) members i = (part_fits catalogue k table members i.1, table_fits catalogue k table i.1)
+
+  takes_newer : (r : Refreshing) (own : Stored) (o : Stepped) → IsRecord r.rec → IsStored (newest own r.answers) → F o → F (judged catalogue r own o)
+  takes_newer r own o n i p =
+      let best = newest own r.answers in
+      let a = with_copies catalogue x o p (replace_at r.rec best) (replace_is catalogue o.site.id r.rec best o.site.here.copies i p.site_is.copies_are) in
+      let bar = (weight_inside (members o.site) (judging catalogue r own), weight_total (judging catalogue r own)) in
+      take-cases F catalogue r own o (with_gives catalogue x _ a _ (gives_entry x.id _ a.gives (log_record.Copy r.rec best) (n, i))) p
+      (with_bars catalogue x o p (with_bar r.rec (judging catalogue r own) (members o.site)) (all_put IsBar (λ (a : ℕ × (ℕ × ℕ)) (b : ℕ × (ℕ × ℕ)). a.0 == b.0) (λ (a : ℕ × (ℕ × ℕ)) (b : ℕ × (ℕ × ℕ)). nat_lt a.0 b.0) (r.rec, bar) o.site.here.bars (sums_fit r.rec best.table (members o.site) i.1) p.site_is.bars_are))
 
   pub ends_refresh : (rec : ℕ) (r : Refreshing) (own : Stored) (o : Stepped) → refreshing_of rec o.site.refresh ≡ Some r → value_at r.rec o.site.copies ≡ Some own → F o → F (end_refresh catalogue r own o)
   unfolding end_refresh unlist
   ends_refresh rec r own o f e p =
       let i : IsRefreshing r = all_at IsRefreshing o.site.refresh p.site_is.refresh_are r (find_has (λ r. r.rec == rec) o.site.refresh r f) in
       let stored = copy_is o.site.here.copies r.rec own p.site_is.copies_are.stored e in
-      let a = takes_newer r.rec own (newest own r.answers) o i.0 (newest_is own r.answers stored i.1) p in
+      let a = takes_newer r own o i.0 (newest_is own r.answers stored i.1) p in
       let b = with_locks catalogue x _ a (without_guard r.rec) (all_filter IsLock _ _ a.site_is.locks_are) in
       with_refresh catalogue x _ b (filter (λ other. not (other.rec == r.rec))) (all_filter IsRefreshing _ _ b.site_is.refresh_are)
 
@@ -125,6 +133,7 @@ module _ (catalogue : Catalogue) (k : IsCatalogue catalogue) (x : SiteState) (sx
       (m.0, (m.1, i))
   back_is from _ (SendsBack.refuse_view txn view number a e) = (numbered txn view number (asks_is from txn view number a), now_is x.held sx.views_are.held_is)
   back_is from _ (SendsBack.refuse_lock txn view number rec exclusive holder r e n c) = (numbered txn view number (requests_is from txn view number rec exclusive r), conflict_is rec exclusive txn x.here.locks holder sx.locks_are c)
+  back_is from _ (SendsBack.refuse_bar txn view number rec exclusive bar r e n b) = let q = bar_is rec bar x.here.bars sx.bars_are b in (numbered txn view number (requests_is from txn view number rec exclusive r), (refl, q.0, q.1))
   back_is from _ (SendsBack.doubt_again txn view number reads writes c e n d) = (came_is given from (message.Prepare txn view number reads writes) came c).1.0.0
   back_is from _ (SendsBack.vote_again txn view number reads writes part c e n f v) = (part_of_is txn part f).0
   back_is from _ (SendsBack.answer_inquiry txn c s n) = (came_is given from (message.Inquire txn) came c).1
@@ -135,6 +144,7 @@ module _ (catalogue : Catalogue) (k : IsCatalogue catalogue) (x : SiteState) (sx
   back_short from _ (SendsBack.answer_refresh view rec stored c e d v) = tt
   back_short from _ (SendsBack.refuse_view txn view number a e) = tt
   back_short from _ (SendsBack.refuse_lock txn view number rec exclusive holder r e n c) = tt
+  back_short from _ (SendsBack.refuse_bar txn view number rec exclusive bar r e n b) = tt
   back_short from _ (SendsBack.doubt_again txn view number reads writes c e n d) = tt
   back_short from _ (SendsBack.vote_again txn view number reads writes part c e n f v) = tt
   back_short from _ (SendsBack.answer_inquiry txn c s n) = tt

@@ -24,7 +24,7 @@ use Rattle.vp_laws.specs.Shapes.{IsMessage, IsShort, IsInput, IsInviting, AreVie
 use Rattle.vp_laws.proofs.Lists.Items.{all_filter}
 use Rattle.vp_laws.proofs.Shapes.Numbers.{each_site, put_sites, put_some, some_sites}
 use Rattle.vp_laws.proofs.Shapes.Catalogue.{listed_is, other_sites_are}
-use Rattle.vp_laws.proofs.Shapes.Moves.{Forms, gives_entry, gives_message, gives_each, gives_reply, with_gives, with_views, with_locks, with_participant, with_refresh, some_at}
+use Rattle.vp_laws.proofs.Shapes.Moves.{Forms, gives_entry, gives_message, gives_each, gives_reply, with_gives, with_views, with_locks, with_participant, with_refresh, with_bars, some_at}
 use Rattle.vp_laws.proofs.Lists.Keeps.{by_test}
 
 -- what came has its form
@@ -65,7 +65,8 @@ module _ (catalogue : Catalogue) (k : IsCatalogue catalogue) (x : SiteState) (sx
       let a = with_locks catalogue x o p (filter (outlasts o.site.participant)) (all_filter IsLock (outlasts o.site.participant) o.site.here.locks s.locks_are) in
       let b = with_participant catalogue x _ a without_parts tt s.doubts_are in
       let c = with_refresh catalogue x _ b (λ refresh. []) tt in
-      with_views catalogue x _ c without_view (record { promise_is = v.promise_is; seen_fits = v.seen_fits; held_is = tt; waiting_is = tt; inviting_is = tt })
+      let d = with_bars catalogue x _ c (λ bars. []) tt in
+      with_views catalogue x _ d without_view (record { promise_is = v.promise_is; seen_fits = v.seen_fits; held_is = tt; waiting_is = tt; inviting_is = tt })
 
   pub invites : (o : Stepped) → is_spent x.views ≡ false → F o → F (start_inviting catalogue (next_view x) o)
   unfolding start_inviting

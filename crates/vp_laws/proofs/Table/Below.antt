@@ -11,7 +11,7 @@ use Rattle.vp_model.specs.Catalogue.{Catalogue}
 use Rattle.vp_model.specs.Durable.{doubt_of, with_writes}
 use Rattle.vp_model.specs.Site.{Here, ViewState, ParticipantState, send, change_participant, change_refresh, SiteState, Lent, Stepped, begin_step, lent, put_back, letters, force}
 use Rattle.vp_model.specs.Transactions.{last_changes, entry_of, keep_writes, complete, writes_held}
-use Rattle.vp_model.specs.Refresh.{refreshing_of, newest, take_newer, unlist, end_refresh, start_refresh, other_holders}
+use Rattle.vp_model.specs.Refresh.{refreshing_of, newest, unlist, end_refresh, start_refresh, other_holders}
 use Rattle.vp_model.specs.Views.{other_sites, drop_view, start_inviting, hold}
 use Rattle.vp_model.specs.Calls.{start_txn, take_lock, read_at, write_at, prepare_parts, prepare_for}
 use Rattle.vp_model.specs.Messages.{with_accepted, with_seen, holds_view, accept, on_accept, on_stale, with_heard, with_part, with_vote, with_new_doubt, with_ended, with_answer, grant, end_here}
@@ -19,7 +19,7 @@ use Rattle.vp_model.specs.Step.{step, with_monitor, fix, without_wait, probe_all
 use Rattle.vp_laws.proofs.Lists.Members.{Has, has_none, has_one_is, has_cases, filter_has, find_has, map_has, both_true}
 use Rattle.vp_laws.proofs.Lists.Views.{AtMost, AtMost-same, AtMost-trans, AtMost-along, Precedes-at_most, from_before, is_view_is, same_is}
 use Rattle.vp_laws.proofs.Lists.Changes.{put_has, replace_has, writes_has, value_has, newest_at_most}
-use Rattle.vp_laws.proofs.Moves.Frames.{Ends, close-ends, decided-ends, decide-cases, take-cases}
+use Rattle.vp_laws.proofs.Moves.Frames.{Ends, close-ends, decided-ends, decide-cases, judged, take-cases}
 use Rattle.vp_laws.proofs.Moves.Table.{Comes, next_view, lent_at, Left, Asks, Handled, Back, SendsBack, Table, AsksAgain}
 use Rattle.vp_laws.proofs.Moves.Rows.{step-keeps}
 use Rattle.vp_laws.proofs.Moves.LocalViews.{letter, Tidy}
@@ -222,27 +222,31 @@ module _ (catalogue : Catalogue) (x : SiteState) (given : Input) (tidy : Tidy x)
       })
       refl (letters_undated o.site.id (λ q. message.RefreshRequest view.id rec) (other_holders catalogue o.site rec) (λ q. refl)) l
 
-  takes_newer : (rec : ℕ) (own best : Stored) (o : Stepped) → AtMost best.date o.site.promise → Lies x o → Lies x (take_newer rec own best o)
-  takes_newer rec own best o up l = take-cases (Lies x) rec own best o (record { id = l.id; below = newer; sent = l.sent }) l
+  takes_newer : (r : Refreshing) (own : Stored) (o : Stepped) → AtMost (newest own r.answers).date o.site.promise → Lies x o → Lies x (judged catalogue r own o)
+  takes_newer r own o up l = take-cases (Lies x) catalogue r own o (record { id = l.id; below = newer; sent = l.sent }) l
+      (record { id = l.id; below = record { parts = l.below.parts; doubts = l.below.doubts; copies = l.below.copies; answers = l.below.answers }; sent = l.sent })
     where
-      newer : Below (record o.site { here = record o.site.here { copies = replace_at rec best o.site.here.copies } })
+      best : Stored
+      best = newest own r.answers
+
+      newer : Below (record o.site { here = record o.site.here { copies = replace_at r.rec best o.site.here.copies } })
       newer = record {
         parts = l.below.parts;
         doubts = l.below.doubts;
-        copies = λ c h. ⊎_elim (λ (e : c.1 ≡ best). rw e up) (λ old. l.below.copies c old) (replace_has rec best o.site.here.copies c h);
+        copies = λ c h. ⊎_elim (λ (e : c.1 ≡ best). rw e up) (λ old. l.below.copies c old) (replace_has r.rec best o.site.here.copies c h);
         answers = l.below.answers;
       }
 
   ends_refresh : (rec : ℕ) (r : Refreshing) (own : Stored) (o : Stepped) → refreshing_of rec o.site.refresh ≡ Some r → value_at r.rec o.site.copies ≡ Some own → Lies x o → Lies x (end_refresh catalogue r own o)
-  unfolding end_refresh unlist take_newer
+  unfolding end_refresh unlist
   ends_refresh rec r own o e v l =
       let listed = find_has (λ (q : Refreshing). q.rec == rec) o.site.refresh r e in
       let c = value_has r.rec o.site.copies own v in
       let mine : AtMost own.date o.site.promise = AtMost-along (l.below.copies c.0 c.1) (ap (λ (s : Stored). s.date) (sym c.2)) refl in
       let up = newest_at_most o.site.promise own r.answers mine (λ a k. l.below.answers r a listed k) in
-      silent (take_newer r.rec own (newest own r.answers) o) _
+      silent (judged catalogue r own o) _
       (record { id = refl; promise = refl; held = refl; parts = refl; doubts = refl; copies = refl; refresh = λ q s h k. (q, (filter_has (λ (other : Refreshing). not (other.rec == r.rec)) _ q h).0, k) }) refl
-      (takes_newer r.rec own (newest own r.answers) o up l)
+      (takes_newer r own o up l)
 
   -- the held view, and its identifier is the promise
   held_is : (view : ViewId) → holds_view x view ≡ true → (v : View) × (x.held ≡ Some v) × (v.id ≡ view)
@@ -377,11 +381,11 @@ module _ (catalogue : Catalogue) (x : SiteState) (given : Input) (tidy : Tidy x)
     fix = λ view c e. fixes view e;
     without_wait = λ id c i w. silent (begin_step x) _ (views_but (without_wait x.views) refl refl) refl begins;
     probe = λ view c e. beside (begin_step x) (probe_all catalogue view (begin_step x)) _ (views_but (with_monitor x.views) refl refl) refl (letters_undated x.id (λ q. message.Probe view.id) (other_sites catalogue x.id) (λ q. refl)) begins;
-    start_refresh = λ view rec o e a h l. starts_refresh view rec o l;
+    start_refresh = λ view rec o e h l. starts_refresh view rec o l;
     end_refresh = λ rec r own o e a d v l. ends_refresh rec r own o e v l;
     keep_answer = λ from view rec stored r c e f g. keeps_answer from rec view stored (dated from view rec stored c) e;
-    grant_read = λ from txn view number rec stored c e n v f. grants from txn view number rec false (message.ReadAnswer txn number stored.value) (Asks.reads rec c) e refl;
-    grant_write = λ from txn view number rec stored c e n v f. grants from txn view number rec true (message.WriteAnswer txn number) (Asks.writes rec c) e refl;
+    grant_read = λ from txn view number rec stored c e n v f u. grants from txn view number rec false (message.ReadAnswer txn number stored.value) (Asks.reads rec c) e refl;
+    grant_write = λ from txn view number rec stored c e n v f u. grants from txn view number rec true (message.WriteAnswer txn number) (Asks.writes rec c) e refl;
     vote_reading = λ from txn view number reads writes part c e n d f v a w. votes_reading from part (part_there txn x.parts part f);
     vote_writing = λ from txn view number reads writes part c e n d f v a w. votes_writing from part writes (part_there txn x.parts part f);
     end_here = λ from txn commit c. ends_here from txn commit (doubt_of txn x.doubts) refl;

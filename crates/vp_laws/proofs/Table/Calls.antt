@@ -15,7 +15,7 @@ use Rattle.vp_model.specs.Words.{same_txn, change_first, without_first, first, i
 use Rattle.vp_model.specs.Catalogue.{Catalogue, Table as Weights, find_record}
 use Rattle.vp_model.specs.Site.{CoordinatorState, SiteState, Lent, lent_reply}
 use Rattle.vp_model.specs.Transactions.{Deed, deed_answer, last_changes, entry_of, finished_of, last_writes, keep_writes, close, decide, complete}
-use Rattle.vp_model.specs.Refresh.{is_open, other_holders}
+use Rattle.vp_model.specs.Refresh.{other_holders}
 use Rattle.vp_model.specs.Calls.{handled, handling, with_record, take_lock, lock_here, answer_read, read, read_at, change_elsewhere, change, new_change, is_bad_table, is_too_large, short, write_at, commit, prepare_parts, new_call, live_call, finished_call, on_txn_call, own_call, on_call}
 use Rattle.vp_model.specs.Step.{on_input, step}
 use Rattle.vp_model.specs.Told.{is_early_refusal}
@@ -47,9 +47,9 @@ pub data IsCallOf (txn : TxnId) (number : ℕ) : Call → Type 0 where
   of_commit : IsCallOf txn number (call.Commit txn number)
   of_abort : IsCallOf txn number (call.Abort txn number)
 
--- a record that may be used has a copy here or at another site of the view
+-- a record that the tests let through has a copy here or at another site of the view
 abbrev pub HasHolders : Catalogue → SiteState → Type 0
-HasHolders catalogue x = (rec : ℕ) → is_open catalogue x rec ≡ true → value_at rec x.copies ≡ None → (q : ℕ) × (first (other_holders catalogue x rec) ≡ Some q)
+HasHolders catalogue x = (rec : ℕ) (deed : Deed) → short catalogue x.held x.bars rec deed ≡ None → value_at rec x.copies ≡ None → (q : ℕ) × (first (other_holders catalogue x rec) ≡ Some q)
 
 -- where there is a first one
 by_first : (P : Lent → Type 0) (o : Option ℕ) (f : ℕ → Lent → Lent) (b : Lent) → (q : ℕ) × (o ≡ Some q) → ((q : ℕ) → P (f q b)) → P (for_some o f b)
@@ -106,14 +106,14 @@ module _ (catalogue : Catalogue) (x : SiteState) (port : ℕ) (txn : TxnId) (num
     elsewhere name rec =
         option_map_or (λ stored. lock_here x.id t p name rec false (answer_read t p rec stored.value) (lent_at x)) (value_at rec x.copies) (for_some (first (other_holders catalogue x rec)) (read_at x.id t p rec) (lent_at x))
 
-    reads : (name : List ℕ) (rec : ℕ) → is_open catalogue x rec ≡ true → Q (read catalogue x.id x.held t p name rec (lent_at x))
+    reads : (name : List ℕ) (rec : ℕ) → short catalogue x.held x.bars rec (Deed.operates (op.Read rec None)) ≡ None → Q (read catalogue x.id x.held t p name rec (lent_at x))
     unfolding read take_lock read_at
     reads name rec a =
         by_option Q (λ value. answer_read t p rec value (lent_at x)) (value_at rec (last_writes t.ops)) (elsewhere name rec)
         (λ value e. completes (Deed.operates (op.Read rec value)) (lent_at x) refl)
         (λ n. by_option Q _ _ _
         (λ stored e. locks name rec false (answer_read t p rec stored.value) (completes _ (take_lock t.txn rec false (lent_at x)) refl))
-        (λ none. by_first Q (first (other_holders catalogue x rec)) (read_at x.id t p rec) (lent_at x) (holders rec a none) (λ q. takes _ (goes (reading t p rec q) refl (inl refl) x.live refl))))
+        (λ none. by_first Q (first (other_holders catalogue x rec)) (read_at x.id t p rec) (lent_at x) (holders rec (Deed.operates (op.Read rec None)) a none) (λ q. takes _ (goes (reading t p rec q) refl (inl refl) x.live refl))))
 
     changes_elsewhere : (rec : ℕ) (deed : Deed) (l : Lent) → l.live ≡ x.live → Q (change_elsewhere catalogue x.id x.held t p rec deed l)
     unfolding change_elsewhere write_at
@@ -129,12 +129,12 @@ module _ (catalogue : Catalogue) (x : SiteState) (port : ℕ) (txn : TxnId) (num
         (λ stored e. locks name rec true (change_elsewhere catalogue x.id x.held t p rec (asked rec)) (changes_elsewhere rec (asked rec) (take_lock t.txn rec true (lent_at x)) refl))
         (λ none. changes_elsewhere rec (asked rec) (lent_at x) refl))
 
-    uses : (name : List ℕ) (asked : ℕ → Deed) (use_record : ℕ → Lent → Lent) → ((rec : ℕ) → is_open catalogue x rec ≡ true → Q (use_record rec (lent_at x))) → Q (with_record catalogue x.held t p name asked use_record (lent_at x))
+    uses : (name : List ℕ) (asked : ℕ → Deed) (use_record : ℕ → Lent → Lent) → ((rec : ℕ) → short catalogue x.held x.bars rec (asked rec) ≡ None → Q (use_record rec (lent_at x))) → Q (with_record catalogue x.held t p name asked use_record (lent_at x))
     unfolding with_record
     uses name asked use_record used = by_option Q _ (find_record catalogue name) _
         (λ rec e. by_test Q (is_bad_table catalogue (asked rec)) _ _ (λ bad. refused _ refl)
         (λ table. by_test Q (nat_le 64 (length t.answers) || is_too_large t (asked rec)) _ _ (λ many. refused _ refl)
-        (λ fits. by_option Q _ (short catalogue x.held rec (asked rec)) _ (λ weights s. refused _ refl) (λ enough. used rec (open_here catalogue x rec (asked rec) enough)))))
+        (λ fits. by_option Q _ (short catalogue x.held x.bars rec (asked rec)) _ (λ weights s. refused _ refl) (λ enough. used rec enough))))
         (λ none. refused _ refl)
 
     new_changes : (name : List ℕ) (asked : ℕ → Deed) → Q (new_change catalogue x.id x.held t p name asked (lent_at x))

@@ -13,7 +13,7 @@ use Rattle.vp_model.specs.Locks.{without_guard}
 use Rattle.vp_model.specs.Durable.{changed, doubt_of, with_writes}
 use Rattle.vp_model.specs.Site.{Here, SiteState, Lent, Stepped, begin_step, put_back, force, change_copies}
 use Rattle.vp_model.specs.Transactions.{last_changes, entry_of, writes_held, close, keep_writes, decide, complete}
-use Rattle.vp_model.specs.Refresh.{newer, newest, take_newer, unlist, end_refresh, start_refresh, refreshing_of, unanswered}
+use Rattle.vp_model.specs.Refresh.{newer, newest, unlist, end_refresh, start_refresh, refreshing_of, unanswered}
 use Rattle.vp_model.specs.Views.{drop_view, start_inviting, hold}
 use Rattle.vp_model.specs.Calls.{start_txn, take_lock, read_at, write_at, prepare_parts}
 use Rattle.vp_model.specs.Messages.{holds_view, with_answer, accept, on_accept, on_stale, grant, end_here}
@@ -25,7 +25,7 @@ use Rattle.vp_laws.proofs.Lists.Changes.{mapped_has, put_has}
 use Rattle.vp_laws.proofs.Lists.Pairs.{Differ, kept_differ}
 use Rattle.vp_laws.proofs.Journal.LastChanges.{changes_differ}
 use Rattle.vp_laws.proofs.Lists.Views.{is_view_is}
-use Rattle.vp_laws.proofs.Moves.Frames.{close-ends, close-commits, decided-ends, decided-commits, decide-cases}
+use Rattle.vp_laws.proofs.Moves.Frames.{close-ends, close-commits, decided-ends, decided-commits, decide-cases, judged, take-cases}
 use Rattle.vp_laws.proofs.Moves.LocalViews.{Tidy, none_refreshed}
 use Rattle.vp_laws.proofs.Moves.Table.{Comes, Left, lent_at, Back, Table}
 use Rattle.vp_laws.proofs.Moves.Rows.{step-keeps}
@@ -142,20 +142,17 @@ module _ (catalogue : Catalogue) (x : SiteState) (given : Input) (tidy : Tidy x)
   left_none : (o : Stepped) → Left x o → (r : Refreshing) → Has o.site.refresh r → ⊥
   left_none o l r h = has_none r (rw l.refresh at h)
 
-  takes : (r : Refreshing) (own best : Stored) (o : Stepped) → CopyNow catalogue x given o.effects.commits (r.rec, best) → P o → P (take_newer r.rec own best o)
-  unfolding take_newer
-  takes r own best o new p = go (view_before own.date best.date)
-    where
-      go : (b : Bool) → P (cond b (force (log_record.Copy r.rec best) (change_copies (replace_at r.rec best) o)) o)
-      go true = record {
-        copies = λ a h. ⊎_elim (λ (is : a ≡ (r.rec, best)). rw is new) (λ old. p.copies a old) (replaced_from r.rec best o.site.copies a h);
+  takes : (r : Refreshing) (own : Stored) (o : Stepped) → CopyNow catalogue x given o.effects.commits (r.rec, newest own r.answers) → P o → P (judged catalogue r own o)
+  takes r own o new p = take-cases P catalogue r own o
+      (record {
+        copies = λ a h. ⊎_elim (λ (is : a ≡ (r.rec, newest own r.answers)). rw is new) (λ old. p.copies a old) (replaced_from r.rec (newest own r.answers) o.site.copies a h);
         answers = p.answers;
-      }
-      go false = p
+      })
+      p (record { copies = p.copies; answers = p.answers })
 
   finishes : (rec : ℕ) (r : Refreshing) (own : Stored) (o : Stepped) → refreshing_of rec o.site.refresh ≡ Some r → value_at r.rec o.site.copies ≡ Some own → P o → P (end_refresh catalogue r own o)
   unfolding end_refresh unlist
-  finishes rec r own o e v p = removes (take_newer r.rec own (newest own r.answers) o) (takes r own (newest own r.answers) o new p)
+  finishes rec r own o e v p = removes (judged catalogue r own o) (takes r own o new p)
     where
       there : Has o.site.refresh r
       there = find_has (λ (q : Refreshing). q.rec == rec) o.site.refresh r e
@@ -249,11 +246,11 @@ module _ (catalogue : Catalogue) (x : SiteState) (given : Input) (tidy : Tidy x)
     without_wait = λ id c i w. same (begin_step x) _ refl refl refl refl starts;
     probe = λ view c e. same (begin_step x) _ refl refl refl refl starts;
     answers_inviting = λ port c s p. same _ _ refl refl refl refl p;
-    start_refresh = λ view rec o e a h p. refreshes view rec o p;
+    start_refresh = λ view rec o e h p. refreshes view rec o p;
     end_refresh = λ rec r own o e a d v p. finishes rec r own o e v p;
     keep_answer = λ from view rec stored r c e f g. keeps_answer from view rec stored r c e f g;
-    grant_read = λ from txn view number rec stored c e n v f. same (begin_step x) _ refl refl refl refl starts;
-    grant_write = λ from txn view number rec stored c e n v f. same (begin_step x) _ refl refl refl refl starts;
+    grant_read = λ from txn view number rec stored c e n v f u. same (begin_step x) _ refl refl refl refl starts;
+    grant_write = λ from txn view number rec stored c e n v f u. same (begin_step x) _ refl refl refl refl starts;
     vote_reading = λ from txn view number reads writes part c e n d f v a w. same (begin_step x) _ refl refl refl refl starts;
     vote_writing = λ from txn view number reads writes part c e n d f v a w. same (begin_step x) _ refl refl refl refl starts;
     end_here = λ from txn commit c. ends_here from txn commit (doubt_of txn x.doubts) refl c;

@@ -32,7 +32,7 @@ module _ (catalogue : Catalogue) (l : LogRecord) where
 
   ends_refresh : (r : Refreshing) (own : Stored) (o : Stepped) → P o → P (end_refresh catalogue r own o)
   unfolding end_refresh unlist
-  ends_refresh r own o h = take-cases P r.rec own (newest own r.answers) o (has_left o.effects.records _ l h) h
+  ends_refresh r own o h = take-cases P catalogue r own o (has_left o.effects.records _ l h) h h
 
   settles_one : (r : Refreshing) (o : Stepped) → P o → P (settle_one catalogue r o)
   unfolding settle_one

@@ -9,12 +9,12 @@ use Rattle.vp_model.specs.Types.log_record
 use Rattle.vp_model.specs.Types.input
 use Rattle.vp_model.specs.Types.message
 use Rattle.vp_model.specs.Words.{same_txn, put_at, view_before, replace_at, value_at, has, keys, is_empty}
-use Rattle.vp_model.specs.Catalogue.{Catalogue}
+use Rattle.vp_model.specs.Catalogue.{Catalogue, table_or, accessible_by}
 use Rattle.vp_model.specs.Locks.{without_guard}
 use Rattle.vp_model.specs.Durable.{doubt_of, without_doubt}
 use Rattle.vp_model.specs.Site.{Here, SiteState, Lent, Stepped, begin_step, put_back, force, change_copies}
 use Rattle.vp_model.specs.Transactions.{last_changes, entry_of, writes_held, close, keep_writes, decide, complete}
-use Rattle.vp_model.specs.Refresh.{newer, newest, take_newer, unlist, end_refresh, start_refresh, refreshing_of, unanswered, is_doubtful}
+use Rattle.vp_model.specs.Refresh.{members, newer, newest, unlist, end_refresh, start_refresh, refreshing_of, unanswered, is_doubtful}
 use Rattle.vp_model.specs.Views.{drop_view, start_inviting, hold}
 use Rattle.vp_model.specs.Calls.{start_txn, take_lock, read_at, write_at, prepare_parts}
 use Rattle.vp_model.specs.Messages.{holds_view, with_answer, accept, on_accept, on_stale, grant, end_here}
@@ -23,7 +23,7 @@ use Rattle.vp_laws.proofs.Lists.Members.{Has, has_none, has_one, has_one_is, has
 use Rattle.vp_model.proofs.SameTxn.{same_txn-is, same_txn-clash}
 use Rattle.vp_laws.proofs.Lists.Changes.{put_has}
 use Rattle.vp_laws.proofs.Lists.Views.{AtMost, AtMost-refl, AtMost-trans, Precedes-at_most, from_before, is_view_is}
-use Rattle.vp_laws.proofs.Moves.Frames.{close-ends, close-commits, decided-ends, decided-commits, decide-cases}
+use Rattle.vp_laws.proofs.Moves.Frames.{close-ends, close-commits, decided-ends, decided-commits, decide-cases, judging, judged, judged-cases}
 use Rattle.vp_laws.proofs.Moves.LocalViews.{Tidy, none_refreshed}
 use Rattle.vp_laws.proofs.Moves.Table.{Comes, Left, lent_at, Back, Table}
 use Rattle.vp_laws.specs.Decisions.{dated_at}
@@ -47,7 +47,8 @@ pub data OwnCopy (catalogue : Catalogue) (x : SiteState) (given : Input) (doubts
 abbrev pub Certain : List Doubt → ℕ → Type 0
 Certain doubts rec = (d : Doubt) → Has doubts d → Has (keys d.writes) rec → ⊥
 
--- a refresh of the record has ended in the view of the start: each other holder has answered, and the copy is as new as each answer
+-- a refresh of the record has ended in the view of the start: each other holder has answered, the copy is as new as each answer, and by its
+-- table the members have more than half of the weight
 pub record Refreshed (catalogue : Catalogue) (x : SiteState) (given : Input) (doubts : List Doubt) (rec : ℕ) (c : Stored) : Type 0 where
   pub r : Refreshing
   pub answers : (k : ℕ × Stored) → Has r.answers k → AnswerNow catalogue x given rec k
@@ -57,6 +58,7 @@ pub record Refreshed (catalogue : Catalogue) (x : SiteState) (given : Input) (do
   pub newest : (k : ℕ × Stored) → Has r.answers k → AtMost k.1.date c.date
   -- it is of one of them
   pub taken : (k : ℕ × Stored) × Has r.answers k × (k.1 ≡ c)
+  pub enough : accessible_by (table_or catalogue rec c.table) (members x) ≡ true
 
 -- a copy is the own one, or one that a refresh brought
 pub data CopyAt (catalogue : Catalogue) (x : SiteState) (given : Input) (doubts : List Doubt) (commits : List Commit) (a : ℕ × Stored) : Type 0 where
@@ -135,36 +137,33 @@ module _ (catalogue : Catalogue) (x : SiteState) (given : Input) (tidy : Tidy x)
   left_none : (o : Stepped) → Left x o → (r : Refreshing) → Has o.site.refresh r → ⊥
   left_none o l r h = has_none r (rw l.refresh at h)
 
-  takes : (r : Refreshing) (own best : Stored) (o : Stepped) → CopyAt catalogue x given o.site.doubts o.effects.commits (r.rec, best) → P o → P (take_newer r.rec own best o)
-  unfolding take_newer
-  takes r own best o new p = go (view_before own.date best.date)
-    where
-      go : (b : Bool) → P (cond b (force (log_record.Copy r.rec best) (change_copies (replace_at r.rec best) o)) o)
-      go true = record {
+  takes : (r : Refreshing) (own : Stored) (o : Stepped) → (accessible_by (judging catalogue r own) (members o.site) ≡ true → CopyAt catalogue x given o.site.doubts o.effects.commits (r.rec, newest own r.answers)) → P o → P (judged catalogue r own o)
+  takes r own o new p = judged-cases P catalogue r own o
+      (λ enough. record {
         id = p.id;
-        copies = λ a h. ⊎_elim (λ (is : a ≡ (r.rec, best)). rw is new) (λ old. p.copies a old) (replaced_from r.rec best o.site.copies a h);
+        copies = λ a h. ⊎_elim (λ (is : a ≡ (r.rec, newest own r.answers)). rw is (new enough)) (λ old. p.copies a old) (replaced_from r.rec (newest own r.answers) o.site.copies a h);
         answers = p.answers;
-      }
-      go false = p
+      })
+      p (record { id = p.id; copies = p.copies; answers = p.answers })
 
   finishes : (rec : ℕ) (r : Refreshing) (own : Stored) (o : Stepped) → refreshing_of rec o.site.refresh ≡ Some r → is_empty (unanswered catalogue o.site r) ≡ true → is_doubtful o.site r.rec ≡ false → value_at r.rec o.site.copies ≡ Some own → P o → P (end_refresh catalogue r own o)
   unfolding end_refresh unlist
-  finishes rec r own o e all sure v p = removes (take_newer r.rec own (newest own r.answers) o) (takes r own (newest own r.answers) o new p)
+  finishes rec r own o e all sure v p = removes (judged catalogue r own o) (takes r own o new p)
     where
       there : Has o.site.refresh r
       there = find_has (λ (q : Refreshing). q.rec == rec) o.site.refresh r e
 
-      new : CopyAt catalogue x given o.site.doubts o.effects.commits (r.rec, newest own r.answers)
-      new = ⊎_elim
+      new : accessible_by (judging catalogue r own) (members o.site) ≡ true → CopyAt catalogue x given o.site.doubts o.effects.commits (r.rec, newest own r.answers)
+      new enough = ⊎_elim
           (λ (is : newest own r.answers ≡ own). rw is (p.copies (r.rec, own) (value_pair r.rec o.site.copies own v)))
-          (λ (q : (k : ℕ × Stored) × Has r.answers k × (k.1 ≡ newest own r.answers)). over (ended q) (p.copies (r.rec, own) (value_pair r.rec o.site.copies own v)))
+          (λ (q : (k : ℕ × Stored) × Has r.answers k × (k.1 ≡ newest own r.answers)). over (ended q enough) (p.copies (r.rec, own) (value_pair r.rec o.site.copies own v)))
           (newest_from own r.answers)
         where
           certain : Certain o.site.doubts r.rec
           certain d h k = let t = any_false (λ (d : Doubt). has (keys d.writes) r.rec) o.site.doubts sure d h in let z = has_test (keys d.writes) r.rec k in cc
 
-          ended : (k : ℕ × Stored) × Has r.answers k × (k.1 ≡ newest own r.answers) → Refreshed catalogue x given o.site.doubts r.rec (newest own r.answers)
-          ended q = record {
+          ended : (k : ℕ × Stored) × Has r.answers k × (k.1 ≡ newest own r.answers) → accessible_by (judging catalogue r own) (members o.site) ≡ true → Refreshed catalogue x given o.site.doubts r.rec (newest own r.answers)
+          ended q enough = record {
             r = r;
             answers = λ k h. (p.answers r k there h).0;
             on = refl;
@@ -172,6 +171,7 @@ module _ (catalogue : Catalogue) (x : SiteState) (given : Input) (tidy : Tidy x)
             certain = certain;
             newest = newest_each own r.answers;
             taken = q;
+            enough = rw (sym (p.answers r q.0 there q.1).1) enough;
           }
 
           over : Refreshed catalogue x given o.site.doubts r.rec (newest own r.answers) → CopyAt catalogue x given o.site.doubts o.effects.commits (r.rec, own) → CopyAt catalogue x given o.site.doubts o.effects.commits (r.rec, newest own r.answers)
@@ -304,11 +304,11 @@ module _ (catalogue : Catalogue) (x : SiteState) (given : Input) (tidy : Tidy x)
     without_wait = λ id c i w. same (begin_step x) _ refl refl refl refl refl refl starts;
     probe = λ view c e. same (begin_step x) _ refl refl refl refl refl refl starts;
     answers_inviting = λ port c s p. same _ _ refl refl refl refl refl refl p;
-    start_refresh = λ view rec o e a h p. refreshes view rec o p;
+    start_refresh = λ view rec o e h p. refreshes view rec o p;
     end_refresh = λ rec r own o e a d v p. finishes rec r own o e a d v p;
     keep_answer = λ from view rec stored r c e f g. keeps_answer from view rec stored r c e f g;
-    grant_read = λ from txn view number rec stored c e n v f. taken_none _ refl refl refl refl refl (λ other u k g. absurd (let z = sym k ∙ c in cc));
-    grant_write = λ from txn view number rec stored c e n v f. taken_none _ refl refl refl refl refl (λ other u k g. absurd (let z = sym k ∙ c in cc));
+    grant_read = λ from txn view number rec stored c e n v f u. taken_none _ refl refl refl refl refl (λ other u k g. absurd (let z = sym k ∙ c in cc));
+    grant_write = λ from txn view number rec stored c e n v f u. taken_none _ refl refl refl refl refl (λ other u k g. absurd (let z = sym k ∙ c in cc));
     vote_reading = λ from txn view number reads writes part c e n d f v a w. same (begin_step x) _ refl refl refl refl refl refl starts;
     vote_writing = λ from txn view number reads writes part c e n d f v a w. taken_none _ refl refl refl refl refl (λ other u k g. absurd (let z = sym k ∙ c in cc));
     end_here = λ from txn commit c. ends_here from txn commit (doubt_of txn x.doubts) refl c;

@@ -3,17 +3,19 @@ use Rattle.std.proofs.Common.{◌≡◌, ℕ, Bool, true, false, List, [], ◌�
 use Rattle.std.specs.Prelude.{Option, Some, None}
 use Rattle.vp_model.specs.Types.{ViewId, TxnId, Stored, Message, LogRecord, Input, Live, Ending, Refreshing, Doubt}
 use Rattle.vp_base.specs.declared.site.Ending.TheVariants.{Committed}
+use Rattle.vp_model.specs.Types.log_record
 use Rattle.vp_model.specs.Types.message
+use Rattle.vp_model.specs.Words.{replace_at}
 use Rattle.vp_model.specs.Catalogue.{Catalogue}
 use Rattle.vp_model.specs.Durable.{DurableState, apply, apply_all, doubt_of, without_doubt}
-use Rattle.vp_model.specs.Site.{SiteState, Lent, Stepped, begin_step}
+use Rattle.vp_model.specs.Site.{SiteState, Lent, Stepped, begin_step, force, change_copies}
 use Rattle.vp_model.specs.Transactions.{keep_writes, complete}
-use Rattle.vp_model.specs.Refresh.{take_newer, unlist, end_refresh, start_refresh}
+use Rattle.vp_model.specs.Refresh.{newest, unlist, end_refresh, start_refresh}
 use Rattle.vp_model.specs.Views.{drop_view, start_inviting, hold}
 use Rattle.vp_model.specs.Calls.{start_txn, take_lock, read_at, write_at, prepare_parts}
 use Rattle.vp_model.specs.Messages.{accept, on_accept, on_stale, grant, end_here}
 use Rattle.vp_model.specs.Step.{durable_of, step, fix, mark_calls, ask_again, resend_one, inquire}
-use Rattle.vp_laws.proofs.Moves.Frames.{Ends, close-ends, decided-ends, decide-cases}
+use Rattle.vp_laws.proofs.Moves.Frames.{Ends, close-ends, decided-ends, decide-cases, take-cases}
 use Rattle.vp_laws.proofs.Moves.Table.{lent_at, Back, Table}
 use Rattle.vp_laws.proofs.Moves.Rows.{step-keeps}
 
@@ -40,9 +42,13 @@ module _ (catalogue : Catalogue) (x : SiteState) (given : Input) where
   unfolding keep_writes apply
   keeps_writes t l h = grind (arith, apply_all-force)
 
+  takes_copy : (rec : ℕ) (best : Stored) (o : Stepped) → Folds (durable_of x) o → Folds (durable_of x) (force (log_record.Copy rec best) (change_copies (replace_at rec best) o))
+  unfolding apply
+  takes_copy rec best o h = grind (arith, apply_all-force)
+
   ends_refresh : (r : Refreshing) (own : Stored) (o : Stepped) → Folds (durable_of x) o → Folds (durable_of x) (end_refresh catalogue r own o)
-  unfolding end_refresh unlist take_newer apply
-  ends_refresh r own o h = grind (arith, apply_all-force)
+  unfolding end_refresh unlist
+  ends_refresh r own o h = take-cases (Folds (durable_of x)) catalogue r own o (takes_copy r.rec (newest own r.answers) o h) h h
 
   ends_here : (from : ℕ) (txn : TxnId) (commit : Bool) (doubt : Option Doubt) → doubt_of txn x.doubts ≡ doubt → Folds (durable_of x) (end_here from txn commit doubt (begin_step x))
   unfolding end_here apply
@@ -78,11 +84,11 @@ module _ (catalogue : Catalogue) (x : SiteState) (given : Input) where
     fix = λ view c e. refl;
     without_wait = λ id c i w. refl;
     probe = λ view c e. refl;
-    start_refresh = λ view rec o e a q h. h;
+    start_refresh = λ view rec o e q h. h;
     end_refresh = λ rec r own o e a d v h. ends_refresh r own o h;
     keep_answer = λ from view rec stored r c e f g. refl;
-    grant_read = λ from txn view number rec stored c e n v f. grants from txn view rec false (message.ReadAnswer txn number stored.value);
-    grant_write = λ from txn view number rec stored c e n v f. grants from txn view rec true (message.WriteAnswer txn number);
+    grant_read = λ from txn view number rec stored c e n v f u. grants from txn view rec false (message.ReadAnswer txn number stored.value);
+    grant_write = λ from txn view number rec stored c e n v f u. grants from txn view rec true (message.WriteAnswer txn number);
     vote_reading = λ from txn view number reads writes part c e n d f v a w. refl;
     vote_writing = λ from txn view number reads writes part c e n d f v a w. refl;
     end_here = λ from txn commit c. ends_here from txn commit (doubt_of txn x.doubts) refl;

@@ -43,7 +43,7 @@ pub data FinishedFrom (catalogue : Catalogue) (x : SiteState) (given : Input) (a
 -- an answer needs no cause, or has one, or is repeated to a call of its transaction
 pub data ReplyFrom (catalogue : Catalogue) (x : SiteState) (given : Input) (after : SiteState) : Answer → Type 0 where
   free : (a : Answer) → is_free a ≡ true → ReplyFrom catalogue x given after a
-  inaccessible : (t : Live) (p : Pending) (name : List ℕ) (rec : ℕ) (exclusive : Bool) (deed : Deed) (weights : ℕ × ℕ) → Takes x given t p → Operates p.call name exclusive → find_record catalogue name ≡ Some rec → Tries p.call rec deed → short catalogue x.held rec deed ≡ Some weights → ReplyFrom catalogue x given after (answer.Inaccessible t.txn p.number name weights.0 weights.1)
+  inaccessible : (t : Live) (p : Pending) (name : List ℕ) (rec : ℕ) (exclusive : Bool) (deed : Deed) (weights : ℕ × ℕ) → Takes x given t p → Operates p.call name exclusive → find_record catalogue name ≡ Some rec → Tries p.call rec deed → short catalogue x.held x.bars rec deed ≡ Some weights → ReplyFrom catalogue x given after (answer.Inaccessible t.txn p.number name weights.0 weights.1)
   repeated : (f : Finished) (number : ℕ) (a : Answer) → Has x.finished f → kept_answer number f.answers ≡ Some a → IsCallOf given f.txn number → ReplyFrom catalogue x given after a
   ended : (f : Finished) (number : ℕ) → Has x.finished f → nat_le number (length f.answers) ≡ false → IsCallOf given f.txn number → ReplyFrom catalogue x given after (answer_of f.txn number f.ending)
   closed : (t : Live) (why : Ending) (p : Pending) → Handled x t → Why catalogue x given after t why → t.pending ≡ Some p → ReplyFrom catalogue x given after (answer_of t.txn p.number why)

@@ -8,7 +8,7 @@ use Rattle.vp_model.specs.Words.{same_view, same_txn, has_txn, view_before, is_v
 use Rattle.vp_model.specs.Catalogue.{Catalogue}
 use Rattle.vp_model.specs.Durable.{doubt_of}
 use Rattle.vp_model.specs.Site.{ViewState, ParticipantState, SiteState, Lent, Stepped, begin_step, put_back, change_views}
-use Rattle.vp_model.specs.Refresh.{newest, take_newer, unlist, end_refresh, start_refresh}
+use Rattle.vp_model.specs.Refresh.{unlist, end_refresh, start_refresh}
 use Rattle.vp_model.specs.Views.{drop_view, start_inviting, hold, has_part, has_doubt}
 use Rattle.vp_model.specs.Messages.{put_part, with_ended, with_acceptance, accept, on_accept, on_stale, grant, end_here}
 use Rattle.vp_model.specs.Step.{without_wait, fix, ask_again, resend_one, inquire, step}
@@ -17,7 +17,7 @@ use Rattle.vp_laws.proofs.Lists.Views.{Precedes, from_before, is_view_is}
 use Rattle.vp_laws.proofs.Moves.Table.{Comes, Left, next_view, Back, Table}
 use Rattle.vp_laws.proofs.Moves.Rows.{step-keeps}
 use Rattle.vp_laws.proofs.Table.Shares.{OutcomeComes}
-use Rattle.vp_laws.proofs.Moves.Frames.{take-cases}
+use Rattle.vp_laws.proofs.Moves.Frames.{judged, take-cases}
 
 -- the site uses the identifier: it holds it, waits for it, or invites to it
 pub data Uses (x : SiteState) (i : ViewId) : Type 0 where
@@ -191,7 +191,7 @@ module _ (catalogue : Catalogue) (x : SiteState) (given : Input) where
 
   ends_refresh : (r : Refreshing) (own : Stored) (o : Stepped) → P o → P (end_refresh catalogue r own o)
   unfolding end_refresh unlist
-  ends_refresh r own o p = silent (take_newer r.rec own (newest own r.answers) o) _ refl refl (take-cases P r.rec own (newest own r.answers) o (silent o _ refl refl p) p)
+  ends_refresh r own o p = silent (judged catalogue r own o) _ refl refl (take-cases P catalogue r own o (silent o _ refl refl p) p (silent o _ refl refl p))
 
   grants : (from : ℕ) (txn : TxnId) (view : ViewId) (rec : ℕ) (exclusive : Bool) (words : Message) → ((u : TxnId) → OutcomeComes given u → ⊥) → P (grant txn view rec exclusive words from (begin_step x))
   unfolding grant
@@ -264,11 +264,11 @@ module _ (catalogue : Catalogue) (x : SiteState) (given : Input) where
     without_wait = λ id c i w. forgets;
     probe = λ view c e. beside (begin_step x) _ refl refl refl refl refl starts;
     answers_inviting = λ port c s p. silent _ _ refl refl p;
-    start_refresh = λ view rec o e a h p. silent o _ refl refl p;
+    start_refresh = λ view rec o e h p. silent o _ refl refl p;
     end_refresh = λ rec r own o e a d v p. ends_refresh r own o p;
     keep_answer = λ from view rec stored r c e f g. silent (begin_step x) _ refl refl starts;
-    grant_read = λ from txn view number rec stored c e n v f. grants from txn view rec false (message.ReadAnswer txn number stored.value) (no_outcome from (message.ReadRequest txn view number rec) c (λ u b e. cc));
-    grant_write = λ from txn view number rec stored c e n v f. grants from txn view rec true (message.WriteAnswer txn number) (no_outcome from (message.WriteRequest txn view number rec) c (λ u b e. cc));
+    grant_read = λ from txn view number rec stored c e n v f u. grants from txn view rec false (message.ReadAnswer txn number stored.value) (no_outcome from (message.ReadRequest txn view number rec) c (λ u b e. cc));
+    grant_write = λ from txn view number rec stored c e n v f u. grants from txn view rec true (message.WriteAnswer txn number) (no_outcome from (message.WriteRequest txn view number rec) c (λ u b e. cc));
     vote_reading = λ from txn view number reads writes part c e n d f v a w. part_changes _ refl refl (no_outcome from (message.Prepare txn view number reads writes) c (λ u b e. cc));
     vote_writing = λ from txn view number reads writes part c e n d f v a w. part_changes _ refl refl (no_outcome from (message.Prepare txn view number reads writes) c (λ u b e. cc));
     end_here = λ from txn commit c. ends_here from txn commit (doubt_of txn x.doubts) c;

@@ -14,14 +14,14 @@ use Rattle.vp_model.specs.Catalogue.{Catalogue, holders}
 use Rattle.vp_model.specs.Durable.{doubt_of}
 use Rattle.vp_model.specs.Site.{ViewState, CoordinatorState, ParticipantState, SiteState, Lent, Stepped, begin_step, lent, put_back, letters}
 use Rattle.vp_model.specs.Transactions.{Deed, entry_of, with_finished, close, put_live, decided, keep_writes, complete, wait_for}
-use Rattle.vp_model.specs.Refresh.{members, newest, take_newer, unlist, end_refresh, start_refresh, other_holders}
+use Rattle.vp_model.specs.Refresh.{members, unlist, end_refresh, start_refresh, other_holders}
 use Rattle.vp_model.specs.Views.{other_sites, drop_view, start_inviting, hold}
 use Rattle.vp_model.specs.Calls.{begun, with_begun, start_txn, take_lock, read_at, write_at, prepare_parts, prepare_for}
 use Rattle.vp_model.specs.Messages.{with_ended, accept, on_accept, on_stale, with_heard, grant, end_here}
 use Rattle.vp_model.specs.Step.{step, with_monitor, fix, mark, probe_all, mark_calls, resend_one}
 use Rattle.vp_laws.proofs.Lists.Members.{Has, has_none, has_one_is, has_first, has_more, has_cases, has_from_test, filter_has, map_has, both_true}
 use Rattle.vp_laws.proofs.Lists.Views.{put_only, is_view_is}
-use Rattle.vp_laws.proofs.Moves.Frames.{Ends, close-ends, close-commits, decided-ends, decided-commits, decide-cases, take-cases}
+use Rattle.vp_laws.proofs.Moves.Frames.{Ends, close-ends, close-commits, decided-ends, decided-commits, decide-cases, judged, take-cases}
 use Rattle.vp_laws.proofs.Lists.Changes.{without_first_has, change_first_has}
 use Rattle.vp_laws.proofs.Moves.Table.{next_view, next_name, lent_at, Left, Handled, Back, SendsBack, Table, AsksAgain}
 use Rattle.vp_laws.proofs.Moves.Rows.{step-keeps}
@@ -385,7 +385,8 @@ module _ (catalogue : Catalogue) (x : SiteState) (given : Input) (tidy : Tidy x)
   ends_refresh : (r : Refreshing) (own : Stored) (o : Stepped) → Leads x o → Leads x (end_refresh catalogue r own o)
   unfolding end_refresh unlist
   ends_refresh r own o l =
-      silent (take_newer r.rec own (newest own r.answers) o) _ (record { id = refl; life = refl; seq = refl; live = refl; held = refl; ended = λ n q. q; refresh = λ n q. rw q refl; monitor = λ n q. q }) refl refl (take-cases (Leads x) r.rec own (newest own r.answers) o (silent o _ (record { id = refl; life = refl; seq = refl; live = refl; held = refl; ended = λ n q. q; refresh = λ n q. q; monitor = λ n q. q }) refl refl l) l)
+      silent (judged catalogue r own o) _ (record { id = refl; life = refl; seq = refl; live = refl; held = refl; ended = λ n q. q; refresh = λ n q. rw q refl; monitor = λ n q. q }) refl refl (take-cases (Leads x) catalogue r own o (silent o _ (record { id = refl; life = refl; seq = refl; live = refl; held = refl; ended = λ n q. q; refresh = λ n q. q; monitor = λ n q. q }) refl refl l) l
+      (silent o _ (record { id = refl; life = refl; seq = refl; live = refl; held = refl; ended = λ n q. q; refresh = λ n q. q; monitor = λ n q. q }) refl refl l))
 
   ended_here : (in_view : Bool) (txn : TxnId) (p : ParticipantState) → in_view ≡ false → (with_ended in_view txn p).ended ≡ p.ended
   ended_here true txn p e = cc
@@ -451,11 +452,11 @@ module _ (catalogue : Catalogue) (x : SiteState) (given : Input) (tidy : Tidy x)
     fix = λ view c e. fixes view e;
     without_wait = λ id c i w. silent (begin_step x) _ (record { id = refl; life = refl; seq = refl; live = refl; held = refl; ended = λ n q. q; refresh = λ n q. q; monitor = λ n q. q }) refl refl begins;
     probe = λ view c e. beside (begin_step x) (probe_all catalogue view (begin_step x)) _ (monitored (with_monitor x.views) refl (is_there view e)) refl refl (letters_none x.id (λ q. message.Probe view.id) (other_sites catalogue x.id) (λ q. refl)) begins;
-    start_refresh = λ view rec o e a h l. starts_refresh view rec o e.held l;
+    start_refresh = λ view rec o e h l. starts_refresh view rec o e.held l;
     end_refresh = λ rec r own o e a d v l. ends_refresh r own o l;
     keep_answer = λ from view rec stored r c e f g. silent (begin_step x) _ (record { id = refl; life = refl; seq = refl; live = refl; held = refl; ended = λ n q. q; refresh = λ n q. rw q refl; monitor = λ n q. q }) refl refl begins;
-    grant_read = λ from txn view number rec stored c e n v f. grants from txn view rec false (message.ReadAnswer txn number stored.value) refl;
-    grant_write = λ from txn view number rec stored c e n v f. grants from txn view rec true (message.WriteAnswer txn number) refl;
+    grant_read = λ from txn view number rec stored c e n v f u. grants from txn view rec false (message.ReadAnswer txn number stored.value) refl;
+    grant_write = λ from txn view number rec stored c e n v f u. grants from txn view rec true (message.WriteAnswer txn number) refl;
     vote_reading = λ from txn view number reads writes part c e n d f v a w. one _ x.id from (message.Vote part.txn) refl (plain_but _ refl refl refl refl refl refl refl) refl refl;
     vote_writing = λ from txn view number reads writes part c e n d f v a w. one _ x.id from (message.Vote part.txn) refl (plain_but _ refl refl refl refl refl refl refl) refl refl;
     end_here = λ from txn commit c. ends_here from txn commit (doubt_of txn x.doubts);

@@ -1,16 +1,14 @@
--- Which records are under refresh after a step: each has a copy here and may be used, and was so before or is of a view that is
--- joined now.
-use Rattle.std.proofs.Common.{◌≡◌, ◌⊎◌, ◌∙◌, ap, sym, subst, ℕ, Bool, true, false, cond, List, [], map, refl, ⊎_elim}
+-- Which records are under refresh after a step: each has a copy here, and was under refresh before or is of a view that is joined now.
+use Rattle.std.proofs.Common.{◌≡◌, ◌≢◌, ◌⊎◌, ◌∙◌, ap, sym, subst, ℕ, Bool, true, false, cond, List, [], map, refl, ⊎_elim}
 use Rattle.std.specs.Prelude.{Option, Some, None, filter, not, ◌==◌, nat_lt}
 use Rattle.vp_model.specs.Types.{TxnId, View, Input, Stored, Live, Ending, Refreshing, Doubt}
-use Rattle.vp_model.specs.Types.log_record
-use Rattle.vp_model.specs.Words.{put_at, view_before, replace_at, keys}
+use Rattle.vp_model.specs.Words.{put_at, keys}
 use Rattle.vp_model.specs.Catalogue.{Catalogue}
 use Rattle.vp_model.specs.Locks.{without_guard}
 use Rattle.vp_model.specs.Durable.{doubt_of}
-use Rattle.vp_model.specs.Site.{Here, SiteState, Lent, Stepped, begin_step, put_back, force, change_copies}
+use Rattle.vp_model.specs.Site.{Here, SiteState, Lent, Stepped, begin_step, put_back}
 use Rattle.vp_model.specs.Transactions.{last_changes, entry_of, writes_held, close, keep_writes, decide, complete}
-use Rattle.vp_model.specs.Refresh.{is_open, newest, take_newer, unlist, end_refresh, start_refresh}
+use Rattle.vp_model.specs.Refresh.{newest, unlist, end_refresh, start_refresh}
 use Rattle.vp_model.specs.Views.{drop_view, start_inviting, hold}
 use Rattle.vp_model.specs.Calls.{start_txn, take_lock, read_at, write_at, prepare_parts}
 use Rattle.vp_model.specs.Messages.{with_answer, accept, on_accept, on_stale, grant, end_here}
@@ -18,15 +16,15 @@ use Rattle.vp_model.specs.Step.{fix, mark_calls, ask_again, resend_one, inquire,
 use Rattle.vp_laws.proofs.Lists.Members.{Has, has_none, map_has, filter_has, both_true}
 use Rattle.vp_laws.proofs.Lists.Changes.{put_has}
 use Rattle.vp_laws.proofs.Lists.Views.{is_view_is}
-use Rattle.vp_laws.proofs.Moves.Frames.{close-ends, decided-ends, decide-cases}
+use Rattle.vp_laws.proofs.Moves.Frames.{close-ends, decided-ends, decide-cases, judged, take-cases}
 use Rattle.vp_laws.proofs.Moves.LocalViews.{Tidy, none_refreshed}
 use Rattle.vp_laws.proofs.Moves.Table.{Left, Joined, lent_at, Back, Table}
 use Rattle.vp_laws.proofs.Moves.Rows.{step-keeps}
 use Rattle.vp_records.proofs.Held.{replaced_keys, written_keys}
 
--- the record has a copy among these, and may be used
-abbrev pub IsListed : Catalogue → List ℕ → SiteState → ℕ → Type 0
-IsListed catalogue copied x rec = Has copied rec × (is_open catalogue x rec ≡ true)
+-- none of the records under refresh is this one
+abbrev pub IsUnlisted : List Refreshing → ℕ → Type 0
+IsUnlisted refresh rec = (r : Refreshing) → Has refresh r → r.rec ≢ rec
 
 -- it was under refresh in the same view, or the view was joined now
 pub data ListedNow (x : SiteState) (o : Stepped) (rec : ℕ) : Type 0 where
@@ -36,12 +34,12 @@ pub data ListedNow (x : SiteState) (o : Stepped) (rec : ℕ) : Type 0 where
 pub record Listing (catalogue : Catalogue) (x : SiteState) (given : Input) (o : Stepped) : Type 0 where
   -- no record gets its first copy here
   pub copied : keys o.site.copies ≡ keys x.copies
-  -- what is under refresh has a copy here and may be used
-  pub listed : (r : Refreshing) → Has o.site.refresh r → IsListed catalogue (keys x.copies) o.site r.rec
+  -- what is under refresh has a copy here
+  pub listed : (r : Refreshing) → Has o.site.refresh r → Has (keys x.copies) r.rec
   -- since when
   pub since : (r : Refreshing) → Has o.site.refresh r → ListedNow x o r.rec
 
-module _ (catalogue : Catalogue) (x : SiteState) (given : Input) (tidy : Tidy x) (held_then : (r : Refreshing) → Has x.refresh r → (v : View) × (x.held ≡ Some v)) (all : (r : Refreshing) → Has x.refresh r → IsListed catalogue (keys x.copies) x r.rec) where
+module _ (catalogue : Catalogue) (x : SiteState) (given : Input) (tidy : Tidy x) (held_then : (r : Refreshing) → Has x.refresh r → (v : View) × (x.held ≡ Some v)) (all : (r : Refreshing) → Has x.refresh r → Has (keys x.copies) r.rec) where
   abbrev P : Stepped → Type 0
   P = Listing catalogue x given
 
@@ -52,14 +50,11 @@ module _ (catalogue : Catalogue) (x : SiteState) (given : Input) (tidy : Tidy x)
   since_on o e rec v (ListedNow.still r h is same_view) = ListedNow.still r h is (v ∙ same_view)
   since_on o e rec v (ListedNow.joined view now origin) = ListedNow.joined view (v ∙ now) origin
 
-  listed_on : (o e : Stepped) (rec : ℕ) → e.site.held ≡ o.site.held → IsListed catalogue (keys x.copies) o.site rec → IsListed catalogue (keys x.copies) e.site rec
-  listed_on o e rec v l = (l.0, rw v l.1)
-
   -- the same records in the same view
   fewer : (o e : Stepped) → e.site.held ≡ o.site.held → keys e.site.copies ≡ keys o.site.copies → ((r : Refreshing) → Has e.site.refresh r → (q : Refreshing) × Has o.site.refresh q × (q.rec ≡ r.rec)) → P o → P e
   fewer o e v c sub p = record {
     copied = c ∙ p.copied;
-    listed = λ r h. let q = sub r h in listed_on o e r.rec v (subst (IsListed catalogue (keys x.copies) o.site) q.2 (p.listed q.0 q.1));
+    listed = λ r h. let q = sub r h in subst (Has (keys x.copies)) q.2 (p.listed q.0 q.1);
     since = λ r h. let q = sub r h in since_on o e r.rec v (subst (ListedNow x o) q.2 (p.since q.0 q.1));
   }
 
@@ -77,27 +72,22 @@ module _ (catalogue : Catalogue) (x : SiteState) (given : Input) (tidy : Tidy x)
   left_none : (o : Stepped) → Left x o → (r : Refreshing) → Has o.site.refresh r → ⊥
   left_none o l r h = has_none r (rw l.refresh at h)
 
-  takes : (rec : ℕ) (own best : Stored) (o : Stepped) → P o → P (take_newer rec own best o)
-  unfolding take_newer
-  takes rec own best o p = go (view_before own.date best.date)
-    where
-      go : (b : Bool) → P (cond b (force (log_record.Copy rec best) (change_copies (replace_at rec best) o)) o)
-      go true = same o (force (log_record.Copy rec best) (change_copies (replace_at rec best) o)) refl (replaced_keys rec best o.site.copies) refl p
-      go false = p
+  takes : (r : Refreshing) (own : Stored) (o : Stepped) → P o → P (judged catalogue r own o)
+  takes r own o p = take-cases P catalogue r own o (same o _ refl (replaced_keys r.rec (newest own r.answers) o.site.copies) refl p) p (same o _ refl refl refl p)
 
   finishes : (r : Refreshing) (own : Stored) (o : Stepped) → P o → P (end_refresh catalogue r own o)
   unfolding end_refresh unlist
-  finishes r own o p = removes (take_newer r.rec own (newest own r.answers) o) (takes r.rec own (newest own r.answers) o p)
+  finishes r own o p = removes (judged catalogue r own o) (takes r own o p)
     where
       removes : (n : Stepped) → P n → P (record n { site = record n.site { here = record n.site.here { locks = without_guard r.rec n.site.locks }; refresh = filter (λ other. not (other.rec == r.rec)) n.site.refresh } })
       removes n g = fewer n _ refl refl (λ q h. (q, (filter_has (λ (other : Refreshing). not (other.rec == r.rec)) n.site.refresh q h).0, refl)) g
 
-  refreshes : (view : View) (rec : ℕ) (o : Stepped) → Joined x view o → is_open catalogue o.site rec ≡ true → Has (keys o.site.copies) rec → P o → P (start_refresh catalogue view rec o)
+  refreshes : (view : View) (rec : ℕ) (o : Stepped) → Joined x view o → Has (keys o.site.copies) rec → P o → P (start_refresh catalogue view rec o)
   unfolding start_refresh
-  refreshes view rec o j usable there p = record {
+  refreshes view rec o j there p = record {
     copied = p.copied;
     listed = λ r h. ⊎_elim
-        (λ (new : r ≡ record { rec = rec; answers = [] }). subst (IsListed catalogue (keys x.copies) o.site) (sym (ap (λ (r : Refreshing). r.rec) new)) (subst (λ (ks : List ℕ). Has ks rec) p.copied there, usable))
+        (λ (new : r ≡ record { rec = rec; answers = [] }). subst (Has (keys x.copies)) (sym (ap (λ (r : Refreshing). r.rec) new)) (subst (λ (ks : List ℕ). Has ks rec) p.copied there))
         (λ old. p.listed r old)
         (put_has (λ (a : Refreshing) (b : Refreshing). a.rec == b.rec) (λ (a : Refreshing) (b : Refreshing). nat_lt a.rec b.rec) (record { rec = rec; answers = [] }) o.site.refresh r h);
     since = λ r h. ListedNow.joined view j.held j.origin;
@@ -151,11 +141,11 @@ module _ (catalogue : Catalogue) (x : SiteState) (given : Input) (tidy : Tidy x)
     without_wait = λ id c i w. same (begin_step x) _ refl refl refl starts;
     probe = λ view c e. same (begin_step x) _ refl refl refl starts;
     answers_inviting = λ port c s p. same _ _ refl refl refl p;
-    start_refresh = λ view rec o e a h p. refreshes view rec o e a h p;
+    start_refresh = λ view rec o e h p. refreshes view rec o e h p;
     end_refresh = λ rec r own o e a d v p. finishes r own o p;
     keep_answer = λ from view rec stored r c e f g. keeps_answer rec from stored;
-    grant_read = λ from txn view number rec stored c e n v f. same (begin_step x) _ refl refl refl starts;
-    grant_write = λ from txn view number rec stored c e n v f. same (begin_step x) _ refl refl refl starts;
+    grant_read = λ from txn view number rec stored c e n v f u. same (begin_step x) _ refl refl refl starts;
+    grant_write = λ from txn view number rec stored c e n v f u. same (begin_step x) _ refl refl refl starts;
     vote_reading = λ from txn view number reads writes part c e n d f v a w. same (begin_step x) _ refl refl refl starts;
     vote_writing = λ from txn view number reads writes part c e n d f v a w. same (begin_step x) _ refl refl refl starts;
     end_here = λ from txn commit c. ends_here from txn commit (doubt_of txn x.doubts);
@@ -176,5 +166,5 @@ module _ (catalogue : Catalogue) (x : SiteState) (given : Input) (tidy : Tidy x)
     resend_one = λ d o c h p. same o _ refl refl refl p;
   }
 
-pub listing-step : (catalogue : Catalogue) (x : SiteState) (given : Input) → Tidy x → ((r : Refreshing) → Has x.refresh r → (v : View) × (x.held ≡ Some v)) → ((r : Refreshing) → Has x.refresh r → IsListed catalogue (keys x.copies) x r.rec) → Listing catalogue x given (step catalogue x given)
+pub listing-step : (catalogue : Catalogue) (x : SiteState) (given : Input) → Tidy x → ((r : Refreshing) → Has x.refresh r → (v : View) × (x.held ≡ Some v)) → ((r : Refreshing) → Has x.refresh r → Has (keys x.copies) r.rec) → Listing catalogue x given (step catalogue x given)
 listing-step catalogue x given tidy held_then all = step-keeps catalogue x given (Listing catalogue x given) (table catalogue x given tidy held_then all) (starts catalogue x given tidy held_then all)

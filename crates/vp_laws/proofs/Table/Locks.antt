@@ -16,7 +16,7 @@ use Rattle.vp_model.specs.Durable.{doubt_of, without_doubt}
 use Rattle.vp_model.specs.Locks.{conflict, holds, with_lock, without_owner, without_guard}
 use Rattle.vp_model.specs.Site.{ViewState, ParticipantState, CoordinatorState, Here, SiteState, Lent, Stepped, begin_step, put_back}
 use Rattle.vp_model.specs.Transactions.{Deed, last_changes, entry_of, wait_for, writes_held, keep_writes, complete}
-use Rattle.vp_model.specs.Refresh.{newest, take_newer, unlist, end_refresh, start_refresh, other_holders}
+use Rattle.vp_model.specs.Refresh.{newest, unlist, end_refresh, start_refresh, other_holders}
 use Rattle.vp_model.specs.Views.{part_of, drop_view, start_inviting, hold, has_part, has_doubt}
 use Rattle.vp_model.specs.Calls.{begun, start_txn, take_lock, read_at, write_at, prepare_parts}
 use Rattle.vp_model.specs.Messages.{put_part, with_vote, with_new_doubt, with_answer, has_all_locks, accept, on_accept, on_stale, grant, end_here}
@@ -28,7 +28,7 @@ use Rattle.vp_laws.proofs.Lists.Views.{Precedes, is_view_is}
 use Rattle.vp_model.proofs.SameTxn.{same_txn-is, same_txn-turned}
 use Rattle.vp_laws.proofs.Lists.Names.{Apart, named, apart_without, without_gone, change_cases, apart_change, apart_more, apart_mark}
 use Rattle.vp_laws.proofs.Lists.Changes.{without_first_has, put_has, put_new, put_old, mapped_has}
-use Rattle.vp_laws.proofs.Moves.Frames.{Ends, close-ends, decided-ends, decide-cases, take-cases}
+use Rattle.vp_laws.proofs.Moves.Frames.{Ends, close-ends, decided-ends, decide-cases, judged, take-cases}
 use Rattle.vp_laws.proofs.Lists.LockTables.{same_owner_is, HasLock, free_from_none, lock_kept, lock_taken, lock_stays}
 use Rattle.vp_laws.proofs.Moves.LocalViews.{Tidy, none_refreshed}
 use Rattle.vp_laws.proofs.Table.LocalLocks.{IsKnown, LowerDoubt, OwnLocks, LocksOk, takes, renews, shares_change, views_change, ends, ends_part, leaves, begins_refresh, ends_refresh}
@@ -134,7 +134,7 @@ module _ (catalogue : Catalogue) (x : SiteState) (given : Input) (tidy : Tidy x)
   -- refresh
   finishes : (r : Refreshing) (own : Stored) (o : Stepped) → P o → P (end_refresh catalogue r own o)
   unfolding end_refresh unlist
-  finishes r own o p = let g = take-cases P r.rec own (newest own r.answers) o (same o _ refl refl refl refl (replaced_keys r.rec (newest own r.answers) o.site.copies) refl p) p in unguards (take_newer r.rec own (newest own r.answers) o) g
+  finishes r own o p = let g = take-cases P catalogue r own o (same o _ refl refl refl refl (replaced_keys r.rec (newest own r.answers) o.site.copies) refl p) p (same o _ refl refl refl refl refl refl p) in unguards (judged catalogue r own o) g
     where
       unguards : (n : Stepped) → P n → P (record n { site = record n.site { here = record n.site.here { locks = without_guard r.rec n.site.locks }; refresh = filter (λ other. not (other.rec == r.rec)) n.site.refresh } })
       unguards n g = record {
@@ -523,11 +523,11 @@ module _ (catalogue : Catalogue) (x : SiteState) (given : Input) (tidy : Tidy x)
     without_wait = λ id c i w. viewed _ refl refl refl refl refl (λ r h. refl);
     probe = λ view c e. viewed _ refl refl refl refl refl (λ r h. refl);
     answers_inviting = λ port c s p. same _ _ refl refl refl refl refl refl p;
-    start_refresh = λ view rec o e a h p. refreshes view rec o e p;
+    start_refresh = λ view rec o e h p. refreshes view rec o e p;
     end_refresh = λ rec r own o e a d v p. finishes r own o p;
     keep_answer = λ from view rec stored r c e f g. keeps_answer rec from stored;
-    grant_read = λ from txn view number rec stored c e n v f. grants from txn view rec false (message.ReadAnswer txn number stored.value) f;
-    grant_write = λ from txn view number rec stored c e n v f. grants from txn view rec true (message.WriteAnswer txn number) f;
+    grant_read = λ from txn view number rec stored c e n v f u. grants from txn view rec false (message.ReadAnswer txn number stored.value) f;
+    grant_write = λ from txn view number rec stored c e n v f u. grants from txn view rec true (message.WriteAnswer txn number) f;
     vote_reading = λ from txn view number reads writes part c e n d f v a w. shared _ (with_vote part x.participant) refl refl refl refl refl refl (voted_ok part);
     vote_writing = λ from txn view number reads writes part c e n d f v a w. shared _ (with_new_doubt part writes x.participant) refl refl refl refl refl refl (doubting_ok part reads writes (certain part txn f d) a);
     end_here = λ from txn commit c. ends_here from txn commit (doubt_of txn x.doubts) c;

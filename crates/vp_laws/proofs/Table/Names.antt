@@ -15,7 +15,7 @@ use Rattle.vp_model.specs.Durable.{doubt_of, put_decision, with_decision, acknow
 use Rattle.vp_model.specs.Locks.{raised, holds, with_lock, without_owner, lesser, least_owner, conflicting, conflict}
 use Rattle.vp_model.specs.Site.{Here, ViewState, CoordinatorState, send, change_participant, change_refresh, SiteState, Lent, Stepped, begin_step, lent, put_back, letters, force}
 use Rattle.vp_model.specs.Transactions.{last_changes, entry_of, writing_parts, keep_writes, complete, writes_held}
-use Rattle.vp_model.specs.Refresh.{newer, refreshing_of, newest, take_newer, unlist, end_refresh, start_refresh, other_holders}
+use Rattle.vp_model.specs.Refresh.{newer, refreshing_of, newest, unlist, end_refresh, start_refresh, other_holders}
 use Rattle.vp_model.specs.Views.{outlasts, with_view, other_sites, drop_view, start_inviting, hold}
 use Rattle.vp_model.specs.Calls.{start_txn, take_lock, read_at, write_at, prepare_parts, prepare_for}
 use Rattle.vp_model.specs.Answers.{with_acknowledged}
@@ -24,7 +24,7 @@ use Rattle.vp_model.specs.Step.{step, with_monitor, fix, without_wait, probe_all
 use Rattle.vp_laws.proofs.Lists.Members.{Has, has_first, has_more, has_none, has_one_is, has_cases, filter_has, find_has, map_has, both_true}
 use Rattle.vp_laws.proofs.Lists.Views.{is_view_is, same_is}
 use Rattle.vp_laws.proofs.Lists.Changes.{put_has, replace_has, writes_has, value_has}
-use Rattle.vp_laws.proofs.Moves.Frames.{Ends, close-ends, decided-ends, decide-cases, take-cases}
+use Rattle.vp_laws.proofs.Moves.Frames.{Ends, close-ends, decided-ends, decide-cases, judged, take-cases}
 use Rattle.vp_laws.proofs.Moves.Table.{Comes, next_view, lent_at, Requests, Asks, Handled, Back, SendsBack, Table, AsksAgain}
 use Rattle.vp_laws.proofs.Moves.Rows.{step-keeps}
 use Rattle.vp_laws.proofs.Moves.LocalViews.{letter, Tidy}
@@ -303,10 +303,14 @@ module _ (N : TxnId → Type 0) (A : ViewId → Type 0) where
         go true = all a (has_first a answers)
         go false = h
 
-    takes_newer : (rec : ℕ) (own best : Stored) (o : Stepped) → A best.date → Calls o → Calls (take_newer rec own best o)
-    takes_newer rec own best o up l = take-cases Calls rec own best o (record { names = taken; sent = l.sent }) l
+    takes_newer : (r : Refreshing) (own : Stored) (o : Stepped) → A (newest own r.answers).date → Calls o → Calls (judged catalogue r own o)
+    takes_newer r own o up l = take-cases Calls catalogue r own o (record { names = taken; sent = l.sent }) l
+        (record { names = record { held = l.names.held; parts = l.names.parts; doubts = l.names.doubts; ended = l.names.ended; decisions = l.names.decisions; locks = l.names.locks; copies = l.names.copies; answers = l.names.answers }; sent = l.sent })
       where
-        taken : Names (record o.site { here = record o.site.here { copies = replace_at rec best o.site.here.copies } })
+        best : Stored
+        best = newest own r.answers
+
+        taken : Names (record o.site { here = record o.site.here { copies = replace_at r.rec best o.site.here.copies } })
         taken = record {
           held = l.names.held;
           parts = l.names.parts;
@@ -314,7 +318,7 @@ module _ (N : TxnId → Type 0) (A : ViewId → Type 0) where
           ended = l.names.ended;
           decisions = l.names.decisions;
           locks = l.names.locks;
-          copies = λ c h. ⊎_elim (λ (e : c.1 ≡ best). subst A (sym (ap (λ (s : Stored). s.date) e)) up) (λ old. l.names.copies c old) (replace_has rec best o.site.here.copies c h);
+          copies = λ c h. ⊎_elim (λ (e : c.1 ≡ best). subst A (sym (ap (λ (s : Stored). s.date) e)) up) (λ old. l.names.copies c old) (replace_has r.rec best o.site.here.copies c h);
           answers = l.names.answers;
         }
 
@@ -325,8 +329,8 @@ module _ (N : TxnId → Type 0) (A : ViewId → Type 0) where
         let c = value_has r.rec o.site.copies own v in
         let mine : A own.date = subst A (ap (λ (s : Stored). s.date) c.2) (l.names.copies c.0 c.1) in
         let best = newest_named own r.answers mine (λ a k. l.names.answers r a listed k) in
-        let taken = takes_newer r.rec own (newest own r.answers) o best l in
-        silent (take_newer r.rec own (newest own r.answers) o) _
+        let taken = takes_newer r own o best l in
+        silent (judged catalogue r own o) _
         (record {
           held = taken.names.held;
           parts = taken.names.parts;
@@ -482,6 +486,7 @@ module _ (N : TxnId → Type 0) (A : ViewId → Type 0) where
     back_named from _ (SendsBack.answer_refresh view rec stored c e d v) = let q = value_has rec x.copies stored v in (tt, (view_of view e, (subst A (ap (λ (s : Stored). s.date) q.2) (names.copies q.0 q.1), tt)))
     back_named from _ (SendsBack.refuse_view txn view number a e) = other_named txn number x.held refl (asked_named from txn view number a).0
     back_named from _ (SendsBack.refuse_lock txn view number rec exclusive holder r e n c) = holder_named txn number holder (conflict_named rec exclusive txn x.locks holder names.locks c) (requested from txn view number rec exclusive r)
+    back_named from _ (SendsBack.refuse_bar txn view number rec exclusive bar r e n b) = ((requested from txn view number rec exclusive r, tt), tt)
     back_named from _ (SendsBack.doubt_again txn view number reads writes c e n d) = ((arrived from (message.Prepare txn view number reads writes) c).0, tt)
     back_named from _ (SendsBack.vote_again txn view number reads writes part c e n f v) = (((names.parts part (part_there txn x.parts part f)).0, tt), tt)
     back_named from _ (SendsBack.answer_inquiry txn c s n) = arrived from (message.Inquire txn) c
@@ -505,11 +510,11 @@ module _ (N : TxnId → Type 0) (A : ViewId → Type 0) where
       fix = λ view c e. fixes view e;
       without_wait = λ id c i w. silent (begin_step x) _ (views_now (without_wait x.views) refl) refl begins;
       probe = λ view c e. more (begin_step x) (probe_all catalogue view (begin_step x)) _ (views_now (with_monitor x.views) refl) refl (letters_named x.id (λ q. message.Probe view.id) (other_sites catalogue x.id) (λ q. (tt, (names.held view e, tt)))) begins;
-      start_refresh = λ view rec o e a h l. starts_refresh view rec o e.held l;
+      start_refresh = λ view rec o e h l. starts_refresh view rec o e.held l;
       end_refresh = λ rec r own o e a d v l. ends_refresh rec r own o e v l;
       keep_answer = λ from view rec stored r c e f g. keeps_answer from rec stored (arrived from (message.RefreshAnswer view rec stored) c).1.1.0;
-      grant_read = λ from txn view number rec stored c e n v f. let q = asked_named from txn view number (Asks.reads rec c) in grants from txn view rec false (message.ReadAnswer txn number stored.value) q ((q.0, tt), tt);
-      grant_write = λ from txn view number rec stored c e n v f. let q = asked_named from txn view number (Asks.writes rec c) in grants from txn view rec true (message.WriteAnswer txn number) q ((q.0, tt), tt);
+      grant_read = λ from txn view number rec stored c e n v f u. let q = asked_named from txn view number (Asks.reads rec c) in grants from txn view rec false (message.ReadAnswer txn number stored.value) q ((q.0, tt), tt);
+      grant_write = λ from txn view number rec stored c e n v f u. let q = asked_named from txn view number (Asks.writes rec c) in grants from txn view rec true (message.WriteAnswer txn number) q ((q.0, tt), tt);
       vote_reading = λ from txn view number reads writes part c e n d f v a w. votes_reading from part (part_there txn x.parts part f);
       vote_writing = λ from txn view number reads writes part c e n d f v a w. votes_writing from part writes (part_there txn x.parts part f);
       end_here = λ from txn commit c. ends_here from txn commit (arrived from (message.Outcome txn commit) c).0.0;

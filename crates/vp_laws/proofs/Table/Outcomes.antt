@@ -12,7 +12,7 @@ use Rattle.vp_model.specs.Catalogue.{Catalogue}
 use Rattle.vp_model.specs.Durable.{doubt_of, without_doubt}
 use Rattle.vp_model.specs.Site.{SiteState, Lent, Stepped, begin_step, put_back}
 use Rattle.vp_model.specs.Transactions.{last_changes, entry_of, writes_held, writing_parts, keep_writes, complete}
-use Rattle.vp_model.specs.Refresh.{take_newer, newest, unlist, end_refresh, start_refresh}
+use Rattle.vp_model.specs.Refresh.{newest, unlist, end_refresh, start_refresh}
 use Rattle.vp_model.specs.Views.{has_doubt, drop_view, start_inviting, hold}
 use Rattle.vp_model.specs.Calls.{start_txn, take_lock, read_at, write_at, prepare_parts}
 use Rattle.vp_model.specs.Messages.{accept, on_accept, on_stale, grant, end_here}
@@ -20,7 +20,7 @@ use Rattle.vp_model.specs.Step.{step, fix, mark_calls, ask_again, resend_one, in
 use Rattle.vp_laws.proofs.Lists.Members.{Has, has_none, has_one, has_one_is, has_cases, has_cons, has_left, any_false, filter_keeps, find_has, find_true}
 use Rattle.vp_laws.proofs.Lists.Changes.{put_old}
 use Rattle.vp_model.proofs.SameTxn.{same_txn-is, same_txn-turned}
-use Rattle.vp_laws.proofs.Moves.Frames.{Ends, close-ends, decided-ends, decide-cases, take-cases}
+use Rattle.vp_laws.proofs.Moves.Frames.{Ends, close-ends, decided-ends, decide-cases, judged, take-cases}
 use Rattle.vp_laws.proofs.Moves.Table.{Comes, next_view, lent_at, Back, Table}
 use Rattle.vp_laws.proofs.Moves.Rows.{step-keeps}
 use Rattle.vp_laws.proofs.Moves.Parts.{with_part_doubts}
@@ -91,7 +91,7 @@ module _ (catalogue : Catalogue) (x : SiteState) (given : Input) where
 
   ends_refresh : (r : Refreshing) (own : Stored) (o : Stepped) → P o → P (end_refresh catalogue r own o)
   unfolding end_refresh unlist
-  ends_refresh r own o p = alike (take_newer r.rec own (newest own r.answers) o) _ refl refl (take-cases P r.rec own (newest own r.answers) o (more o _ (log_record.Copy r.rec (newest own r.answers)) refl refl refl p) p)
+  ends_refresh r own o p = alike (judged catalogue r own o) _ refl refl (take-cases P catalogue r own o (more o _ (log_record.Copy r.rec (newest own r.answers)) refl refl refl p) p (alike o _ refl refl p))
 
   outcome : (from : ℕ) (txn : TxnId) (commit : Bool) (d : Doubt) → Comes given from (message.Outcome txn commit) → doubt_of txn x.doubts ≡ Some d → OutcomesCome x given (log_record.Outcome txn commit ∷ [])
   outcome from txn commit d c e t b h =
@@ -152,11 +152,11 @@ module _ (catalogue : Catalogue) (x : SiteState) (given : Input) where
     fix = λ view c e. none _ refl refl;
     without_wait = λ id c i w. none _ refl refl;
     probe = λ view c e. none _ refl refl;
-    start_refresh = λ view rec o e a q p. alike o _ refl refl p;
+    start_refresh = λ view rec o e q p. alike o _ refl refl p;
     end_refresh = λ rec r own o e a d v p. ends_refresh r own o p;
     keep_answer = λ from view rec stored r c e f g. none _ refl refl;
-    grant_read = λ from txn view number rec stored c e n v f. none _ refl (with_part_doubts x.participant txn view);
-    grant_write = λ from txn view number rec stored c e n v f. none _ refl (with_part_doubts x.participant txn view);
+    grant_read = λ from txn view number rec stored c e n v f u. none _ refl (with_part_doubts x.participant txn view);
+    grant_write = λ from txn view number rec stored c e n v f u. none _ refl (with_part_doubts x.participant txn view);
     vote_reading = λ from txn view number reads writes part c e n d f v a w. none _ refl refl;
     vote_writing = λ from txn view number reads writes part c e n d f v a w. record {
       come = one_more [] _ (log_record.Yes part.txn part.view writes) refl refl (λ t b h. absurd (has_none _ h));

@@ -1,22 +1,23 @@
--- The refusals that a step sends: each refuses the request that came, for a conflicting lock or for another view.
+-- The refusals that a step sends: each refuses the request that came, for a bar, a conflicting lock or another view.
 use Rattle.std.proofs.Common.{◌≡◌, ◌∙◌, ap, sym, ℕ, Bool, true, false, List, [], ◌∷◌, ◌++◌, refl, ⊎_elim, append-nil}
 use Rattle.std.specs.Prelude.{Option, Some, None, ◌==◌, not, filter}
 use Rattle.vp_model.specs.Types.{ViewId, TxnId, Stored, Owner, Obstacle, Message, Sent, Input, Refreshing, Pending, Live, Ending, Doubt, Decision}
 use Rattle.vp_base.specs.declared.site.Ending.TheVariants.{Committed}
 use Rattle.vp_model.specs.Types.message
 use Rattle.vp_model.specs.Types.obstacle
+use Rattle.vp_model.specs.Words.{value_at}
 use Rattle.vp_model.specs.Catalogue.{Catalogue}
 use Rattle.vp_model.specs.Durable.{doubt_of}
 use Rattle.vp_model.specs.Locks.{conflict}
 use Rattle.vp_model.specs.Site.{SiteState, Lent, Stepped, begin_step, lent, put_back, letters, send}
 use Rattle.vp_model.specs.Transactions.{keep_writes, complete}
-use Rattle.vp_model.specs.Refresh.{newest, take_newer, unlist, end_refresh, start_refresh, other_holders}
+use Rattle.vp_model.specs.Refresh.{unlist, end_refresh, start_refresh, other_holders}
 use Rattle.vp_model.specs.Views.{other_sites, drop_view, start_inviting, hold}
 use Rattle.vp_model.specs.Calls.{start_txn, take_lock, read_at, write_at, prepare_parts, prepare_for}
 use Rattle.vp_model.specs.Messages.{held_id, holds_view, accept, on_accept, on_stale, grant, end_here}
 use Rattle.vp_model.specs.Step.{step, fix, mark_calls, ask_again, resend_one}
 use Rattle.vp_laws.proofs.Lists.Members.{Has, has_none, has_one_is, has_cases, map_has}
-use Rattle.vp_laws.proofs.Moves.Frames.{Ends, close-ends, decided-ends, decide-cases, take-cases}
+use Rattle.vp_laws.proofs.Moves.Frames.{Ends, close-ends, decided-ends, decide-cases, judged, take-cases}
 use Rattle.vp_laws.proofs.Moves.Table.{next_view, lent_at, Requests, Asks, Back, SendsBack, Table, AsksAgain}
 use Rattle.vp_laws.proofs.Moves.Rows.{step-keeps}
 use Rattle.vp_laws.proofs.Moves.LocalViews.{letter}
@@ -24,6 +25,7 @@ use Rattle.vp_laws.proofs.Moves.LocalViews.{letter}
 -- why the request that came from the site is refused
 pub data Refused (x : SiteState) (given : Input) (from : ℕ) (txn : TxnId) (number : ℕ) : Obstacle → Type 0 where
   held : (view : ViewId) (rec : ℕ) (exclusive : Bool) (holder : Owner) → Requests given from txn view number rec exclusive → conflict rec exclusive txn x.locks ≡ Some holder → Refused x given from txn number (obstacle.Held holder)
+  barred : (view : ViewId) (rec : ℕ) (exclusive : Bool) (bar : ℕ × ℕ) → Requests given from txn view number rec exclusive → holds_view x view ≡ true → value_at rec x.bars ≡ Some bar → Refused x given from txn number (obstacle.Barred bar.0 bar.1)
   other : (view : ViewId) → Asks given from txn view number → holds_view x view ≡ false → Refused x given from txn number (obstacle.OtherView (held_id x))
 
 abbrev pub RefuseSays : SiteState → Input → ℕ → ℕ → Message → Type 0
@@ -75,7 +77,7 @@ module _ (catalogue : Catalogue) (x : SiteState) (given : Input) where
 
   ends_refresh : (r : Refreshing) (own : Stored) (o : Stepped) → P o → P (end_refresh catalogue r own o)
   unfolding end_refresh unlist
-  ends_refresh r own o p = silent (take_newer r.rec own (newest own r.answers) o) _ refl refl (take-cases P r.rec own (newest own r.answers) o (silent o _ refl refl p) p)
+  ends_refresh r own o p = silent (judged catalogue r own o) _ refl refl (take-cases P catalogue r own o (silent o _ refl refl p) p (silent o _ refl refl p))
 
   ends_here : (from : ℕ) (txn : TxnId) (commit : Bool) (doubt : Option Doubt) → P (end_here from txn commit doubt (begin_step x))
   unfolding end_here
@@ -111,6 +113,7 @@ module _ (catalogue : Catalogue) (x : SiteState) (given : Input) where
   sent_back : (from : ℕ) (m : Message) → SendsBack x given from m → P (send m from (begin_step x))
   sent_back from _ (SendsBack.refuse_view txn view number a e) = refusal _ from txn number (obstacle.OtherView (held_id x)) (Refused.other view a e) refl refl
   sent_back from _ (SendsBack.refuse_lock txn view number rec exclusive holder r e n c) = refusal _ from txn number (obstacle.Held holder) (Refused.held view rec exclusive holder r c) refl refl
+  sent_back from _ (SendsBack.refuse_bar txn view number rec exclusive bar r e n b) = refusal _ from txn number (obstacle.Barred bar.0 bar.1) (Refused.barred view rec exclusive bar r e b) refl refl
   sent_back from m t = one _ from m refl refl refl
 
   again_other : (o : Stepped) (to : ℕ) (m : Message) → AsksAgain catalogue x given o to m → is_other m ≡ true
@@ -133,11 +136,11 @@ module _ (catalogue : Catalogue) (x : SiteState) (given : Input) where
     without_wait = λ id c i w. silent (begin_step x) _ refl refl begins;
     probe = λ view c e. many (begin_step x) _ x.id (λ q. message.Probe view.id) (other_sites catalogue x.id) refl refl (λ q. refl) begins;
     answers_inviting = λ port c s p. silent _ _ refl refl p;
-    start_refresh = λ view rec o e a h p. many o (start_refresh catalogue view rec o) o.site.id (λ q. message.RefreshRequest view.id rec) (other_holders catalogue o.site rec) refl refl (λ q. refl) p;
+    start_refresh = λ view rec o e h p. many o (start_refresh catalogue view rec o) o.site.id (λ q. message.RefreshRequest view.id rec) (other_holders catalogue o.site rec) refl refl (λ q. refl) p;
     end_refresh = λ rec r own o e a d v p. ends_refresh r own o p;
     keep_answer = λ from view rec stored r c e f g. silent (begin_step x) _ refl refl begins;
-    grant_read = λ from txn view number rec stored c e n v f. one _ from (message.ReadAnswer txn number stored.value) refl refl refl;
-    grant_write = λ from txn view number rec stored c e n v f. one _ from (message.WriteAnswer txn number) refl refl refl;
+    grant_read = λ from txn view number rec stored c e n v f u. one _ from (message.ReadAnswer txn number stored.value) refl refl refl;
+    grant_write = λ from txn view number rec stored c e n v f u. one _ from (message.WriteAnswer txn number) refl refl refl;
     vote_reading = λ from txn view number reads writes part c e n d f v a w. one _ from (message.Vote part.txn) refl refl refl;
     vote_writing = λ from txn view number reads writes part c e n d f v a w. one _ from (message.Vote part.txn) refl refl refl;
     end_here = λ from txn commit c. ends_here from txn commit (doubt_of txn x.doubts);

@@ -19,88 +19,89 @@ use Rattle.vp_model.specs.Views.{abandon, drop_view, leave, start_inviting, invi
 use Rattle.vp_model.specs.Calls.{handling, start_txn, begin_in, on_begin, with_record, take_lock, lock_here, answer_read, read, read_at, change_elsewhere, change, new_change, is_bad_table, is_too_large, short, write_at, prepare_parts, commit, new_call, live_call, finished_call, on_txn_call, own_call, on_regroup, on_call}
 use Rattle.vp_model.specs.Messages.{accept, on_accept, on_stale, grant, end_here}
 use Rattle.vp_model.specs.Step.{fix, mark_calls, ask_again, resend_one, inquire, on_input, step}
-use Rattle.vp_laws.specs.Refusals.{is_not_done, RefusalsChangeNothing}
+use Rattle.vp_laws.specs.Refusals.{is_message, is_not_done, RefusalsChangeNothing}
 use Rattle.vp_laws.proofs.Lists.Members.{has_of, has_one_is, any_false, either_false}
 use Rattle.vp_laws.proofs.Moves.Frames.{decide-cases, take-cases}
 use Rattle.vp_laws.proofs.Moves.Table.{Closes, next_name, lent_at, Completes, Says, OfCoordinator, Back, Table}
 use Rattle.vp_laws.proofs.Moves.Rows.{step-keeps}
 use Rattle.vp_laws.proofs.Lists.Keeps.{by_option, by_some, by_test}
 
-abbrev refuses : Reply → Bool
-refuses r = is_not_done r.answer
+abbrev refuses : Input → Reply → Bool
+refuses given r = is_not_done given r.answer
 
 -- none of the replies refuses a call before it is done
-abbrev Done : List Reply → Type 0
-Done rs = list_any refuses rs ≡ false
+abbrev Done : Input → List Reply → Type 0
+Done given rs = list_any (refuses given) rs ≡ false
 
-done_more : (rs : List Reply) (r : Reply) → Done rs → refuses r ≡ false → Done (rs ++ r ∷ [])
-done_more [] r h e = rw e refl
-done_more (q ∷ rs) r h e = let z = either_false (refuses q) (list_any refuses rs) h in rw z.0 (done_more rs r z.1 e)
+done_more : (given : Input) (rs : List Reply) (r : Reply) → Done given rs → refuses given r ≡ false → Done given (rs ++ r ∷ [])
+done_more given [] r h e = rw e refl
+done_more given (q ∷ rs) r h e = let z = either_false (refuses given q) (list_any (refuses given) rs) h in rw z.0 (done_more given rs r z.1 e)
 
 -- an end that no call is refused by before it is done
-abbrev is_late : Ending → Bool
-is_late (Inaccessible name inside total) = false
-is_late _ = true
+abbrev is_late : Input → Ending → Bool
+is_late given (Inaccessible name inside total) = is_message given
+is_late given _ = true
 
-end_is_done : (txn : TxnId) (number : ℕ) (why : Ending) → is_late why ≡ true → is_not_done (answer_of txn number why) ≡ false
-end_is_done txn number Committed e = refl
-end_is_done txn number Aborted e = refl
-end_is_done txn number (LockHeld name at owner) e = refl
-end_is_done txn number (ViewChanged at held now) e = refl
-end_is_done txn number (TimedOut at) e = refl
-end_is_done txn number (Inaccessible name inside total) e = cc
+end_is_done : (given : Input) (txn : TxnId) (number : ℕ) (why : Ending) → is_late given why ≡ true → is_not_done given (answer_of txn number why) ≡ false
+end_is_done given txn number Committed e = refl
+end_is_done given txn number Aborted e = refl
+end_is_done given txn number (LockHeld name at owner) e = refl
+end_is_done given txn number (ViewChanged at held now) e = refl
+end_is_done given txn number (TimedOut at) e = refl
+end_is_done given txn number (Inaccessible name inside total) e = ap not e
 
-deed_is_done : (txn : TxnId) (number : ℕ) (deed : Deed) → is_not_done (deed_answer txn number deed) ≡ false
-deed_is_done txn number (Deed.operates (op.Read rec None)) = refl
-deed_is_done txn number (Deed.operates (op.Read rec (Some value))) = refl
-deed_is_done txn number (Deed.operates (op.Write rec None)) = refl
-deed_is_done txn number (Deed.operates (op.Write rec (Some value))) = refl
-deed_is_done txn number (Deed.weighs rec table) = refl
+deed_is_done : (given : Input) (txn : TxnId) (number : ℕ) (deed : Deed) → is_not_done given (deed_answer txn number deed) ≡ false
+deed_is_done given txn number (Deed.operates (op.Read rec None)) = refl
+deed_is_done given txn number (Deed.operates (op.Read rec (Some value))) = refl
+deed_is_done given txn number (Deed.operates (op.Write rec None)) = refl
+deed_is_done given txn number (Deed.operates (op.Write rec (Some value))) = refl
+deed_is_done given txn number (Deed.weighs rec table) = refl
 
 -- no transaction is closed so here
-closes_late : (x : SiteState) (given : Input) (t : Live) (why : Ending) → Closes x given t why → is_late why ≡ true
+closes_late : (x : SiteState) (given : Input) (t : Live) (why : Ending) → Closes x given t why → is_late given why ≡ true
 closes_late x given t _ (Closes.aborted was p h n e) = refl
 closes_late x given t _ (Closes.held_here was p name rec exclusive holder h n e m c) = refl
 closes_late x given t _ (Closes.held_there p txn number from name holder h e m c) = refl
 closes_late x given t _ (Closes.other_view txn number from now h c) = refl
+closes_late x given t _ (Closes.barred_there p txn number from name inside total h e m c) = rw c refl
 closes_late x given t _ (Closes.left h) = refl
 closes_late x given t _ (Closes.timed_out h m) = refl
 
 -- the end of a transaction
-finish_done : (t : Live) (why : Ending) (l : Lent) → is_late why ≡ true → Done l.effects.replies → Done (finish t why l).effects.replies
+finish_done : (given : Input) (t : Live) (why : Ending) (l : Lent) → is_late given why ≡ true → Done given l.effects.replies → Done given (finish t why l).effects.replies
 unfolding finish
-finish_done t why l late h = go t.pending
+finish_done given t why l late h = go t.pending
   where
-    go : (p : Option Pending) → Done (with_pending_reply t.txn why p l.effects).replies
+    go : (p : Option Pending) → Done given (with_pending_reply t.txn why p l.effects).replies
     go None = h
-    go (Some p) = done_more l.effects.replies _ h (end_is_done t.txn p.number why late)
+    go (Some p) = done_more given l.effects.replies _ h (end_is_done given t.txn p.number why late)
 
-close_done : (id : ℕ) (t : Live) (why : Ending) (l : Lent) → is_late why ≡ true → Done l.effects.replies → Done (close id t why l).effects.replies
+close_done : (given : Input) (id : ℕ) (t : Live) (why : Ending) (l : Lent) → is_late given why ≡ true → Done given l.effects.replies → Done given (close id t why l).effects.replies
 unfolding close
-close_done id t why l late h = finish_done t why _ late h
+close_done given id t why l late h = finish_done given t why _ late h
 
-close_all_done : (id : ℕ) (why : Live → Ending) (live : List Live) (l : Lent) → ((t : Live) → is_late (why t) ≡ true) → Done l.effects.replies → Done (close_all id why live l).effects.replies
-close_all_done id why [] l late h = h
-close_all_done id why (t ∷ live) l late h = close_all_done id why live (close id t (why t) l) late (close_done id t (why t) l (late t) h)
+close_all_done : (given : Input) (id : ℕ) (why : Live → Ending) (live : List Live) (l : Lent) → ((t : Live) → is_late given (why t) ≡ true) → Done given l.effects.replies → Done given (close_all id why live l).effects.replies
+close_all_done given id why [] l late h = h
+close_all_done given id why (t ∷ live) l late h = close_all_done given id why live (close id t (why t) l) late (close_done given id t (why t) l (late t) h)
 
-decided_done : (id : ℕ) (t : Live) (l : Lent) → Done l.effects.replies → Done (decided id t l).effects.replies
+decided_done : (given : Input) (id : ℕ) (t : Live) (l : Lent) → Done given l.effects.replies → Done given (decided id t l).effects.replies
 unfolding decided
-decided_done id t l h = finish_done t Committed _ refl h
+decided_done given id t l h = finish_done given t Committed _ refl h
 
-module _ (catalogue : Catalogue) (x : SiteState) where
+module _ (catalogue : Catalogue) (x : SiteState) (given : Input) where
   abbrev DoneBy : Lent → Type 0
-  DoneBy l = Done l.effects.replies
+  DoneBy l = Done given l.effects.replies
 
   decide_done : (t : Live) → DoneBy (decide catalogue x.id t (lent_at x))
   unfolding keep_writes
-  decide_done t = decide-cases DoneBy catalogue x.id t (lent_at x) (λ none. decided_done x.id t _ refl) (λ some. decided_done x.id t _ refl)
+  decide_done t = decide-cases DoneBy catalogue x.id t (lent_at x) (λ none. decided_done given x.id t _ refl) (λ some. decided_done given x.id t _ refl)
 
   -- what a call on a transaction, or one that begins one, can come to
   record ComesTo (Q : Lent → Type 0) : Type 0 where
     only : (words : Answer) (port : ℕ) → Q (lent_reply words port (lent_at x))
     nothing : Q (lent_at x)
     begins : (port : ℕ) (view : View) → Q (start_txn (next_name x) port view.id (lent_at x))
-    ends : (t : Live) (why : Ending) → is_late why ≡ true → Q (close x.id t why (lent_at x))
+    ends : (t : Live) (why : Ending) → is_late given why ≡ true → Q (close x.id t why (lent_at x))
     completes : (t : Live) (p : Pending) (deed : Deed) (l : Lent) → l.effects.replies ≡ [] → Q (complete t p deed l)
     reads : (t : Live) (p : Pending) (rec q : ℕ) → Q (read_at x.id t p rec q (lent_at x))
     writes : (t : Live) (p : Pending) (rec : ℕ) (sites : List ℕ) (l : Lent) → l.effects.replies ≡ [] → Q (write_at x.id t p rec sites l)
@@ -196,7 +197,7 @@ module _ (catalogue : Catalogue) (x : SiteState) where
 
   completes : (t : Live) (p : Pending) (deed : Deed) (l : Lent) → l.effects.replies ≡ [] → DoneBy (complete t p deed l)
   unfolding complete
-  completes t p deed l none = rw (none, deed_is_done t.txn p.number deed) refl
+  completes t p deed l none = rw (none, deed_is_done given t.txn p.number deed) refl
 
   asks : (t : Live) (p : Pending) (rec : ℕ) (sites : List ℕ) (l : Lent) → l.effects.replies ≡ [] → DoneBy (write_at x.id t p rec sites l)
   unfolding write_at
@@ -208,7 +209,7 @@ module _ (catalogue : Catalogue) (x : SiteState) where
     only = λ words port. Answers.only words port refl;
     nothing = Answers.done refl;
     begins = λ port view. Answers.done refl;
-    ends = λ t why late. Answers.done (close_done x.id t why (lent_at x) late refl);
+    ends = λ t why late. Answers.done (close_done given x.id t why (lent_at x) late refl);
     completes = λ t p deed l none. Answers.done (completes t p deed l none);
     reads = λ t p rec q. Answers.done refl;
     writes = λ t p rec sites l none. Answers.done (asks t p rec sites l none);
@@ -219,9 +220,9 @@ module _ (catalogue : Catalogue) (x : SiteState) where
   answered : (port : ℕ) (words : Call) → Answers (own_call catalogue port words (surroundings x) (lent_at x))
   answered port words = of_call Answers come_to port words
 
-  invites : Done (invite catalogue (begin_step x)).effects.replies
+  invites : Done given (invite catalogue (begin_step x)).effects.replies
   unfolding invite leave abandon drop_view start_inviting
-  invites = by_test (λ (o : Stepped). Done o.effects.replies) (is_spent x.views) _ _ (λ spent. refl) (λ left. close_all_done x.id (λ t. ViewChanged x.id t.view None) x.live (lent_at x) (λ t. refl) refl)
+  invites = by_test (λ (o : Stepped). Done given o.effects.replies) (is_spent x.views) _ _ (λ spent. refl) (λ left. close_all_done given x.id (λ t. ViewChanged x.id t.view None) x.live (lent_at x) (λ t. refl) refl)
 
   abbrev only_this : Reply → Stepped
   only_this r = record { site = x; effects = record { records = []; commits = []; messages = []; replies = r ∷ [] } }
@@ -229,7 +230,7 @@ module _ (catalogue : Catalogue) (x : SiteState) where
   -- the whole step
   data Steps (o : Stepped) : Type 0 where
     only : (words : Answer) (port : ℕ) → o ≡ only_this (record { to = port; answer = words }) → Steps o
-    done : Done o.effects.replies → Steps o
+    done : Done given o.effects.replies → Steps o
 
   whole : (l : Lent) → Answers l → Steps (put_back (begin_step x) l)
   whole l (Answers.only words port e) = Steps.only words port (ap (put_back (begin_step x)) e)
@@ -237,7 +238,7 @@ module _ (catalogue : Catalogue) (x : SiteState) where
 
   regroups : (port : ℕ) → Steps (on_regroup catalogue port (begin_step x))
   unfolding on_regroup
-  regroups port = by_test Steps (is_spent x.views) _ _ (λ spent. Steps.only (answer.Spent (highest x.views)) port refl) (λ left. Steps.done (done_more (invite catalogue (begin_step x)).effects.replies _ invites refl))
+  regroups port = by_test Steps (is_spent x.views) _ _ (λ spent. Steps.only (answer.Spent (highest x.views)) port refl) (λ left. Steps.done (done_more given (invite catalogue (begin_step x)).effects.replies _ invites refl))
 
   called : (port : ℕ) (words : Call) → Steps (on_call catalogue port words (begin_step x))
   unfolding on_call
@@ -253,11 +254,11 @@ module _ (catalogue : Catalogue) (x : SiteState) where
 -- what is no call is not answered so
 module _ (catalogue : Catalogue) (x : SiteState) (given : Input) (none : (port : ℕ) (words : Call) → given ≡ input.Call port words → ⊥) where
   abbrev P : Stepped → Type 0
-  P o = Done o.effects.replies
+  P o = Done given o.effects.replies
 
   ends_refresh : (r : Refreshing) (own : Stored) (o : Stepped) → P o → P (end_refresh catalogue r own o)
   unfolding end_refresh unlist
-  ends_refresh r own o p = take-cases P r.rec own (newest own r.answers) o p p
+  ends_refresh r own o p = take-cases P catalogue r own o p p p
 
   ends_here : (from : ℕ) (txn : TxnId) (commit : Bool) (doubt : Option Doubt) → P (end_here from txn commit doubt (begin_step x))
   unfolding end_here
@@ -266,14 +267,14 @@ module _ (catalogue : Catalogue) (x : SiteState) (given : Input) (none : (port :
   ends_here from txn true (Some d) = refl
   ends_here from txn false (Some d) = refl
 
-  completed : (t : Live) (p : Pending) (deed : Deed) (l : Lent) → Completes catalogue x given t p deed l → Done (complete t p deed l).effects.replies
+  completed : (t : Live) (p : Pending) (deed : Deed) (l : Lent) → Completes catalogue x given t p deed l → Done given (complete t p deed l).effects.replies
   unfolding complete
   completed t p deed l (Completes.own_write rec value next r a v e g) = absurd (none p.port p.call next.comes)
   completed t p deed l (Completes.own_copy rec stored next r a v c free e g) = absurd (none p.port p.call next.comes)
   completed t p deed l (Completes.change_again rec before next r a v g) = absurd (none p.port p.call next.comes)
   completed t p deed l (Completes.change_alone rec next r a v none_else g) = absurd (none p.port p.call next.comes)
-  completed t p deed l (Completes.read_answered from rec value c last r e g) = rw (g, deed_is_done t.txn p.number deed) refl
-  completed t p deed l (Completes.change_answered from rec c last r g) = rw (g, deed_is_done t.txn p.number deed) refl
+  completed t p deed l (Completes.read_answered from rec value c last r e g) = rw (g, deed_is_done given t.txn p.number deed) refl
+  completed t p deed l (Completes.change_answered from rec c last r g) = rw (g, deed_is_done given t.txn p.number deed) refl
 
   moves : OfCoordinator catalogue x given (Back x P)
   unfolding take_lock read_at write_at prepare_parts mark_calls
@@ -286,8 +287,8 @@ module _ (catalogue : Catalogue) (x : SiteState) (given : Input) (none : (port :
     write_at = λ t p rec value l h n w a e o d y v r. r;
     prepare_parts = λ t p h i g e. refl;
     still_waits = λ t p from h e m f c. refl;
-    decide = λ t n d. decide_done catalogue x t;
-    close = λ t why l n a z y r. close_done x.id t why l (closes_late x given t why y) r;
+    decide = λ t n d. decide_done catalogue x given t;
+    close = λ t why l n a z y r. close_done given x.id t why l (closes_late x given t why y) r;
     mark_calls = λ l c z r. r;
     acknowledge = λ from txn c w. refl;
   }
@@ -324,11 +325,11 @@ module _ (catalogue : Catalogue) (x : SiteState) (given : Input) (none : (port :
     without_wait = λ id c i w. refl;
     probe = λ view c e. refl;
     answers_inviting = λ port c s p. absurd (none port call.Regroup c);
-    start_refresh = λ view rec o e a h p. p;
+    start_refresh = λ view rec o e h p. p;
     end_refresh = λ rec r own o e a d v p. ends_refresh r own o p;
     keep_answer = λ from view rec stored r c e f g. refl;
-    grant_read = λ from txn view number rec stored c e n v f. refl;
-    grant_write = λ from txn view number rec stored c e n v f. refl;
+    grant_read = λ from txn view number rec stored c e n v f u. refl;
+    grant_write = λ from txn view number rec stored c e n v f u. refl;
     vote_reading = λ from txn view number reads writes part c e n d f v a w. refl;
     vote_writing = λ from txn view number reads writes part c e n d f v a w. refl;
     end_here = λ from txn commit c. ends_here from txn commit (doubt_of txn x.doubts);
@@ -336,12 +337,12 @@ module _ (catalogue : Catalogue) (x : SiteState) (given : Input) (none : (port :
     resend_one = λ d o c h p. p;
   }
 
-  no_refusal : Done (step catalogue x given).effects.replies
+  no_refusal : Done given (step catalogue x given).effects.replies
   no_refusal = step-keeps catalogue x given P table refl
 
-steps : (catalogue : Catalogue) (x : SiteState) (given : Input) → Steps catalogue x (step catalogue x given)
+steps : (catalogue : Catalogue) (x : SiteState) (given : Input) → Steps catalogue x given (step catalogue x given)
 unfolding step on_input
-steps catalogue x (input.Call port words) = called catalogue x port words
+steps catalogue x (input.Call port words) = called catalogue x (input.Call port words) port words
 steps catalogue x (input.Message from m) = Steps.done (no_refusal catalogue x (input.Message from m) (λ port words e. cc))
 steps catalogue x input.Tick = Steps.done (no_refusal catalogue x input.Tick (λ port words e. cc))
 steps catalogue x input.Probe = Steps.done (no_refusal catalogue x input.Probe (λ port words e. cc))
@@ -349,8 +350,8 @@ steps catalogue x input.Probe = Steps.done (no_refusal catalogue x input.Probe (
 pub refusals_change_nothing : RefusalsChangeNothing
 refusals_change_nothing catalogue x given r there refused = go (step catalogue x given) (steps catalogue x given) there
   where
-    go : (o : Stepped) → Steps catalogue x o → Contains o.effects.replies r → o ≡ only_this catalogue x r
+    go : (o : Stepped) → Steps catalogue x given o → Contains o.effects.replies r → o ≡ only_this catalogue x r
     go o (Steps.only words port e) h =
         let same : (record { to = port; answer = words }) ≡ r = has_one_is _ r (has_of _ r (subst (λ (o : Stepped). Contains o.effects.replies r) e h)) in
         e ∙ ap (only_this catalogue x) same
-    go o (Steps.done d) h = absurd (let z = any_false refuses o.effects.replies d r (has_of _ r h) in cc)
+    go o (Steps.done d) h = absurd (let z = any_false (refuses given) o.effects.replies d r (has_of _ r h) in cc)

@@ -11,7 +11,7 @@ use Rattle.vp_model.specs.Catalogue.{Catalogue}
 use Rattle.vp_model.specs.Durable.{doubt_of}
 use Rattle.vp_model.specs.Site.{reply, CoordinatorState, SiteState, Lent, Stepped, begin_step, put_back, force, change_copies}
 use Rattle.vp_model.specs.Transactions.{deed_answer, Deed, entry_of, answer_of, with_pending_reply, finish, close, keep_writes, decided, decide, complete}
-use Rattle.vp_model.specs.Refresh.{newest, take_newer, unlist, end_refresh, start_refresh}
+use Rattle.vp_model.specs.Refresh.{unlist, end_refresh, start_refresh}
 use Rattle.vp_model.specs.Views.{drop_view, start_inviting, invite, hold}
 use Rattle.vp_model.specs.Calls.{start_txn, take_lock, read_at, write_at, prepare_parts}
 use Rattle.vp_model.specs.Messages.{accept, on_accept, on_stale, grant, end_here}
@@ -19,7 +19,7 @@ use Rattle.vp_model.specs.Step.{fix, mark, mark_calls, ask_again, resend_one, in
 use Rattle.vp_laws.proofs.Lists.Members.{Has, has_none, has_one, has_one_is, has_cases, has_left, map_has}
 use Rattle.vp_laws.proofs.Lists.Names.{Apart, named, without_gone}
 use Rattle.vp_laws.proofs.Lists.Changes.{without_first_has}
-use Rattle.vp_laws.proofs.Moves.Frames.{close-ends, close-commits, decided-commits, decide-cases}
+use Rattle.vp_laws.proofs.Moves.Frames.{close-ends, close-commits, decided-commits, decide-cases, judged, take-cases}
 use Rattle.vp_laws.proofs.Moves.Table.{next_view, lent_at, Handled, Completes, Decides, is_abort, is_end, Replies, Back, Table}
 use Rattle.vp_laws.proofs.Table.Led.{Led}
 use Rattle.vp_laws.proofs.Table.Endings.{NotLive, WasLive}
@@ -174,17 +174,12 @@ module _ (catalogue : Catalogue) (x : SiteState) (given : Input) (led : Led x) (
       one _ (record { to = p.port; answer = words }) base (ap (λ (e : Effects). e.commits) e) (ap (λ (e : Effects). e.replies ++ (record { to = p.port; answer = words }) ∷ []) e) (Replies.other (completed_words t p deed l g))
 
   -- a refresh ends: the same replies
-  same_taken : (rec : ℕ) (own best : Stored) (o : Stepped) → ((take_newer rec own best o).site.coordinator ≡ o.site.coordinator) × ((take_newer rec own best o).effects.commits ≡ o.effects.commits) × ((take_newer rec own best o).effects.replies ≡ o.effects.replies)
-  unfolding take_newer
-  same_taken rec own best o = go (view_before own.date best.date)
-    where
-      go : (b : Bool) → ((cond b (force (log_record.Copy rec best) (change_copies (replace_at rec best) o)) o).site.coordinator ≡ o.site.coordinator) × ((cond b (force (log_record.Copy rec best) (change_copies (replace_at rec best) o)) o).effects.commits ≡ o.effects.commits) × ((cond b (force (log_record.Copy rec best) (change_copies (replace_at rec best) o)) o).effects.replies ≡ o.effects.replies)
-      go true = (refl, refl, refl)
-      go false = (refl, refl, refl)
+  same_taken : (r : Refreshing) (own : Stored) (o : Stepped) → ((judged catalogue r own o).site.coordinator ≡ o.site.coordinator) × ((judged catalogue r own o).effects.commits ≡ o.effects.commits) × ((judged catalogue r own o).effects.replies ≡ o.effects.replies)
+  same_taken r own o = take-cases (λ (e : Stepped). (e.site.coordinator ≡ o.site.coordinator) × (e.effects.commits ≡ o.effects.commits) × (e.effects.replies ≡ o.effects.replies)) catalogue r own o (refl, refl, refl) (refl, refl, refl) (refl, refl, refl)
 
   ends_refresh : (r : Refreshing) (own : Stored) (o : Stepped) → S (end_refresh catalogue r own o) → P o → P (end_refresh catalogue r own o)
   unfolding end_refresh unlist
-  ends_refresh r own o base p = let q = same_taken r.rec own (newest own r.answers) o in silent o _ base q.0 q.1 q.2 p
+  ends_refresh r own o base p = let q = same_taken r own o in silent o _ base q.0 q.1 q.2 p
 
   ends_here : (from : ℕ) (txn : TxnId) (commit : Bool) (doubt : Option Doubt) → S (end_here from txn commit doubt (begin_step x)) → P (end_here from txn commit doubt (begin_step x))
   unfolding end_here
@@ -221,11 +216,11 @@ module _ (catalogue : Catalogue) (x : SiteState) (given : Input) (led : Led x) (
     without_wait = λ id c i w. quiet _ (b.without_wait id c i w) refl refl;
     probe = λ view c e. quiet _ (b.probe view c e) refl refl;
     answers_inviting = λ port c s p. told_inviting port (b.answers_inviting port c s p.base) p;
-    start_refresh = λ view rec o e a h p. silent o _ (b.start_refresh view rec o e a h p.base) refl refl refl p;
+    start_refresh = λ view rec o e h p. silent o _ (b.start_refresh view rec o e h p.base) refl refl refl p;
     end_refresh = λ rec r own o e a d v p. ends_refresh r own o (b.end_refresh rec r own o e a d v p.base) p;
     keep_answer = λ from view rec stored r c e f g. quiet _ (b.keep_answer from view rec stored r c e f g) refl refl;
-    grant_read = λ from txn view number rec stored c e n v f. quiet _ (b.grant_read from txn view number rec stored c e n v f) refl refl;
-    grant_write = λ from txn view number rec stored c e n v f. quiet _ (b.grant_write from txn view number rec stored c e n v f) refl refl;
+    grant_read = λ from txn view number rec stored c e n v f u. quiet _ (b.grant_read from txn view number rec stored c e n v f u) refl refl;
+    grant_write = λ from txn view number rec stored c e n v f u. quiet _ (b.grant_write from txn view number rec stored c e n v f u) refl refl;
     vote_reading = λ from txn view number reads writes part c e n d f v a w. quiet _ (b.vote_reading from txn view number reads writes part c e n d f v a w) refl refl;
     vote_writing = λ from txn view number reads writes part c e n d f v a w. quiet _ (b.vote_writing from txn view number reads writes part c e n d f v a w) refl refl;
     end_here = λ from txn commit c. ends_here from txn commit (doubt_of txn x.doubts) (b.end_here from txn commit c);

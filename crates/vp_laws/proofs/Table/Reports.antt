@@ -15,7 +15,7 @@ use Rattle.vp_laws.proofs.Moves.Table.{next_view, Completes}
 use Rattle.vp_laws.proofs.Table.Kept.{kept_has}
 use Rattle.vp_laws.proofs.Moves.Reasons.{Tells, told_to, last_reply, IsDone, Front}
 use Rattle.vp_laws.proofs.Moves.FrontSteps.{step-front}
-use Rattle.vp_laws.proofs.Table.Told.{completed_says, IsKept, AreLate, IsSilent, plain_unheard, last_silent, why_late, late_more, end_unheard}
+use Rattle.vp_laws.proofs.Table.Told.{completed_says, completes_no_bar, IsKept, AreLate, IsSilent, plain_unheard, last_silent, why_late, late_more, end_unheard}
 
 pub data Cause (catalogue : Catalogue) (x : SiteState) (given : Input) (rs : List Reply) : Answer → Type 0 where
   nothing : {a : Answer} → ((u : TxnId) → heard u a ≡ None) → Cause catalogue x given rs a
@@ -42,18 +42,18 @@ module _ (catalogue : Catalogue) (x : SiteState) (given : Input) where
   alone_late : (port : ℕ) (a : Answer) → is_early_refusal a ≡ false → AreLate (told_to port a ∷ [])
   alone_late port a e r h = subst (λ (r : Reply). is_early_refusal r.answer ≡ false) (has_one_is (told_to port a) r h) e
 
-  more_replies : (rs extra : List Reply) → IsSilent extra → Caused rs → Caused (rs ++ extra)
+  more_replies : (rs extra : List Reply) → IsSilent given extra → Caused rs → Caused (rs ++ extra)
   more_replies rs extra s g r h = ⊎_elim (λ old. wider (g r old)) (λ new. Cause.nothing (λ u. s.reports u r new)) (has_cases rs extra r h)
     where
       wider : {a : Answer} → Cause catalogue x given rs a → Cause catalogue x given (rs ++ extra) a
       wider (Cause.nothing e) = Cause.nothing e
       wider (Cause.kept k) = Cause.kept k
-      wider (Cause.done t p operation l k d c late) = Cause.done t p operation l k d c (late_more catalogue x given rs extra s late)
+      wider (Cause.done t p operation l k d c late) = Cause.done t p operation l k d c (late_more catalogue x given rs extra s (λ bar. completes_no_bar catalogue x given t p operation l d bar) late)
 
-  inviting_silent : (port : ℕ) → IsSilent (told_to port (answer.Inviting (next_view x)) ∷ [])
+  inviting_silent : (port : ℕ) → IsSilent given (told_to port (answer.Inviting (next_view x)) ∷ [])
   inviting_silent port = record {
     reports = λ u r h. subst (λ (r : Reply). heard u r.answer ≡ None) (has_one_is (told_to port (answer.Inviting (next_view x))) r h) refl;
-    late = alone_late port (answer.Inviting (next_view x)) refl;
+    late = λ r h. inl (alone_late port (answer.Inviting (next_view x)) refl r h);
   }
 
   front : (after : SiteState) → Front catalogue x given after (λ c rs cs. Caused rs)
@@ -63,7 +63,7 @@ module _ (catalogue : Catalogue) (x : SiteState) (given : Input) where
     complete = λ t p deed l h d c. one p.port _ (Cause.done t p deed l h d c (alone_late p.port _ (completed_says catalogue x given t p deed l c).late));
     goes = λ t u p at g. none;
     still = λ t p sites a. none;
-    decide = λ t c n d w v f s. more_replies [] (last_reply t Committed) (last_silent catalogue x given t Committed refl) none;
+    decide = λ t c n d w v f s. more_replies [] (last_reply t Committed) (last_silent catalogue x given t Committed (inl refl)) none;
     close = λ t why c rs n w g. more_replies rs (last_reply t why) (last_silent catalogue x given t why (why_late catalogue x given after t why w)) g;
     marks = λ c rs g. g;
     acknowledge = λ txn from. none;

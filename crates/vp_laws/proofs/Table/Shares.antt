@@ -10,7 +10,7 @@ use Rattle.vp_model.specs.Durable.{doubt_of}
 use Rattle.vp_model.specs.Locks.{conflict}
 use Rattle.vp_model.specs.Site.{ParticipantState, SiteState, Lent, Stepped, begin_step, lent, put_back, letters, send}
 use Rattle.vp_model.specs.Transactions.{keep_writes, complete}
-use Rattle.vp_model.specs.Refresh.{newest, take_newer, unlist, end_refresh, start_refresh, other_holders, is_doubtful}
+use Rattle.vp_model.specs.Refresh.{unlist, end_refresh, start_refresh, other_holders, is_doubtful, is_open}
 use Rattle.vp_model.specs.Views.{part_of, has_doubt, other_sites, drop_view, start_inviting, hold}
 use Rattle.vp_model.specs.Calls.{start_txn, take_lock, read_at, write_at, prepare_parts, prepare_for}
 use Rattle.vp_model.specs.Messages.{holds_view, with_part, with_vote, with_new_doubt, with_ended, has_all_locks, accept, on_accept, on_stale, grant, end_here}
@@ -18,7 +18,7 @@ use Rattle.vp_model.specs.Step.{fix, mark_calls, ask_again, resend_one, step}
 use Rattle.vp_laws.proofs.Lists.Members.{Has, has_none, has_one_is, has_cases, map_has, filter_has, filter_keeps, find_true, any_true, any_false}
 use Rattle.vp_laws.proofs.Lists.Changes.{put_has, put_new, put_old}
 use Rattle.vp_model.proofs.SameTxn.{same_txn-is, same_txn-turned, same_txn-clash}
-use Rattle.vp_laws.proofs.Moves.Frames.{close-ends, decided-ends, decide-cases, take-cases}
+use Rattle.vp_laws.proofs.Moves.Frames.{close-ends, decided-ends, decide-cases, judged, take-cases}
 use Rattle.vp_laws.proofs.Moves.Table.{Comes, Closed, next_view, lent_at, Requests, Back, SendsBack, Table, AsksAgain}
 use Rattle.vp_laws.proofs.Moves.Rows.{step-keeps}
 use Rattle.vp_laws.proofs.Moves.LocalViews.{letter}
@@ -39,7 +39,7 @@ pub record Prepared (x : SiteState) (given : Input) (from : ℕ) (part : Part) (
   pub unvoted : part.voted ≡ false
   pub locks : has_all_locks x.locks part.txn reads writes ≡ true
 
--- a request for a lock came in the held view, and no other lock forbids it
+-- a request for a lock came in the held view, and neither a bar nor another lock forbids it
 pub record Granted (x : SiteState) (given : Input) (from : ℕ) (txn : TxnId) (number rec : ℕ) (exclusive : Bool) (stored : Stored) : Type 0 where
   pub view : ViewId
   pub comes : Requests given from txn view number rec exclusive
@@ -47,6 +47,7 @@ pub record Granted (x : SiteState) (given : Input) (from : ℕ) (txn : TxnId) (n
   pub going : has_txn x.ended txn ≡ false
   pub copy : value_at rec x.copies ≡ Some stored
   pub free : conflict rec exclusive txn x.locks ≡ None
+  pub opened : is_open x rec ≡ true
 
 -- a part was here, has voted without writes, or is new for a request
 pub data PartNow (x : SiteState) (given : Input) (p : Part) : Type 0 where
@@ -144,7 +145,7 @@ module _ (catalogue : Catalogue) (x : SiteState) (given : Input) where
 
   ends_refresh : (r : Refreshing) (own : Stored) (o : Stepped) → P o → P (end_refresh catalogue r own o)
   unfolding end_refresh unlist
-  ends_refresh r own o l = silent (take_newer r.rec own (newest own r.answers) o) _ refl refl refl (take-cases P r.rec own (newest own r.answers) o (silent o _ refl refl refl l) l)
+  ends_refresh r own o l = silent (judged catalogue r own o) _ refl refl refl (take-cases P catalogue r own o (silent o _ refl refl refl l) l (silent o _ refl refl refl l))
 
   part_same : (txn : TxnId) (part : Part) → part_of txn x.parts ≡ Some part → part.txn ≡ txn
   part_same txn part e = same_txn-is part.txn txn (find_true (λ (p : Part). same_txn p.txn txn) x.parts part e)
@@ -291,14 +292,14 @@ module _ (catalogue : Catalogue) (x : SiteState) (given : Input) where
     without_wait = λ id c i w. silent (begin_step x) _ refl refl refl starts;
     probe = λ view c e. many (begin_step x) _ (λ q. message.Probe view.id) (other_sites catalogue x.id) refl refl refl (λ q. refl) starts;
     answers_inviting = λ port c s p. silent _ _ refl refl refl p;
-    start_refresh = λ view rec o e a h p. many o (start_refresh catalogue view rec o) (λ q. message.RefreshRequest view.id rec) (other_holders catalogue o.site rec) refl refl refl (λ q. refl) p;
+    start_refresh = λ view rec o e h p. many o (start_refresh catalogue view rec o) (λ q. message.RefreshRequest view.id rec) (other_holders catalogue o.site rec) refl refl refl (λ q. refl) p;
     end_refresh = λ rec r own o e a d v p. ends_refresh r own o p;
     keep_answer = λ from view rec stored r c e f g. silent (begin_step x) _ refl refl refl starts;
-    grant_read = λ from txn view number rec stored c e n v f.
-        let g : Granted x given from txn number rec false stored = record { view = view; comes = Requests.reads c; held = e; going = n; copy = v; free = f } in
+    grant_read = λ from txn view number rec stored c e n v f u.
+        let g : Granted x given from txn number rec false stored = record { view = view; comes = Requests.reads c; held = e; going = n; copy = v; free = f; opened = u } in
         grants from txn number rec false stored g (message.ReadAnswer txn number stored.value) (ReplyTo.read_answer txn number rec stored g refl);
-    grant_write = λ from txn view number rec stored c e n v f.
-        let g : Granted x given from txn number rec true stored = record { view = view; comes = Requests.writes c; held = e; going = n; copy = v; free = f } in
+    grant_write = λ from txn view number rec stored c e n v f u.
+        let g : Granted x given from txn number rec true stored = record { view = view; comes = Requests.writes c; held = e; going = n; copy = v; free = f; opened = u } in
         grants from txn number rec true stored g (message.WriteAnswer txn number) (ReplyTo.write_answer txn number rec stored g refl);
     vote_reading = λ from txn view number reads writes part c e n d f v a w. votes_reading from part reads writes (prepared_by from txn view number reads writes part c e n d f v a) w _ refl refl refl;
     vote_writing = λ from txn view number reads writes part c e n d f v a w. votes_writing from part reads writes (prepared_by from txn view number reads writes part c e n d f v a) w _ refl refl refl;

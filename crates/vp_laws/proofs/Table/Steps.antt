@@ -30,7 +30,7 @@ use Rattle.vp_laws.proofs.Moves.Calls.{writing, reading, waiting, done}
 pub record AskingRead (catalogue : Catalogue) (x : SiteState) (given : Input) (u : Live) (p : Pending) (rec q : ℕ) : Type 0 where
   pub next : IsNext given u p
   pub reads : Reads catalogue p rec
-  pub usable : is_open catalogue x rec ≡ true
+  pub usable : is_open x rec ≡ true
   pub unwritten : value_at rec (last_writes u.ops) ≡ None
   pub no_copy : value_at rec x.copies ≡ None
   pub holder : Has (other_holders catalogue x rec) q
@@ -40,7 +40,7 @@ pub record AskingWrite (catalogue : Catalogue) (x : SiteState) (given : Input) (
   pub next : IsNext given u p
   pub writes : Changes catalogue p rec deed
   pub may : May catalogue x u rec deed
-  pub usable : is_open catalogue x rec ≡ true
+  pub usable : is_open x rec ≡ true
   pub unwritten : value_at rec (last_changes (entry_of u)) ≡ None
   pub others : is_empty (other_holders catalogue x rec) ≡ false
 

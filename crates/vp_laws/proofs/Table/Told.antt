@@ -9,6 +9,8 @@ use Rattle.vp_base.specs.declared.site.Ending.TheVariants.{Committed, Aborted, L
 use Rattle.vp_model.specs.Types.answer
 use Rattle.vp_model.specs.Types.call
 use Rattle.vp_model.specs.Types.input
+use Rattle.vp_model.specs.Types.message
+use Rattle.vp_model.specs.Types.obstacle
 use Rattle.vp_model.specs.Types.op
 use Rattle.vp_model.specs.Catalogue.{Catalogue, Table as Weights, find_record}
 use Rattle.vp_model.specs.Site.{CoordinatorState, SiteState, Lent}
@@ -24,7 +26,7 @@ use Rattle.vp_laws.proofs.Lists.Members.{Has, has_none, has_first, has_more, has
 use Rattle.vp_laws.proofs.Lists.Changes.{without_first_has}
 use Rattle.vp_model.proofs.SameTxn.{same_txn-self, same_txn-other}
 use Rattle.vp_laws.proofs.Lists.Names.{Apart, named, change_cases}
-use Rattle.vp_laws.proofs.Moves.Table.{next_view, next_name, Reads, Changes, Completes}
+use Rattle.vp_laws.proofs.Moves.Table.{Comes, IsNext, next_view, next_name, Reads, Changes, Completes}
 use Rattle.vp_laws.proofs.Table.Kept.{kept_has}
 use Rattle.vp_laws.proofs.Table.Endings.{NotLive}
 use Rattle.vp_laws.proofs.Moves.Reasons.{Takes, Why, Tells, is_plain, told_to, last_reply, IsDone, Goes, Front}
@@ -120,14 +122,33 @@ completed_says catalogue x given t p deed l (Completes.change_alone rec next r a
 completed_says catalogue x given t p deed l (Completes.read_answered from rec value c last r e g) = read_says catalogue t.txn p rec value deed r e
 completed_says catalogue x given t p deed l (Completes.change_answered from rec c last r g) = change_says catalogue t.txn p rec deed r
 
--- no transaction is closed so here
-pub why_late : (catalogue : Catalogue) (x : SiteState) (given : Input) (after : SiteState) (t : Live) (why : Ending) → Why catalogue x given after t why → is_late why ≡ true
-why_late catalogue x given after t _ (Why.aborted was p at e) = refl
-why_late catalogue x given after t _ (Why.held_here was p name rec exclusive holder at e o f c) = refl
-why_late catalogue x given after t _ (Why.held_there p from name exclusive holder a c o) = refl
-why_late catalogue x given after t _ (Why.other_view p from now a c) = refl
-why_late catalogue x given after t _ (Why.left h e) = refl
-why_late catalogue x given after t _ (Why.timed_out missing h) = refl
+-- a bar of another site is told in this step, and may end a transaction
+abbrev pub BarComes : Input → Type 0
+BarComes given = (from : ℕ) × (txn : TxnId) × (number : ℕ) × (inside : ℕ) × (total : ℕ) × Comes given from (message.Refuse txn number (obstacle.Barred inside total))
+
+pub takes_no_bar : {C : Type 0} (x : SiteState) (given : Input) (u : Live) (p : Pending) → Takes x given u p → BarComes given → C
+takes_no_bar x given u p at b = let z = sym at.next.comes ∙ b.5 in cc
+
+next_no_bar : {C : Type 0} (given : Input) (t : Live) (p : Pending) → IsNext given t p → BarComes given → C
+next_no_bar given t p next b = let z = sym next.comes ∙ b.5 in cc
+
+pub completes_no_bar : {C : Type 0} (catalogue : Catalogue) (x : SiteState) (given : Input) (t : Live) (p : Pending) (deed : Deed) (l : Lent) → Completes catalogue x given t p deed l → BarComes given → C
+completes_no_bar catalogue x given t p deed l (Completes.own_write rec value next r a v e g) b = next_no_bar given t p next b
+completes_no_bar catalogue x given t p deed l (Completes.own_copy rec stored next r a v c free e g) b = next_no_bar given t p next b
+completes_no_bar catalogue x given t p deed l (Completes.change_again rec before next r a v g) b = next_no_bar given t p next b
+completes_no_bar catalogue x given t p deed l (Completes.change_alone rec next r a v none g) b = next_no_bar given t p next b
+completes_no_bar catalogue x given t p deed l (Completes.read_answered from rec value c last r e g) b = let z = sym c ∙ b.5 in cc
+completes_no_bar catalogue x given t p deed l (Completes.change_answered from rec c last r g) b = let z = sym c ∙ b.5 in cc
+
+-- only a bar that is told closes a transaction otherwise
+pub why_late : (catalogue : Catalogue) (x : SiteState) (given : Input) (after : SiteState) (t : Live) (why : Ending) → Why catalogue x given after t why → (is_late why ≡ true) ⊎ BarComes given
+why_late catalogue x given after t _ (Why.aborted was p at e) = inl refl
+why_late catalogue x given after t _ (Why.held_here was p name rec exclusive holder at e o f c) = inl refl
+why_late catalogue x given after t _ (Why.held_there p from name exclusive holder a c o) = inl refl
+why_late catalogue x given after t _ (Why.other_view p from now a c) = inl refl
+why_late catalogue x given after t _ (Why.barred_there p from name exclusive inside total a c o) = inr (from, t.txn, p.number, inside, total, c)
+why_late catalogue x given after t _ (Why.left h e) = inl refl
+why_late catalogue x given after t _ (Why.timed_out missing h) = inl refl
 
 -- the reports of a transaction among the replies, and all that they say of calls that are done
 abbrev pub told_of : TxnId → List Reply → List Report
@@ -168,10 +189,10 @@ plain_unheard u (answer.Deleted txn number) e = cc
 plain_unheard u (answer.Weighed txn number) e = cc
 plain_unheard u _ e = refl
 
--- what reports nothing of any transaction, and refuses nothing early
-pub record IsSilent (rs : List Reply) : Type 0 where
+-- what reports nothing of any transaction, and refuses nothing early, unless a bar is told
+pub record IsSilent (given : Input) (rs : List Reply) : Type 0 where
   pub reports : (u : TxnId) (r : Reply) → Has rs r → heard u r.answer ≡ None
-  pub late : AreLate rs
+  pub late : (r : Reply) → Has rs r → (is_early_refusal r.answer ≡ false) ⊎ BarComes given
 
 none_told : (u : TxnId) (rs : List Reply) → ((r : Reply) → Has rs r → heard u r.answer ≡ None) → heard_of u rs ≡ []
 none_told u [] h = refl
@@ -185,20 +206,20 @@ told_more u rs more h =
     ∙ append-nil (heard_of u rs)
 
 module _ (catalogue : Catalogue) (x : SiteState) (given : Input) where
-  repeats_more : (u : TxnId) (rs more : List Reply) → IsSilent more → Repeats x u rs → Repeats x u (rs ++ more)
+  repeats_more : (u : TxnId) (rs more : List Reply) → IsSilent given more → Repeats x u rs → Repeats x u (rs ++ more)
   repeats_more u rs more s h r k = ⊎_elim (λ old. h r old) (λ new. inl (s.reports u r new)) (has_cases rs more r k)
 
-  pub late_more : (rs more : List Reply) → IsSilent more → AreLate rs → AreLate (rs ++ more)
-  late_more rs more s h r k = ⊎_elim (λ old. h r old) (λ new. s.late r new) (has_cases rs more r k)
+  pub late_more : (rs more : List Reply) → IsSilent given more → (BarComes given → ⊥) → AreLate rs → AreLate (rs ++ more)
+  late_more rs more s none h r k = ⊎_elim (λ old. h r old) (λ new. ⊎_elim (λ late. late) (λ bar. absurd (none bar)) (s.late r new)) (has_cases rs more r k)
 
-  live_more : (rs more : List Reply) (t : Live) → IsSilent more → LiveTold catalogue x given rs t → LiveTold catalogue x given (rs ++ more) t
+  live_more : (rs more : List Reply) (t : Live) → IsSilent given more → LiveTold catalogue x given rs t → LiveTold catalogue x given (rs ++ more) t
   live_more rs more t s (LiveTold.was u h a b gave c d e) = LiveTold.was u h a b gave c d (repeats_more t.txn rs more s e)
-  live_more rs more t s (LiveTold.goes u p q at a b gave c d e f g) = LiveTold.goes u p q at a b gave c d e (repeats_more t.txn rs more s f) (late_more rs more s g)
-  live_more rs more t s (LiveTold.completed u p deed l h d c is e g) = LiveTold.completed u p deed l h d c is (told_more u.txn rs more (s.reports u.txn) ∙ e) (late_more rs more s g)
+  live_more rs more t s (LiveTold.goes u p q at a b gave c d e f g) = LiveTold.goes u p q at a b gave c d e (repeats_more t.txn rs more s f) (late_more rs more s (λ bar. takes_no_bar x given u p at bar) g)
+  live_more rs more t s (LiveTold.completed u p deed l h d c is e g) = LiveTold.completed u p deed l h d c is (told_more u.txn rs more (s.reports u.txn) ∙ e) (late_more rs more s (λ bar. completes_no_bar catalogue x given u p deed l c bar) g)
   live_more rs more t s (LiveTold.begins port view c is e) = LiveTold.begins port view c is (repeats_more t.txn rs more s e)
 
-  pub last_silent : (t : Live) (why : Ending) → is_late why ≡ true → IsSilent (last_reply t why)
-  last_silent t why timely = record { reports = λ u r h. rw (← (last t.pending r h).1) (end_unheard u t.txn (last t.pending r h).0 why); late = λ r h. rw (← (last t.pending r h).1) (end_late t.txn (last t.pending r h).0 why timely) }
+  pub last_silent : (t : Live) (why : Ending) → (is_late why ≡ true) ⊎ BarComes given → IsSilent given (last_reply t why)
+  last_silent t why timely = record { reports = λ u r h. rw (← (last t.pending r h).1) (end_unheard u t.txn (last t.pending r h).0 why); late = λ r h. ⊎_elim (λ late. inl (rw (← (last t.pending r h).1) (end_late t.txn (last t.pending r h).0 why late))) (λ bar. inr bar) timely }
     where
       last : (q : Option Pending) (r : Reply) → Has (option_to_list (option_map (λ p. told_to p.port (answer_of t.txn p.number why)) q)) r → (number : ℕ) × (answer_of t.txn number why ≡ r.answer)
       last None r h = absurd (has_none r h)
@@ -270,7 +291,7 @@ module _ (catalogue : Catalogue) (x : SiteState) (given : Input) where
           entered = λ e k r q. inl (quiet.reports e.txn r q);
         }
 
-    more : (c now : CoordinatorState) (rs extra : List Reply) → IsSilent extra → ((t : Live) → Has now.live t → Has c.live t) → G c rs [] → G now (rs ++ extra) []
+    more : (c now : CoordinatorState) (rs extra : List Reply) → IsSilent given extra → ((t : Live) → Has now.live t → Has c.live t) → G c rs [] → G now (rs ++ extra) []
     more c now rs extra s sub g = record {
       live = λ t h. live_more rs extra t s (g.live t (sub t h));
       others = λ u n. repeats_more u rs extra s (g.others u n);
@@ -287,10 +308,10 @@ module _ (catalogue : Catalogue) (x : SiteState) (given : Input) where
     mark_told rs t (LiveTold.completed u p deed l h d c is e g) = LiveTold.completed u p deed l h d c (ap mark is) e g
     mark_told rs t (LiveTold.begins port view c is e) = LiveTold.begins port view c (ap mark is) e
 
-    inviting_silent : (port : ℕ) → IsSilent (told_to port (answer.Inviting (next_view x)) ∷ [])
+    inviting_silent : (port : ℕ) → IsSilent given (told_to port (answer.Inviting (next_view x)) ∷ [])
     inviting_silent port = record {
       reports = λ u r h. subst (λ (r : Reply). heard u r.answer ≡ None) (has_one_is (told_to port (answer.Inviting (next_view x))) r h) refl;
-      late = λ r h. subst (λ (r : Reply). is_early_refusal r.answer ≡ false) (has_one_is (told_to port (answer.Inviting (next_view x))) r h) refl;
+      late = λ r h. inl (subst (λ (r : Reply). is_early_refusal r.answer ≡ false) (has_one_is (told_to port (answer.Inviting (next_view x))) r h) refl);
     }
 
     front : Front catalogue x given after G

@@ -8,38 +8,52 @@ use Rattle.vp_model.specs.Types.{TxnId, View, Input, Stored, Refreshing, Doubt}
 use Rattle.vp_model.specs.Types.log_record
 use Rattle.vp_model.specs.Types.input
 use Rattle.vp_model.specs.Types.message
-use Rattle.vp_model.specs.Words.{put, put_at, view_before, replace_at, value_at, is_empty, is_view, has}
-use Rattle.vp_model.specs.Catalogue.{Catalogue}
+use Rattle.vp_model.specs.Words.{keys, put, put_at, view_before, replace_at, value_at, is_empty, is_view, has}
+use Rattle.vp_model.specs.Catalogue.{Catalogue, Table as Weights, table_or, accessible_by, weight_inside, weight_total}
 use Rattle.vp_model.specs.Locks.{without_guard}
-use Rattle.vp_model.specs.Site.{SiteState, Stepped, begin_step, put_back, force, change_copies}
-use Rattle.vp_model.specs.Refresh.{newest, take_newer, unlist, end_refresh, start_refresh, refreshing_of, unanswered, is_doubtful}
+use Rattle.vp_model.specs.Site.{SiteState, Stepped, begin_step, put_back, force, change_copies, change_bars}
+use Rattle.vp_model.specs.Refresh.{members, newest, take_newer, with_bar, unlist, end_refresh, start_refresh, refreshing_of, unanswered, is_doubtful}
 use Rattle.vp_model.specs.Views.{drop_view, start_inviting, hold}
 use Rattle.vp_model.specs.Durable.{doubt_of}
 use Rattle.vp_model.specs.Messages.{with_answer, accept, on_accept, on_stale, grant, end_here}
 use Rattle.vp_model.specs.Step.{fix, ask_again, resend_one, inquire, step}
 use Rattle.vp_laws.proofs.Lists.Members.{Has, filter_keeps, find_has}
 use Rattle.vp_laws.proofs.Lists.Changes.{mapped_has, put_new, put_old}
-use Rattle.vp_laws.proofs.Lists.Views.{AtMost, AtMost-refl, AtMost-trans, same_site}
-use Rattle.vp_laws.proofs.Moves.LocalViews.{Tidy}
+use Rattle.vp_laws.proofs.Lists.Views.{Precedes, from_before, not_both, same_site}
+use Rattle.vp_laws.proofs.Journal.Order.{Precedes-trans}
+use Rattle.vp_laws.proofs.Journal.Play.{value_put}
+use Rattle.vp_laws.proofs.Moves.Frames.{judging, judged}
 use Rattle.vp_laws.proofs.Moves.Table.{Comes, Left, Table}
-use Rattle.vp_laws.proofs.Table.Copies.{AnswerNow, OnceEach, value_pair}
-use Rattle.vp_laws.proofs.Table.CopyAt.{CopiesAt, newest_each, replaced_not, table as copies_table, starts as copies_start}
+use Rattle.vp_laws.proofs.Table.Copies.{AnswerNow}
+use Rattle.vp_laws.proofs.Table.CopyAt.{CopiesAt}
+use Rattle.vp_laws.proofs.Table.Listed.{IsUnlisted, ListedNow, Listing}
+use Rattle.vp_laws.proofs.Table.Barred.{Barring}
 use Rattle.vp_laws.proofs.Moves.Rows.{step-keeps}
 use Rattle.vp_laws.proofs.Journal.UpTo.{up_to_from}
-use Rattle.vp_laws.proofs.Lists.Numbers.{eq_not}
+use Rattle.vp_laws.proofs.Lists.Numbers.{eq_not, eq_self}
 
--- none of the records under refresh is this one
-abbrev pub IsUnlisted : List Refreshing → ℕ → Type 0
-IsUnlisted refresh rec = (r : Refreshing) → Has refresh r → r.rec ≢ rec
+-- a bar has the sums by this table over these sites
+abbrev pub sums_of : Weights → List ℕ → ℕ × ℕ
+sums_of t sites = (weight_inside sites t, weight_total t)
 
--- each other holder has answered, no doubt here is on the record, and the copy is as new as each answer
+-- how a refresh has ended: the newest copy is here, and by its table the members have more than half of the weight; or the own copy stays, and
+-- the record is barred by that table
+pub data Verdict (catalogue : Catalogue) (o : Stepped) (r : Refreshing) (rec : ℕ) : Type 0 where
+  taken : (own : Stored) → value_at rec o.site.bars ≡ None → value_at rec o.site.copies ≡ Some (newest own r.answers) → accessible_by (table_or catalogue rec (newest own r.answers).table) (members o.site) ≡ true → Verdict catalogue o r rec
+  barred : (own : Stored) → value_at rec o.site.bars ≡ Some (sums_of (table_or catalogue rec (newest own r.answers).table) (members o.site)) → value_at rec o.site.copies ≡ Some own → accessible_by (table_or catalogue rec (newest own r.answers).table) (members o.site) ≡ false → Verdict catalogue o r rec
+
+-- each other holder has answered, and no doubt here is on the record
 pub record Ended (catalogue : Catalogue) (x : SiteState) (given : Input) (o : Stepped) (rec : ℕ) : Type 0 where
   pub r : Refreshing
   pub on : r.rec ≡ rec
   pub answers : (k : ℕ × Stored) → Has r.answers k → AnswerNow catalogue x given rec k × (o.site.held ≡ x.held)
   pub all : is_empty (unanswered catalogue o.site r) ≡ true
   pub certain : is_doubtful o.site rec ≡ false
-  pub newest : (c : Stored) (k : ℕ × Stored) → value_at rec o.site.copies ≡ Some c → Has r.answers k → AtMost k.1.date c.date
+  -- it has a copy here, and was under refresh
+  pub copied : Has (keys x.copies) rec
+  pub since : ListedNow x o rec
+  -- how it has ended
+  pub verdict : Verdict catalogue o r rec
 
 -- the view is joined now: its members came, or the invitation to it ends
 pub data Joins (x : SiteState) (given : Input) (view : View) : Type 0 where
@@ -47,12 +61,16 @@ pub data Joins (x : SiteState) (given : Input) (view : View) : Type 0 where
   fixed : given ≡ input.Tick → x.inviting ≡ Some (view.id, view.members) → Joins x given view
 
 pub data Unlisted (catalogue : Catalogue) (x : SiteState) (given : Input) (o : Stepped) (rec : ℕ) : Type 0 where
-  still : IsUnlisted x.refresh rec → o.site.held ≡ x.held → Unlisted catalogue x given o rec
+  still : IsUnlisted x.refresh rec → o.site.held ≡ x.held → value_at rec o.site.bars ≡ value_at rec x.bars → Unlisted catalogue x given o rec
   ended : Ended catalogue x given o rec → Unlisted catalogue x given o rec
   joined : (view : View) → o.site.held ≡ Some view → Joins x given view → Unlisted catalogue x given o rec
 
+-- where copies are from, which records are under refresh, and which are barred
+abbrev pub Base : Catalogue → SiteState → Input → Stepped → Type 0
+Base catalogue x given o = CopiesAt catalogue x given o × (Listing catalogue x given o × Barring catalogue x given o)
+
 pub record Unlisting (catalogue : Catalogue) (x : SiteState) (given : Input) (o : Stepped) : Type 0 where
-  pub base : CopiesAt catalogue x given o
+  pub base : Base catalogue x given o
   -- while a view is held, why each record that is not under refresh is not
   pub unlisted : (rec : ℕ) (v : View) → o.site.held ≡ Some v → IsUnlisted o.site.refresh rec → Unlisted catalogue x given o rec
 
@@ -66,67 +84,125 @@ value_replaced n k v (p ∷ pairs) d = go (p.0 == n) (p.0 == k) refl refl (value
     go false true e f i = rw f refl
     go false false e f i = rw f i
 
--- a copy after a newer one may have been taken
-pub record Took (rec : ℕ) (best : Stored) (o n : Stepped) : Type 0 where
+-- what is replaced is there
+value_replaced_here : (n : ℕ) (v w : Stored) (pairs : List (ℕ × Stored)) → value_at n pairs ≡ Some w → value_at n (replace_at n v pairs) ≡ Some v
+value_replaced_here n v w [] e = cc
+value_replaced_here n v w (p ∷ pairs) e = go (p.0 == n) refl e (λ q. value_replaced_here n v w pairs q)
+  where
+    go : (b : Bool) → (p.0 == n) ≡ b → option_map (λ (q : ℕ × Stored). q.1) (cond b (Some p) (find (λ (q : ℕ × Stored). q.0 == n) pairs)) ≡ Some w → (value_at n pairs ≡ Some w → value_at n (replace_at n v pairs) ≡ Some v) → value_at n (cond b (n, v) p ∷ replace_at n v pairs) ≡ Some v
+    go true q f rest = let t : (n == n) ≡ true = eq_self n in rw t refl
+    go false q f rest = rw q (rest f)
+
+-- the newest copy is the own one, or has a later date
+newest_later : (own : Stored) (answers : List (ℕ × Stored)) → (newest own answers ≡ own) ⊎ Precedes own.date (newest own answers).date
+newest_later own [] = inl refl
+newest_later own (a ∷ answers) = go (view_before own.date a.1.date) refl
+  where
+    go : (b : Bool) → view_before own.date a.1.date ≡ b → (newest (cond b a.1 own) answers ≡ own) ⊎ Precedes own.date (newest (cond b a.1 own) answers).date
+    go false e = newest_later own answers
+    go true e = ⊎_elim
+        (λ (same : newest a.1 answers ≡ a.1). inr (subst (λ (c : Stored). Precedes own.date c.date) (sym same) (from_before own.date a.1.date e)))
+        (λ (later : Precedes a.1.date (newest a.1 answers).date). inr (Precedes-trans own.date a.1.date (newest a.1 answers).date (from_before own.date a.1.date e) later))
+        (newest_later a.1 answers)
+
+-- where it isn't later it is the own one
+newest_is_own : (own : Stored) (answers : List (ℕ × Stored)) → view_before own.date (newest own answers).date ≡ false → newest own answers ≡ own
+newest_is_own own answers e = ⊎_elim (λ same. same) (λ later. absurd (not_both own.date (newest own answers).date later (up_to_from own.date (newest own answers).date e))) (newest_later own answers)
+
+-- the same of the copy and the bar
+pub verdict_on : (catalogue : Catalogue) (o e : Stepped) (r : Refreshing) (rec : ℕ) → e.site.held ≡ o.site.held → value_at rec e.site.copies ≡ value_at rec o.site.copies → value_at rec e.site.bars ≡ value_at rec o.site.bars → Verdict catalogue o r rec → Verdict catalogue e r rec
+verdict_on catalogue o e r rec v c bs (Verdict.taken own free copy a) = Verdict.taken own (bs ∙ free) (c ∙ copy) (rw v a)
+verdict_on catalogue o e r rec v c bs (Verdict.barred own bar copy a) = Verdict.barred own (rw v (bs ∙ bar)) (c ∙ copy) (rw v a)
+
+pub listed_on : {x : SiteState} (o e : Stepped) (rec : ℕ) → e.site.held ≡ o.site.held → ListedNow x o rec → ListedNow x e rec
+listed_on o e rec v (ListedNow.still r h is same_view) = ListedNow.still r h is (v ∙ same_view)
+listed_on o e rec v (ListedNow.joined view now origin) = ListedNow.joined view (v ∙ now) origin
+
+pub ended_on : (catalogue : Catalogue) (x : SiteState) (given : Input) (o e : Stepped) (rec : ℕ) → e.site.id ≡ o.site.id → e.site.held ≡ o.site.held → e.site.doubts ≡ o.site.doubts → value_at rec e.site.copies ≡ value_at rec o.site.copies → value_at rec e.site.bars ≡ value_at rec o.site.bars → Ended catalogue x given o rec → Ended catalogue x given e rec
+ended_on catalogue x given o e rec i v d c bs q = record {
+  r = q.r;
+  on = q.on;
+  answers = λ k h. let z = q.answers k h in (z.0, v ∙ z.1);
+  all = rw (i, v) q.all;
+  certain = rw d q.certain;
+  copied = q.copied;
+  since = listed_on o e rec v q.since;
+  verdict = verdict_on catalogue o e q.r rec v c bs q.verdict;
+}
+
+-- after the end of a refresh was judged
+pub record Took (catalogue : Catalogue) (r : Refreshing) (own : Stored) (o n : Stepped) : Type 0 where
   pub id : n.site.id ≡ o.site.id
   pub held : n.site.held ≡ o.site.held
   pub doubts : n.site.doubts ≡ o.site.doubts
   pub refresh : n.site.refresh ≡ o.site.refresh
-  pub other : (k : ℕ) → rec ≢ k → value_at k n.site.copies ≡ value_at k o.site.copies
-  pub here : (c : Stored) → value_at rec n.site.copies ≡ Some c → AtMost best.date c.date
+  pub other : (k : ℕ) → r.rec ≢ k → value_at k n.site.copies ≡ value_at k o.site.copies
+  pub bars : (k : ℕ) → r.rec ≢ k → value_at k n.site.bars ≡ value_at k o.site.bars
+  pub verdict : Verdict catalogue n r r.rec
 
-pub took : (rec : ℕ) (own best : Stored) (o : Stepped) → value_at rec o.site.copies ≡ Some own → Took rec best o (take_newer rec own best o)
+pub took : (catalogue : Catalogue) (r : Refreshing) (own : Stored) (o : Stepped) → value_at r.rec o.site.copies ≡ Some own → value_at r.rec o.site.bars ≡ None → Took catalogue r own o (judged catalogue r own o)
 unfolding take_newer
-took rec own best o v = go (view_before own.date best.date) refl
+took catalogue r own o v free = go (accessible_by (judging catalogue r own) (members o.site)) refl
   where
-    go : (b : Bool) → view_before own.date best.date ≡ b → Took rec best o (cond b (force (log_record.Copy rec best) (change_copies (replace_at rec best) o)) o)
-    go true e = record {
+    best : Stored
+    best = newest own r.answers
+
+    newer : accessible_by (judging catalogue r own) (members o.site) ≡ true → (b : Bool) → view_before own.date best.date ≡ b → Took catalogue r own o (cond b (force (log_record.Copy r.rec best) (change_copies (replace_at r.rec best) o)) o)
+    newer a true e = record {
       id = refl;
       held = refl;
       doubts = refl;
       refresh = refl;
-      other = λ k d. value_replaced rec k best o.site.copies d;
-      here = λ c f. ⊎_elim
-          (λ (new : (rec, c) ≡ (rec, best)). subst (λ (a : ℕ × Stored). AtMost best.date a.1.date) (sym new) (AtMost-refl best.date))
-          (λ (old : Has o.site.copies (rec, c) × (rec ≢ rec)). absurd (old.1 refl))
-          (replaced_not rec best o.site.copies (rec, c) (value_pair rec _ c f));
+      other = λ k d. value_replaced r.rec k best o.site.copies d;
+      bars = λ k d. refl;
+      verdict = Verdict.taken own free (value_replaced_here r.rec best own o.site.copies v) a;
     }
-    go false e = record {
+    newer a false e = record {
       id = refl;
       held = refl;
       doubts = refl;
       refresh = refl;
       other = λ k d. refl;
-      here = λ c f. let same : own ≡ c = cc in subst (λ (c : Stored). AtMost best.date c.date) same (up_to_from own.date best.date e);
+      bars = λ k d. refl;
+      verdict = Verdict.taken own free (v ∙ ap (λ (c : Stored). Some c) (sym (newest_is_own own r.answers e))) a;
     }
 
-module _ (catalogue : Catalogue) (x : SiteState) (given : Input) (tidy : Tidy x) (listed : (r : Refreshing) → Has x.refresh r → (v : View) × (x.held ≡ Some v)) (once : OnceEach x given) where
+    go : (b : Bool) → accessible_by (judging catalogue r own) (members o.site) ≡ b → Took catalogue r own o (cond b (take_newer r.rec own best o) (change_bars (with_bar r.rec (judging catalogue r own) (members o.site)) o))
+    go true a = newer a (view_before own.date best.date) refl
+    go false a = record {
+      id = refl;
+      held = refl;
+      doubts = refl;
+      refresh = refl;
+      other = λ k d. refl;
+      bars = λ k d. value_put k r.rec (sums_of (judging catalogue r own) (members o.site)) o.site.bars ∙ rw (eq_not r.rec k d) refl;
+      verdict = Verdict.barred own (value_put r.rec r.rec (sums_of (judging catalogue r own) (members o.site)) o.site.bars ∙ rw (eq_self r.rec) refl) v a;
+    }
+
+module _ (catalogue : Catalogue) (x : SiteState) (given : Input) (b : Table catalogue x given (Base catalogue x given)) (begun : Base catalogue x given (begin_step x)) where
   abbrev P : Stepped → Type 0
   P = Unlisting catalogue x given
 
-  abbrev b : Table catalogue x given (CopiesAt catalogue x given)
-  b = copies_table catalogue x given tidy listed once
-
   -- in the view of the start, with all that was under refresh then
-  first : (e : Stepped) → e.site.held ≡ x.held → ((r : Refreshing) → Has x.refresh r → (q : Refreshing) × Has e.site.refresh q × (q.rec ≡ r.rec)) → CopiesAt catalogue x given e → P e
-  first e v sub base = record { base = base; unlisted = λ rec u h none. Unlisted.still (λ r g is. let q = sub r g in none q.0 q.1 (q.2 ∙ is)) v }
+  first : (e : Stepped) → e.site.held ≡ x.held → e.site.bars ≡ x.bars → ((r : Refreshing) → Has x.refresh r → (q : Refreshing) × Has e.site.refresh q × (q.rec ≡ r.rec)) → Base catalogue x given e → P e
+  first e v bs sub base = record { base = base; unlisted = λ rec u h none. Unlisted.still (λ r g is. let q = sub r g in none q.0 q.1 (q.2 ∙ is)) v (ap (value_at rec) bs) }
 
-  stays : (e : Stepped) → e.site.held ≡ x.held → e.site.refresh ≡ x.refresh → CopiesAt catalogue x given e → P e
-  stays e v r base = first e v (λ q h. (q, rw r h, refl)) base
+  stays : (e : Stepped) → e.site.held ≡ x.held → e.site.bars ≡ x.bars → e.site.refresh ≡ x.refresh → Base catalogue x given e → P e
+  stays e v bs r base = first e v bs (λ q h. (q, rw r h, refl)) base
 
-  gone : (e : Stepped) → e.site.held ≡ None → CopiesAt catalogue x given e → P e
+  gone : (e : Stepped) → e.site.held ≡ None → Base catalogue x given e → P e
   gone e v base = record { base = base; unlisted = λ rec u h none. absurd (let z = v in cc) }
 
   left_none : (o : Stepped) → Left x o → o.site.held ≡ None
   left_none o l = ap (λ v. v.held) l.views
 
-  on : (o e : Stepped) (rec : ℕ) → e.site.id ≡ o.site.id → e.site.held ≡ o.site.held → e.site.doubts ≡ o.site.doubts → value_at rec e.site.copies ≡ value_at rec o.site.copies → Unlisted catalogue x given o rec → Unlisted catalogue x given e rec
-  on o e rec i v d c (Unlisted.still none same) = Unlisted.still none (v ∙ same)
-  on o e rec i v d c (Unlisted.joined view now origin) = Unlisted.joined view (v ∙ now) origin
-  on o e rec i v d c (Unlisted.ended q) = Unlisted.ended (record { r = q.r; on = q.on; answers = λ k h. let z = q.answers k h in (z.0, v ∙ z.1); all = rw (i, v) q.all; certain = rw d q.certain; newest = λ k a f h. q.newest k a (sym c ∙ f) h })
+  on : (o e : Stepped) (rec : ℕ) → e.site.id ≡ o.site.id → e.site.held ≡ o.site.held → e.site.doubts ≡ o.site.doubts → value_at rec e.site.copies ≡ value_at rec o.site.copies → value_at rec e.site.bars ≡ value_at rec o.site.bars → Unlisted catalogue x given o rec → Unlisted catalogue x given e rec
+  on o e rec i v d c bs (Unlisted.still none same was) = Unlisted.still none (v ∙ same) (bs ∙ was)
+  on o e rec i v d c bs (Unlisted.joined view now origin) = Unlisted.joined view (v ∙ now) origin
+  on o e rec i v d c bs (Unlisted.ended q) = Unlisted.ended (ended_on catalogue x given o e rec i v d c bs q)
 
-  same : (o e : Stepped) → e.site.id ≡ o.site.id → e.site.held ≡ o.site.held → e.site.doubts ≡ o.site.doubts → e.site.copies ≡ o.site.copies → ((r : Refreshing) → Has o.site.refresh r → (q : Refreshing) × Has e.site.refresh q × (q.rec ≡ r.rec)) → CopiesAt catalogue x given e → P o → P e
-  same o e i v d c sub base p = record { base = base; unlisted = λ rec u h none. on o e rec i v d (ap (value_at rec) c) (p.unlisted rec u (sym v ∙ h) (λ r g is. let q = sub r g in none q.0 q.1 (q.2 ∙ is))) }
+  same : (o e : Stepped) → e.site.id ≡ o.site.id → e.site.held ≡ o.site.held → e.site.doubts ≡ o.site.doubts → e.site.copies ≡ o.site.copies → e.site.bars ≡ o.site.bars → ((r : Refreshing) → Has o.site.refresh r → (q : Refreshing) × Has e.site.refresh q × (q.rec ≡ r.rec)) → Base catalogue x given e → P o → P e
+  same o e i v d c bs sub base p = record { base = base; unlisted = λ rec u h none. on o e rec i v d (ap (value_at rec) c) (ap (value_at rec) bs) (p.unlisted rec u (sym v ∙ h) (λ r g is. let q = sub r g in none q.0 q.1 (q.2 ∙ is))) }
 
   abbrev unguarded : Refreshing → Stepped → Stepped
   unguarded r n = record n { site = record n.site { here = record n.site.here { locks = without_guard r.rec n.site.locks }; refresh = filter (λ other. not (other.rec == r.rec)) n.site.refresh } }
@@ -134,7 +210,7 @@ module _ (catalogue : Catalogue) (x : SiteState) (given : Input) (tidy : Tidy x)
   differs : (a b c : ℕ) → a ≡ b → c ≢ b → not (a == c) ≡ true
   differs a b c e n = let t : (a == c) ≡ false = grind (arith, nat_tests, e, n) in rw t refl
 
-  removes : (rec : ℕ) (r : Refreshing) (own : Stored) (o n : Stepped) → refreshing_of rec o.site.refresh ≡ Some r → is_empty (unanswered catalogue o.site r) ≡ true → is_doubtful o.site r.rec ≡ false → Took r.rec (newest own r.answers) o n → P o → CopiesAt catalogue x given (unguarded r n) → P (unguarded r n)
+  removes : (rec : ℕ) (r : Refreshing) (own : Stored) (o n : Stepped) → refreshing_of rec o.site.refresh ≡ Some r → is_empty (unanswered catalogue o.site r) ≡ true → is_doubtful o.site r.rec ≡ false → Took catalogue r own o n → P o → Base catalogue x given (unguarded r n) → P (unguarded r n)
   removes rec r own o n e a d t p base = record { base = base; unlisted = λ k u h none. go k u (sym t.held ∙ h) none (same_site r.rec k) }
     where
       there : Has o.site.refresh r
@@ -144,20 +220,30 @@ module _ (catalogue : Catalogue) (x : SiteState) (given : Input) (tidy : Tidy x)
       go k u h none (inl z) = Unlisted.ended (record {
         r = r;
         on = z;
-        answers = λ q g. let b = p.base.answers r q there g in (subst (λ (n : ℕ). AnswerNow catalogue x given n q) z b.0, t.held ∙ b.1);
+        answers = λ q g. let b = p.base.0.answers r q there g in (subst (λ (n : ℕ). AnswerNow catalogue x given n q) z b.0, t.held ∙ b.1);
         all = rw (t.id, t.held) a;
         certain = subst (λ (k : ℕ). is_doubtful n.site k ≡ false) z (rw t.doubts d);
-        newest = λ c q f g. AtMost-trans _ _ _ (newest_each own r.answers q g) (t.here c (subst (λ (k : ℕ). value_at k n.site.copies ≡ Some c) (sym z) f));
+        copied = subst (Has (keys x.copies)) z (p.base.1.0.listed r there);
+        since = subst (ListedNow x (unguarded r n)) z (listed_on o (unguarded r n) r.rec t.held (p.base.1.0.since r there));
+        verdict = subst (Verdict catalogue (unguarded r n) r) z (verdict_on catalogue n (unguarded r n) r r.rec refl refl refl t.verdict);
       })
-      go k u h none (inr z) = on o (unguarded r n) k t.id t.held t.doubts (t.other k z) (p.unlisted k u h (λ q g is. none q (filter_keeps (λ (other : Refreshing). not (other.rec == r.rec)) n.site.refresh q (rw t.refresh g) (differs q.rec k r.rec is z)) is))
+      go k u h none (inr z) = on o (unguarded r n) k t.id t.held t.doubts (t.other k z) (t.bars k z) (p.unlisted k u h (λ q g is. none q (filter_keeps (λ (other : Refreshing). not (other.rec == r.rec)) n.site.refresh q (rw t.refresh g) (differs q.rec k r.rec is z)) is))
 
-  finishes : (rec : ℕ) (r : Refreshing) (own : Stored) (o : Stepped) → refreshing_of rec o.site.refresh ≡ Some r → is_empty (unanswered catalogue o.site r) ≡ true → is_doubtful o.site r.rec ≡ false → value_at r.rec o.site.copies ≡ Some own → CopiesAt catalogue x given (end_refresh catalogue r own o) → P o → P (end_refresh catalogue r own o)
+  -- what is under refresh has no bar
+  unbarred : (rec : ℕ) (r : Refreshing) (o : Stepped) → refreshing_of rec o.site.refresh ≡ Some r → P o → value_at r.rec o.site.bars ≡ None
+  unbarred rec r o e p = go (value_at r.rec o.site.bars) refl
+    where
+      go : (bar : Option (ℕ × ℕ)) → value_at r.rec o.site.bars ≡ bar → value_at r.rec o.site.bars ≡ None
+      go None q = q
+      go (Some bar) q = absurd ((p.base.1.1.barred r.rec bar q).unlisted r (find_has (λ (q : Refreshing). q.rec == rec) o.site.refresh r e) refl)
+
+  finishes : (rec : ℕ) (r : Refreshing) (own : Stored) (o : Stepped) → refreshing_of rec o.site.refresh ≡ Some r → is_empty (unanswered catalogue o.site r) ≡ true → is_doubtful o.site r.rec ≡ false → value_at r.rec o.site.copies ≡ Some own → Base catalogue x given (end_refresh catalogue r own o) → P o → P (end_refresh catalogue r own o)
   unfolding end_refresh unlist
-  finishes rec r own o e a d v base p = removes rec r own o (take_newer r.rec own (newest own r.answers) o) e a d (took r.rec own (newest own r.answers) o v) p base
+  finishes rec r own o e a d v base p = removes rec r own o (judged catalogue r own o) e a d (took catalogue r own o v (unbarred rec r o e p)) p base
 
-  refreshes : (view : View) (rec : ℕ) (o : Stepped) → CopiesAt catalogue x given (start_refresh catalogue view rec o) → P o → P (start_refresh catalogue view rec o)
+  refreshes : (view : View) (rec : ℕ) (o : Stepped) → Base catalogue x given (start_refresh catalogue view rec o) → P o → P (start_refresh catalogue view rec o)
   unfolding start_refresh
-  refreshes view rec o base p = record { base = base; unlisted = λ k u h none. on o (start_refresh catalogue view rec o) k refl refl refl refl (p.unlisted k u h (λ r g is. none r (stays_listed k r g is none) is)) }
+  refreshes view rec o base p = record { base = base; unlisted = λ k u h none. on o (start_refresh catalogue view rec o) k refl refl refl refl refl (p.unlisted k u h (λ r g is. none r (stays_listed k r g is none) is)) }
     where
       more : List Refreshing
       more = put (λ (a : Refreshing) (b : Refreshing). a.rec == b.rec) (λ (a : Refreshing) (b : Refreshing). nat_lt a.rec b.rec) (record { rec = rec; answers = [] }) o.site.refresh
@@ -166,12 +252,12 @@ module _ (catalogue : Catalogue) (x : SiteState) (given : Input) (tidy : Tidy x)
       stays_listed k r g is none = put_old (λ (a : Refreshing) (b : Refreshing). a.rec == b.rec) (λ (a : Refreshing) (b : Refreshing). nat_lt a.rec b.rec) (record { rec = rec; answers = [] }) o.site.refresh r g
           (eq_not rec r.rec (λ z. none (record { rec = rec; answers = [] }) (put_new (λ (a : Refreshing) (b : Refreshing). a.rec == b.rec) (λ (a : Refreshing) (b : Refreshing). nat_lt a.rec b.rec) (record { rec = rec; answers = [] }) o.site.refresh) (z ∙ is)))
 
-  ends_here : (from : ℕ) (txn : TxnId) (commit : Bool) (doubt : Option Doubt) → CopiesAt catalogue x given (end_here from txn commit doubt (begin_step x)) → P (end_here from txn commit doubt (begin_step x))
+  ends_here : (from : ℕ) (txn : TxnId) (commit : Bool) (doubt : Option Doubt) → Base catalogue x given (end_here from txn commit doubt (begin_step x)) → P (end_here from txn commit doubt (begin_step x))
   unfolding end_here
-  ends_here from txn true None base = stays _ refl refl base
-  ends_here from txn false None base = stays _ refl refl base
-  ends_here from txn false (Some d) base = stays _ refl refl base
-  ends_here from txn true (Some d) base = stays _ refl refl base
+  ends_here from txn true None base = stays _ refl refl refl base
+  ends_here from txn false None base = stays _ refl refl refl base
+  ends_here from txn false (Some d) base = stays _ refl refl refl base
+  ends_here from txn true (Some d) base = stays _ refl refl refl base
 
   rec_same : (rec from : ℕ) (stored : Stored) (r : Refreshing) → (with_answer rec from stored r).rec ≡ r.rec
   rec_same rec from stored r = go (r.rec == rec)
@@ -186,46 +272,46 @@ module _ (catalogue : Catalogue) (x : SiteState) (given : Input) (tidy : Tidy x)
   pub table : Table catalogue x given P
   unfolding drop_view on_stale on_accept hold fix ask_again start_inviting accept grant resend_one inquire
   table = record {
-    sends_back = λ from m t. stays _ refl refl (b.sends_back from m t);
-    asks_again = λ o ms all p. same o _ refl refl refl refl (λ q g. each _ q g) (b.asks_again o ms all p.base) p;
+    sends_back = λ from m t. stays _ refl refl refl (b.sends_back from m t);
+    asks_again = λ o ms all p. same o _ refl refl refl refl refl (λ q g. each _ q g) (b.asks_again o ms all p.base) p;
     drop_view = λ l e z p. gone (drop_view (put_back (begin_step x) l)) refl (b.drop_view l e z p.base);
     start_inviting = λ o s l p. gone _ (left_none o l) (b.start_inviting o s l p.base);
     accept = λ from id o c e l p. gone _ (left_none o l) (b.accept from id o c e l p.base);
-    accepted = λ from id c. stays _ refl refl (b.accepted from id c);
-    seen = λ from id promise c. stays _ refl refl (b.seen from id promise c);
+    accepted = λ from id c. stays _ refl refl refl (b.accepted from id c);
+    seen = λ from id promise c. stays _ refl refl refl (b.seen from id promise c);
     hold = λ from id members c e. record { base = b.hold from id members c e; unlisted = λ k u h none. Unlisted.joined (record { id = id; members = members }) refl (Joins.came from c e) };
-    heard = λ from view c e. stays _ refl refl (b.heard from view c e);
+    heard = λ from view c e. stays _ refl refl refl (b.heard from view c e);
     fix = λ view c e. record { base = b.fix view c e; unlisted = λ k u h none. Unlisted.joined view refl (Joins.fixed c e) };
-    without_wait = λ id c i w. stays _ refl refl (b.without_wait id c i w);
-    probe = λ view c e. stays _ refl refl (b.probe view c e);
-    answers_inviting = λ port c s p. same _ _ refl refl refl refl (λ r h. each _ r h) (b.answers_inviting port c s p.base) p;
-    start_refresh = λ view rec o e a h p. refreshes view rec o (b.start_refresh view rec o e a h p.base) p;
+    without_wait = λ id c i w. stays _ refl refl refl (b.without_wait id c i w);
+    probe = λ view c e. stays _ refl refl refl (b.probe view c e);
+    answers_inviting = λ port c s p. same _ _ refl refl refl refl refl (λ r h. each _ r h) (b.answers_inviting port c s p.base) p;
+    start_refresh = λ view rec o e h p. refreshes view rec o (b.start_refresh view rec o e h p.base) p;
     end_refresh = λ rec r own o e a d v p. finishes rec r own o e a d v (b.end_refresh rec r own o e a d v p.base) p;
-    keep_answer = λ from view rec stored r c e f g. first _ refl (λ q h. (with_answer rec from stored q, mapped_has (with_answer rec from stored) x.refresh q h, rec_same rec from stored q)) (b.keep_answer from view rec stored r c e f g);
-    grant_read = λ from txn view number rec stored c e n v f. stays _ refl refl (b.grant_read from txn view number rec stored c e n v f);
-    grant_write = λ from txn view number rec stored c e n v f. stays _ refl refl (b.grant_write from txn view number rec stored c e n v f);
-    vote_reading = λ from txn view number reads writes part c e n d f v a w. stays _ refl refl (b.vote_reading from txn view number reads writes part c e n d f v a w);
-    vote_writing = λ from txn view number reads writes part c e n d f v a w. stays _ refl refl (b.vote_writing from txn view number reads writes part c e n d f v a w);
+    keep_answer = λ from view rec stored r c e f g. first _ refl refl (λ q h. (with_answer rec from stored q, mapped_has (with_answer rec from stored) x.refresh q h, rec_same rec from stored q)) (b.keep_answer from view rec stored r c e f g);
+    grant_read = λ from txn view number rec stored c e n v f u. stays _ refl refl refl (b.grant_read from txn view number rec stored c e n v f u);
+    grant_write = λ from txn view number rec stored c e n v f u. stays _ refl refl refl (b.grant_write from txn view number rec stored c e n v f u);
+    vote_reading = λ from txn view number reads writes part c e n d f v a w. stays _ refl refl refl (b.vote_reading from txn view number reads writes part c e n d f v a w);
+    vote_writing = λ from txn view number reads writes part c e n d f v a w. stays _ refl refl refl (b.vote_writing from txn view number reads writes part c e n d f v a w);
     end_here = λ from txn commit c. ends_here from txn commit (doubt_of txn x.doubts) (b.end_here from txn commit c);
     coordinator = record {
-      begin = λ port view e g u. stays _ refl refl (b.coordinator.begin port view e g u);
-      answers = λ words port why y. stays _ refl refl (b.coordinator.answers words port why y);
-      take_lock = λ t rec exclusive stored h i a v c. stays _ refl refl (b.coordinator.take_lock t rec exclusive stored h i a v c);
-      complete = λ t p deed l h g y e q. stays _ refl refl (b.coordinator.complete t p deed l h g y e q.base);
-      read_at = λ t p rec q h n r a w c o y. stays _ refl refl (b.coordinator.read_at t p rec q h n r a w c o y);
-      write_at = λ t p rec value l h n w a e o d y v q. stays _ refl refl (b.coordinator.write_at t p rec value l h n w a e o d y v q.base);
-      prepare_parts = λ t p h i g e. stays _ refl refl (b.coordinator.prepare_parts t p h i g e);
-      still_waits = λ t p from h e m f c. stays _ refl refl (b.coordinator.still_waits t p from h e m f c);
-      decide = λ t n d. stays _ refl refl (b.coordinator.decide t n d);
-      close = λ t why l n a z y q. stays _ refl refl (b.coordinator.close t why l n a z y q.base);
-      mark_calls = λ l c z q. stays _ refl refl (b.coordinator.mark_calls l c z q.base);
-      acknowledge = λ from txn c w. stays _ refl refl (b.coordinator.acknowledge from txn c w);
+      begin = λ port view e g u. stays _ refl refl refl (b.coordinator.begin port view e g u);
+      answers = λ words port why y. stays _ refl refl refl (b.coordinator.answers words port why y);
+      take_lock = λ t rec exclusive stored h i a v c. stays _ refl refl refl (b.coordinator.take_lock t rec exclusive stored h i a v c);
+      complete = λ t p deed l h g y e q. stays _ refl refl refl (b.coordinator.complete t p deed l h g y e q.base);
+      read_at = λ t p rec q h n r a w c o y. stays _ refl refl refl (b.coordinator.read_at t p rec q h n r a w c o y);
+      write_at = λ t p rec value l h n w a e o d y v q. stays _ refl refl refl (b.coordinator.write_at t p rec value l h n w a e o d y v q.base);
+      prepare_parts = λ t p h i g e. stays _ refl refl refl (b.coordinator.prepare_parts t p h i g e);
+      still_waits = λ t p from h e m f c. stays _ refl refl refl (b.coordinator.still_waits t p from h e m f c);
+      decide = λ t n d. stays _ refl refl refl (b.coordinator.decide t n d);
+      close = λ t why l n a z y q. stays _ refl refl refl (b.coordinator.close t why l n a z y q.base);
+      mark_calls = λ l c z q. stays _ refl refl refl (b.coordinator.mark_calls l c z q.base);
+      acknowledge = λ from txn c w. stays _ refl refl refl (b.coordinator.acknowledge from txn c w);
     };
-    resend_one = λ d o c h p. same o _ refl refl refl refl (λ q g. each _ q g) (b.resend_one d o c h p.base) p;
+    resend_one = λ d o c h p. same o _ refl refl refl refl refl (λ q g. each _ q g) (b.resend_one d o c h p.base) p;
   }
 
   starts : P (begin_step x)
-  starts = stays (begin_step x) refl refl (copies_start catalogue x given tidy listed once)
+  starts = stays (begin_step x) refl refl refl begun
 
-pub unlisting-step : (catalogue : Catalogue) (x : SiteState) (given : Input) → Tidy x → ((r : Refreshing) → Has x.refresh r → (v : View) × (x.held ≡ Some v)) → OnceEach x given → Unlisting catalogue x given (step catalogue x given)
-unlisting-step catalogue x given tidy listed once = step-keeps catalogue x given (Unlisting catalogue x given) (table catalogue x given tidy listed once) (starts catalogue x given tidy listed once)
+pub unlisting-step : (catalogue : Catalogue) (x : SiteState) (given : Input) → Table catalogue x given (Base catalogue x given) → Base catalogue x given (begin_step x) → Unlisting catalogue x given (step catalogue x given)
+unlisting-step catalogue x given b begun = step-keeps catalogue x given (Unlisting catalogue x given) (table catalogue x given b begun) (starts catalogue x given b begun)

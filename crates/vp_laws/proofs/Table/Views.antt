@@ -10,14 +10,14 @@ use Rattle.vp_model.specs.Catalogue.{Catalogue}
 use Rattle.vp_model.specs.Durable.{doubt_of}
 use Rattle.vp_model.specs.Site.{ViewState, change_views, SiteState, Lent, Stepped, begin_step, lent, put_back, letters}
 use Rattle.vp_model.specs.Transactions.{decide, keep_writes, complete}
-use Rattle.vp_model.specs.Refresh.{newest, unlist, end_refresh, start_refresh, other_holders}
+use Rattle.vp_model.specs.Refresh.{unlist, end_refresh, start_refresh, other_holders}
 use Rattle.vp_model.specs.Views.{with_invitation, is_spent, other_sites, drop_view, start_inviting, hold}
 use Rattle.vp_model.specs.Calls.{start_txn, take_lock, read_at, write_at, prepare_parts, prepare_for}
 use Rattle.vp_model.specs.Messages.{with_wait, accept, on_accept, with_acceptance, on_stale, with_heard, grant, end_here}
 use Rattle.vp_model.specs.Step.{with_monitor, step, fix, without_wait, probe_all, mark_calls, resend_one}
 use Rattle.vp_laws.proofs.Lists.Members.{Has, has_none, has_one, has_one_is, has_cases, has_from_test, map_has, both_true}
 use Rattle.vp_laws.proofs.Lists.Views.{AtMost, Precedes, AtMost-refl, AtMost-same, Precedes-at_most, from_before, same_is, is_view_is, put_keeps, put_only}
-use Rattle.vp_laws.proofs.Moves.Frames.{Ends, close-ends, decided-ends, decide-cases, take-cases}
+use Rattle.vp_laws.proofs.Moves.Frames.{Ends, close-ends, decided-ends, decide-cases, judged, take-cases}
 use Rattle.vp_laws.proofs.Moves.Rows.{step-keeps}
 use Rattle.vp_laws.proofs.Moves.Table.{Comes, next_view, lent_at, Left, Back, SendsBack, Table, AsksAgain}
 use Rattle.vp_laws.proofs.Moves.LocalViews.{letter, Tidy, MaySend, Local, IsNew, is_quiet, quiet-may, beside, silent, letters_quiet, letter_quiet, may_rise}
@@ -273,7 +273,7 @@ module _ (catalogue : Catalogue) (x : SiteState) (given : Input) (tidy : Tidy x)
 
   ends_refresh : (r : Refreshing) (own : Stored) (o : Stepped) → Local x given o → Local x given (end_refresh catalogue r own o)
   unfolding end_refresh unlist
-  ends_refresh r own o l = silent x given _ _ refl refl refl (take-cases (Local x given) r.rec own (newest own r.answers) o (silent x given o _ refl refl refl l) l)
+  ends_refresh r own o l = silent x given _ _ refl refl refl (take-cases (Local x given) catalogue r own o (silent x given o _ refl refl refl l) l (silent x given o _ refl refl refl l))
 
   ends_here : (from : ℕ) (txn : TxnId) (commit : Bool) (doubt : Option Doubt) → Local x given (end_here from txn commit doubt (begin_step x))
   unfolding end_here
@@ -314,11 +314,11 @@ module _ (catalogue : Catalogue) (x : SiteState) (given : Input) (tidy : Tidy x)
     fix = fixes;
     without_wait = λ id c i w. unwaits;
     probe = λ view c e. probes view;
-    start_refresh = λ view rec o e a h l. starts_refresh view rec o l;
+    start_refresh = λ view rec o e h l. starts_refresh view rec o l;
     end_refresh = λ rec r own o e a d v l. ends_refresh r own o l;
     keep_answer = λ from view rec stored r c e f g. silent x given (begin_step x) _ refl refl refl begins;
-    grant_read = λ from txn view number rec stored c e n v f. one_more_beside from _ refl _ refl refl refl;
-    grant_write = λ from txn view number rec stored c e n v f. one_more_beside from _ refl _ refl refl refl;
+    grant_read = λ from txn view number rec stored c e n v f u. one_more_beside from _ refl _ refl refl refl;
+    grant_write = λ from txn view number rec stored c e n v f u. one_more_beside from _ refl _ refl refl refl;
     vote_reading = λ from txn view number reads writes part c e n d f v a w. one_more_beside from (message.Vote part.txn) refl _ refl refl refl;
     vote_writing = λ from txn view number reads writes part c e n d f v a w. one_more_beside from (message.Vote part.txn) refl _ refl refl refl;
     end_here = λ from txn commit c. ends_here from txn commit (doubt_of txn x.doubts);

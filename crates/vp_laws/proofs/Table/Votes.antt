@@ -12,13 +12,13 @@ use Rattle.vp_model.specs.Catalogue.{Catalogue}
 use Rattle.vp_model.specs.Durable.{doubt_of}
 use Rattle.vp_model.specs.Site.{CoordinatorState, reply, SiteState, Lent, Stepped, begin_step, lent, put_back, letters, change_views, change_refresh, send}
 use Rattle.vp_model.specs.Transactions.{Deed, last_changes, entry_of, keep_writes, complete, wait_for, writes_held}
-use Rattle.vp_model.specs.Refresh.{newest, take_newer, unlist, end_refresh, start_refresh, other_holders}
+use Rattle.vp_model.specs.Refresh.{unlist, end_refresh, start_refresh, other_holders}
 use Rattle.vp_model.specs.Views.{part_of, other_sites, drop_view, start_inviting, invite, hold}
 use Rattle.vp_model.specs.Calls.{begun, start_txn, take_lock, read_at, write_at, prepare_parts, prepare_for, records_read_at}
 use Rattle.vp_model.specs.Messages.{with_answer, accept, on_accept, on_stale, with_heard, grant, end_here}
 use Rattle.vp_model.specs.Step.{marked_call, without_wait, step, fix, mark, probe_all, mark_calls, ask_again, resend_one}
 use Rattle.vp_laws.proofs.Lists.Members.{Has, has_none, has_one_is, has_cases, find_true, map_has}
-use Rattle.vp_laws.proofs.Moves.Frames.{Ends, close-ends, decided-ends, decide-cases, take-cases}
+use Rattle.vp_laws.proofs.Moves.Frames.{Ends, close-ends, decided-ends, decide-cases, judged, take-cases}
 use Rattle.vp_laws.proofs.Lists.Changes.{without_first_has}
 use Rattle.vp_model.proofs.SameTxn.{same_txn-is}
 use Rattle.vp_laws.proofs.Lists.Names.{Apart, named, apart_without, change_cases, apart_change, apart_more, apart_mark}
@@ -274,7 +274,7 @@ module _ (catalogue : Catalogue) (x : SiteState) (given : Input) (led : Led x) (
 
   ends_refresh : (r : Refreshing) (own : Stored) (o : Stepped) → Votes catalogue x given o → Votes catalogue x given (end_refresh catalogue r own o)
   unfolding end_refresh unlist
-  ends_refresh r own o l = silent (take_newer r.rec own (newest own r.answers) o) _ refl refl refl (take-cases (Votes catalogue x given) r.rec own (newest own r.answers) o (silent o _ refl refl refl l) l)
+  ends_refresh r own o l = silent (judged catalogue r own o) _ refl refl refl (take-cases (Votes catalogue x given) catalogue r own o (silent o _ refl refl refl l) l (silent o _ refl refl refl l))
 
   ends_here : (from : ℕ) (txn : TxnId) (commit : Bool) (doubt : Option Doubt) → Votes catalogue x given (end_here from txn commit doubt (begin_step x))
   unfolding end_here
@@ -307,11 +307,11 @@ module _ (catalogue : Catalogue) (x : SiteState) (given : Input) (led : Led x) (
     fix = λ view c e. alike (begin_step x) (fix view (begin_step x)) (letters x.id (λ q. message.ViewCommit view.id view.members) (filter (λ q. not (q == x.id)) view.members)) refl refl refl (letters_still x.id (λ q. message.ViewCommit view.id view.members) (filter (λ q. not (q == x.id)) view.members) (λ q. refl)) begins;
     without_wait = λ id c i w. silent (begin_step x) (change_views without_wait (begin_step x)) refl refl refl begins;
     probe = λ view c e. alike (begin_step x) (probe_all catalogue view (begin_step x)) (letters x.id (λ q. message.Probe view.id) (other_sites catalogue x.id)) refl refl refl (letters_still x.id (λ q. message.Probe view.id) (other_sites catalogue x.id) (λ q. refl)) begins;
-    start_refresh = λ view rec o e a h l. starts_refresh view rec o l;
+    start_refresh = λ view rec o e h l. starts_refresh view rec o l;
     end_refresh = λ rec r own o e a d v l. ends_refresh r own o l;
     keep_answer = λ from view rec stored r c e f g. silent (begin_step x) (change_refresh (map (with_answer rec from stored)) (begin_step x)) refl refl refl begins;
-    grant_read = λ from txn view number rec stored c e n v f. one (grant txn view rec false (message.ReadAnswer txn number stored.value) from (begin_step x)) from (message.ReadAnswer txn number stored.value) refl refl refl refl;
-    grant_write = λ from txn view number rec stored c e n v f. one (grant txn view rec true (message.WriteAnswer txn number) from (begin_step x)) from (message.WriteAnswer txn number) refl refl refl refl;
+    grant_read = λ from txn view number rec stored c e n v f u. one (grant txn view rec false (message.ReadAnswer txn number stored.value) from (begin_step x)) from (message.ReadAnswer txn number stored.value) refl refl refl refl;
+    grant_write = λ from txn view number rec stored c e n v f u. one (grant txn view rec true (message.WriteAnswer txn number) from (begin_step x)) from (message.WriteAnswer txn number) refl refl refl refl;
     vote_reading = λ from txn view number reads writes part c e n d f v a w. voted _ from txn part.txn view number reads writes c (part_same txn part f) refl refl refl;
     vote_writing = λ from txn view number reads writes part c e n d f v a w. voted _ from txn part.txn view number reads writes c (part_same txn part f) refl refl refl;
     end_here = λ from txn commit c. ends_here from txn commit (doubt_of txn x.doubts);

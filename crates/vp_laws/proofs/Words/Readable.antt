@@ -22,7 +22,7 @@ use Rattle.vp_laws.proofs.Lists.Changes.{mapped_has, all_from}
 use Rattle.vp_laws.proofs.Lists.Views.{AtMost-along}
 use Rattle.vp_laws.proofs.Worlds.Scenes.{Scene, scene_of, plain_at, kept_at}
 use Rattle.vp_laws.proofs.Worlds.Events.{Lasts, in_last, in_each}
-use Rattle.vp_laws.proofs.Table.Unlisted.{IsUnlisted}
+use Rattle.vp_laws.proofs.Table.Listed.{IsUnlisted}
 use Rattle.vp_laws.proofs.Invariant.Held.{copy_value, copy_held}
 use Rattle.vp_laws.proofs.Journal.Playing.{content_value}
 use Rattle.vp_laws.proofs.Copies.Refreshes.{unlisted_none}

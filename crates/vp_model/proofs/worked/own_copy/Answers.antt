@@ -1,0 +1,5 @@
+use Rattle.vp_model.proofs.Computed.OwnCopy.{own_copy, own_copy-refusals}
+use Rattle.vp_model.proofs.worked.own_copy.Goals as goal
+
+pub returns : goal.returns
+returns c = own_copy
