@@ -1,10 +1,10 @@
 -- Tables of weights are read exactly.
 use Rattle.std.proofs.Common.{◌≡◌, ℕ, zero, suc, ◌+◌, ◌<◌, ◌≤◌, Bool, true, false, List, [], ◌∷◌, ◌++◌, length, Result, Ok, Err, refl, sym, ap, subst, ◌∙◌, append_assoc, arith, inl, inr}
-use Rattle.std.specs.Prelude.{flat_map, nat_lt, if◌then◌else◌}
+use Rattle.std.specs.Prelude.{◌==◌, ◌&&◌, flat_map, nat_lt, if◌then◌else◌}
 use Rattle.std.specs.Fmt.{decimal}
 use Rattle.std.proofs.lemmas.List.{append-nil}
 use Rattle.std.proofs.lemmas.List.Concat.{flat_map-cons}
-use Rattle.std.proofs.lemmas.Bool.{false≢true, eqb-true, eq-eqb, lt-ltb, ltb-true, and_parts, and_from}
+use Rattle.std.proofs.lemmas.Bool.{false≢true, eqb-true, eq-eqb, ltb-true, ltb-false, and_parts}
 use Rattle.vp_text.specs.Tokens.{IsLiteral, IsNumber}
 use Rattle.vp_text.specs.Reading.{◌>>=◌, is_digit}
 use Rattle.vp_text.proofs.Exact.{Apart, Parts, IsRight, Exact, right, exact_from, exact_as, Then, Made, made_exact, one_value, ok_value, done}
@@ -135,8 +135,11 @@ module _ (above : ℕ) (bytes : List ℕ) (stops : (w : ℕ × ℕ) (ws : List (
   apart_all [] t h = subst (λ (t : List ℕ). Apart t bytes) (sym h.1) tt
   apart_all (w ∷ ws) t h = stops w ws t h
 
-  none_again : (ws : List (ℕ × ℕ)) (text rest : List ℕ) → bytes ≡ text ++ rest → Others above ws text → done ([], bytes) ≡ Ok (ws, rest)
-  none_again [] text rest at h = ap (λ (b : List ℕ). Ok ([], b)) (at ∙ ap (λ (t : List ℕ). t ++ rest) h.1)
+  abbrev none_read : List ℕ → Result (List (ℕ × ℕ) × List ℕ) ℕ
+  none_read b = Ok ([], b)
+
+  none_again : (ws : List (ℕ × ℕ)) (text rest : List ℕ) → bytes ≡ text ++ rest → Others above ws text → none_read bytes ≡ Ok (ws, rest)
+  none_again [] text rest at h = ap none_read (at ∙ ap (λ (t : List ℕ). t ++ rest) h.1)
   none_again (w ∷ ws) text rest at h =
       let is : text ≡ 32 ∷ rest_of w ws = h.1 ∙ spaced w ws in
       absurd (not_apart text (rest_of w ws) bytes (rest_of w ws ++ rest) is (at ∙ ap (λ (t : List ℕ). t ++ rest) is) (stops w ws text h))
@@ -223,17 +226,18 @@ reads (suc n) above le bytes = go (nat_lt above 16) refl bytes
     here : above < 16 → (bytes : List ℕ) → IsRight (Step above) bytes (share_at above bytes >>= λ share. with_first share.0 (shares_at n share.0.0 share.1))
     here room bytes = step_right above n room bytes (λ next lt mid. reads n next (omega (arith, le, lt)) mid)
 
+    spaced : nat_lt above 16 ≡ true → (c : ℕ) (cs : List ℕ) (b : Bool) → (c == 32) ≡ b
+        → IsRight (Others above) (c ∷ cs) (if b then share_at above (c ∷ cs) >>= λ share. with_first share.0 (shares_at n share.0.0 share.1) else Ok ([], c ∷ cs))
+    spaced on c cs true is =
+        let room : above < 16 = ltb-true above 16 on in
+        let space : 32 ≡ c = sym (eqb-true c 32 is) in
+        subst (λ (c : ℕ). IsRight (Others above) (c ∷ cs) (share_at above (c ∷ cs) >>= λ share. with_first share.0 (shares_at n share.0.0 share.1))) space (some_right above room cs (here room (32 ∷ cs)))
+    spaced on c cs false is = none_right above (c ∷ cs) (no_space above (c ∷ cs) is)
+
     spaced_or_not : nat_lt above 16 ≡ true → (bytes : List ℕ)
         → IsRight (Others above) bytes (if begins_space bytes then share_at above bytes >>= λ share. with_first share.0 (shares_at n share.0.0 share.1) else Ok ([], bytes))
     spaced_or_not on [] = none_right above [] (no_space above [] refl)
-    spaced_or_not on (c ∷ cs) = at (c == 32) refl
-      where
-        at : (b : Bool) → (c == 32) ≡ b → IsRight (Others above) (c ∷ cs) (if b then share_at above (c ∷ cs) >>= λ share. with_first share.0 (shares_at n share.0.0 share.1) else Ok ([], c ∷ cs))
-        at true is =
-            let room : above < 16 = ltb-true above 16 on in
-            let space : 32 ≡ c = sym (eqb-true c 32 is) in
-            subst (λ (c : ℕ). IsRight (Others above) (c ∷ cs) (share_at above (c ∷ cs) >>= λ share. with_first share.0 (shares_at n share.0.0 share.1))) space (some_right above room cs (here room (32 ∷ cs)))
-        at false is = none_right above (c ∷ cs) (no_space above (c ∷ cs) is)
+    spaced_or_not on (c ∷ cs) = spaced on c cs (c == 32) refl
 
     go : (b : Bool) → nat_lt above 16 ≡ b → (bytes : List ℕ)
         → IsRight (Others above) bytes (if b && begins_space bytes then share_at above bytes >>= λ share. with_first share.0 (shares_at n share.0.0 share.1) else Ok ([], bytes))
@@ -280,32 +284,41 @@ pub table_fails : (bytes : List ℕ) (left : ℕ) → share_at 0 bytes ≡ Err l
 unfolding table_at
 table_fails bytes left e = rw e refl
 
+shares_step : (n above : ℕ) (bytes : List ℕ) (w : ℕ × ℕ) (rest : List ℕ) → goes_on above bytes ≡ true → share_at above bytes ≡ Ok (w, rest) → shares_at (suc n) above bytes ≡ with_first w (shares_at n w.0 rest)
+unfolding shares_at
+shares_step n above bytes w rest on e = rw (on, e) refl
+
+shares_stop : (n above : ℕ) (bytes : List ℕ) → goes_on above bytes ≡ false → shares_at n above bytes ≡ Ok ([], bytes)
+unfolding shares_at
+shares_stop zero above bytes off = refl
+shares_stop (suc n) above bytes off = rw off refl
+
+shares_err : (n above : ℕ) (bytes : List ℕ) (left : ℕ) → goes_on above bytes ≡ true → share_at above bytes ≡ Err left → shares_at (suc n) above bytes ≡ Err left
+unfolding shares_at
+shares_err n above bytes left on e = rw (on, e) refl
+
+below_last : (above : ℕ) (bytes : List ℕ) → goes_on above bytes ≡ true → above < 16
+below_last above bytes on = ltb-true above 16 (and_parts (nat_lt above 16) (begins_space bytes) on).0
+
 pub shares_go : (front : List (ℕ × ℕ)) (above : ℕ) (bytes : List ℕ) (w : ℕ × ℕ) (rest : List ℕ) (total : Result (List (ℕ × ℕ) × List ℕ) ℕ) → goes_on above bytes ≡ true → share_at above bytes ≡ Ok (w, rest) → above < w.0 → Left front above bytes total
     → Left (front ++ w ∷ []) w.0 rest total
 shares_go front above bytes w rest total on e lt l = go l.0 l.1 l.2
   where
     go : (n : ℕ) → 16 ≤ above + n → with_front front (shares_at n above bytes) ≡ total → Left (front ++ w ∷ []) w.0 rest total
-    unfolding shares_at
-    go zero le so_far = absurd (omega (arith, le, ltb-true above 16 (and_parts (nat_lt above 16) (begins_space bytes) on).0))
+    go zero le so_far = absurd (omega (arith, le, below_last above bytes on))
     go (suc n) le so_far =
-        let step : with_front front (shares_at (suc n) above bytes) ≡ with_front (front ++ w ∷ []) (shares_at n w.0 rest) = rw (on, e) (regroup front w (shares_at n w.0 rest)) in
-        (n, omega (arith, le, lt), sym step ∙ so_far)
+        (n, omega (arith, le, lt), sym (regroup front w (shares_at n w.0 rest)) ∙ sym (ap (with_front front) (shares_step n above bytes w rest on e)) ∙ so_far)
 
 pub shares_end : (front : List (ℕ × ℕ)) (above : ℕ) (bytes : List ℕ) (total : Result (List (ℕ × ℕ) × List ℕ) ℕ) → goes_on above bytes ≡ false → Left front above bytes total → total ≡ Ok (front, bytes)
-shares_end front above bytes total off l = go l.0 l.2
-  where
-    go : (n : ℕ) → with_front front (shares_at n above bytes) ≡ total → total ≡ Ok (front, bytes)
-    unfolding shares_at
-    go zero so_far = sym so_far ∙ ap (λ (ws : List (ℕ × ℕ)). Ok (ws, bytes)) (append-nil front)
-    go (suc n) so_far = sym so_far ∙ rw off (ap (λ (ws : List (ℕ × ℕ)). Ok (ws, bytes)) (append-nil front))
+shares_end front above bytes total off l =
+    sym l.2 ∙ ap (with_front front) (shares_stop l.0 above bytes off) ∙ ap (λ (ws : List (ℕ × ℕ)). Ok (ws, bytes)) (append-nil front)
 
 pub shares_fail : (front : List (ℕ × ℕ)) (above : ℕ) (bytes : List ℕ) (left : ℕ) (total : Result (List (ℕ × ℕ) × List ℕ) ℕ) → goes_on above bytes ≡ true → share_at above bytes ≡ Err left → Left front above bytes total → total ≡ Err left
 shares_fail front above bytes left total on e l = go l.0 l.1 l.2
   where
     go : (n : ℕ) → 16 ≤ above + n → with_front front (shares_at n above bytes) ≡ total → total ≡ Err left
-    unfolding shares_at
-    go zero le so_far = absurd (omega (arith, le, ltb-true above 16 (and_parts (nat_lt above 16) (begins_space bytes) on).0))
-    go (suc n) le so_far = sym so_far ∙ rw (on, e) refl
+    go zero le so_far = absurd (omega (arith, le, below_last above bytes on))
+    go (suc n) le so_far = sym so_far ∙ ap (with_front front) (shares_err n above bytes left on e)
 
 -- what is read is a table
 pub table_read : (bytes : List ℕ) (table : List (ℕ × ℕ)) (rest : List ℕ) → table_at bytes ≡ Ok (table, rest) → IsTable table
