@@ -3,8 +3,6 @@ import importlib
 import multiprocessing
 import os
 import pathlib
-import random
-import shlex
 import subprocess
 import sys
 
@@ -96,36 +94,6 @@ def compare_pieces(program, rounds, right, what, head=()):
         count += len(inputs)
     refused = sum(places.values())
     print(f"{count} inputs agree: {count - refused} are {what}; {refused} are refused, at {len(places)} different places")
-    return 0
-
-
-def run(program, command, text):
-    """The exit status and the standard output of one run of a program, which may have words before its command."""
-    done = subprocess.run([*shlex.split(program), command], input=text, capture_output=True, timeout=600)
-    return done.returncode, done.stdout
-
-
-def compare(command, made, wanted=lambda text, answer: answer):
-    """Compares the programs of the command line on `made(draw)` for each seed, and tells the statuses that were met.
-
-    `wanted` gives what the first program has to answer to an input, from the second program's answer. The answer is the
-    exit status of the comparison: 1 where an input tells them apart.
-    """
-    program, other = sys.argv[1:3]
-    seed = int(sys.argv[3]) if len(sys.argv) > 3 else 1
-    count = int(sys.argv[4]) if len(sys.argv) > 4 else 1000
-    ends = {}
-    for k in range(seed, seed + count):
-        text = made(random.Random(k))
-        mine = run(program, command, text)
-        other_answer = wanted(text, run(other, command, text))
-        ends[mine[0]] = ends.get(mine[0], 0) + 1
-        if mine != other_answer:
-            print("differs at seed", k)
-            sys.stdout.buffer.write(text + b"\n----\n" + mine[1] + b"----\n" + other_answer[1])
-            print(mine[0], other_answer[0])
-            return 1
-    print(f"{count} inputs from seed {seed} agree; by status: {dict(sorted(ends.items()))}")
     return 0
 
 
