@@ -3,6 +3,8 @@ pub mod OneDoubt
 pub mod Force
 pub mod ForceAt
 pub mod ForceKept
+pub mod Weights
+pub mod Opening
 pub mod Facts
 pub mod Quiet
 pub mod BaseQuiet
@@ -14,6 +16,7 @@ pub mod Brought
 pub mod Usable
 pub mod NewCopies
 pub mod CopiesKept
+pub mod BarsKept
 pub mod OwnUse
 pub mod RefreshKept
 pub mod DoubtBase

@@ -9,5 +9,6 @@ pub mod ValuesAfter
 pub mod Changed
 pub mod LastChanges
 pub mod ValuesGrow
+pub mod TableContents
 pub mod Playing
 pub mod Contents

@@ -3,11 +3,13 @@
 pub mod Below
 pub mod Endings
 pub mod Held
+pub mod Holders
 pub mod Led
 pub mod Lived
 pub mod Ops
 pub mod Reads
 pub mod Repeated
+pub mod Barred
 pub mod Views
 pub mod Votes
 pub mod Stopping

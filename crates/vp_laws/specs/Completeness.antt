@@ -38,5 +38,5 @@ pub record IsNextOperation (catalogue : Catalogue) (t : Live) (number : ℕ) (na
 -- a read whose record is accessible, with a copy here that has no refresh lock and no exclusive lock on it, gives the copy's content
 abbrev pub ReadableCopiesAreRead : Catalogue → WorldState → Type 0
 ReadableCopiesAreRead catalogue w =
-    (site port number rec : ℕ) (name : List ℕ) (x : SiteState) (t : Live) (copy : Stored) → site_of w site ≡ Some x → Contains x.live t → IsNextOperation catalogue t number name rec → value_at rec x.copies ≡ Some copy → is_readable catalogue x rec ≡ true →
+    (site port number rec : ℕ) (name : List ℕ) (x : SiteState) (t : Live) (copy : Stored) → site_of w site ≡ Some x → Contains x.live t → IsNextOperation catalogue t number name rec → value_at rec x.copies ≡ Some copy → is_readable x rec ≡ true →
     (step catalogue x (input.Call port (call.Read t.txn number name))).effects.replies ≡ (record { to = port; answer = deed_answer t.txn number (Deed.operates (op.Read rec copy.value)) }) ∷ []

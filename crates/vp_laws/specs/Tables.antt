@@ -20,4 +20,4 @@ table_after journal view rec = fold (table_by rec) None (filter (λ commit. not 
 -- each copy that may be read has the table that the transactions of its site's view and all lower ones leave
 abbrev pub CopiesHaveTables : Catalogue → WorldState → Type 0
 CopiesHaveTables catalogue w =
-    (site rec : ℕ) (x : SiteState) (view : View) (copy : Stored) → site_of w site ≡ Some x → x.held ≡ Some view → Contains x.copies (rec, copy) → is_readable catalogue x rec ≡ true → copy.table ≡ table_after w.journal view.id rec
+    (site rec : ℕ) (x : SiteState) (view : View) (copy : Stored) → site_of w site ≡ Some x → x.held ≡ Some view → Contains x.copies (rec, copy) → is_readable x rec ≡ true → copy.table ≡ table_after w.journal view.id rec

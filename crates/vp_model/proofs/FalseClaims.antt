@@ -7,7 +7,7 @@ use Rattle.vp_model.specs.Types.event
 use Rattle.vp_model.specs.Types.owner
 use Rattle.vp_model.specs.Headline.{RefusalsAreJustified}
 use Rattle.vp_model.specs.Worked.{txn}
-use Rattle.vp_model.specs.Worked.FalseClaims.{is_justified_after, closed_and_left, closed_by_lock, closed_by_leaving, granted_after_all, next_is_done, next_is_refused, closed_idle, IsToldApart, aborted, never_begun, out_of_turn, refused_by_two, timed_out_before, written_after_all, told_before_leaving, waiting_write, left_view, refused_again, refused_first, forgotten, called_elsewhere, unknown_without_weight, told_the_weights}
+use Rattle.vp_model.specs.Worked.FalseClaims.{is_justified_after, closed_and_left, closed_by_lock, closed_by_leaving, granted_after_all, next_is_done, next_is_refused, closed_idle, IsToldApart, aborted, never_begun, out_of_turn, refused_by_two, timed_out_before, written_after_all, told_before_leaving, waiting_write, left_view, refused_again, refused_first, forgotten, called_elsewhere, unknown_without_weight, told_the_weights, bar_of_another_view, bar_by_a_lost_table, bar_after_leaving}
 use Rattle.vp_model.proofs.Computed.{computes}
 
 pub closed-given : is_justified_after closed_and_left 1 (call.Read (txn 1 1 2) 2 (codes "x")) closed_by_lock ≡ true
@@ -89,3 +89,15 @@ unknown_without_weight-apart = record { given = refl; justified = refl; another 
 pub told_the_weights-apart : IsToldApart told_the_weights
 unfolding computes
 told_the_weights-apart = record { given = refl; justified = refl; another = refl }
+
+pub bar_of_another_view-apart : IsToldApart bar_of_another_view
+unfolding computes
+bar_of_another_view-apart = record { given = refl; justified = refl; another = refl }
+
+pub bar_by_a_lost_table-apart : IsToldApart bar_by_a_lost_table
+unfolding computes
+bar_by_a_lost_table-apart = record { given = refl; justified = refl; another = refl }
+
+pub bar_after_leaving-apart : IsToldApart bar_after_leaving
+unfolding computes
+bar_after_leaving-apart = record { given = refl; justified = refl; another = refl }

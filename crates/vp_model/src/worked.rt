@@ -260,6 +260,21 @@ pub fn told_the_weights()
     ensures { claims.IsToldApart claims.told_the_weights }
 {}
 
+/// A bar's weights are those of the view that is held,
+pub fn bar_of_another_view()
+    ensures { claims.IsToldApart claims.bar_of_another_view }
+{}
+
+/// by a table that a committed transaction or the catalogue gave the record,
+pub fn bar_by_a_lost_table()
+    ensures { claims.IsToldApart claims.bar_by_a_lost_table }
+{}
+
+/// and they are nothing any more where the view was left.
+pub fn bar_after_leaving()
+    ensures { claims.IsToldApart claims.bar_after_leaving }
+{}
+
 /// A transaction that is closed while no call is pending may answer its end with a number and then with a lower one: both are
 /// justified.
 pub fn closed_without_a_call()
@@ -358,5 +373,7 @@ pub fn own_copy()
 
 /// A bar of another site ends a transaction.
 pub fn barred()
-    ensures { flat_map answers_in (lines_of barred.schedule) ≡ barred.answers }
+    ensures answers { flat_map answers_in (lines_of barred.schedule) ≡ barred.answers }
+    ensures refusals { RefusalsAreJustified barred.schedule }
+    ensures ends { EndsAreTrue barred.schedule }
 {}

@@ -1,6 +1,6 @@
 -- Between the date of a copy and the view of a doubt on it, whose transaction is live or has an entry, no entry wrote the record.
-use Rattle.std.proofs.Common.{◌≡◌, ◌⊎◌, ◌∙◌, ap, sym, subst, ℕ, true, List, [], ◌∷◌, ⊎_elim}
-use Rattle.std.specs.Prelude.{Option, Some, ◌==◌, ◌&&◌, ◌||◌, not}
+use Rattle.std.proofs.Common.{◌≡◌, ◌⊎◌, ◌∙◌, ap, sym, subst, ℕ, true, List, [], ◌∷◌, refl, inr, ⊎_elim}
+use Rattle.std.specs.Prelude.{Option, Some, None, ◌==◌, ◌&&◌, ◌||◌, not}
 use Rattle.std.specs.List.{list_all}
 use Rattle.std.proofs.lemmas.Bool.{eqb-true}
 use Rattle.vp_laws.proofs.Journal.Changed.{HasChanged}
@@ -8,11 +8,11 @@ use Rattle.vp_model.specs.Types.{Change, ViewId, TxnId, View, Commit, Input, Own
 use Rattle.vp_model.specs.Types.message
 use Rattle.vp_model.specs.Types.owner
 use Rattle.vp_model.specs.Words.{has, keys, value_at, same_txn, same_owner}
-use Rattle.vp_model.specs.Catalogue.{Catalogue, holders, accessible}
+use Rattle.vp_model.specs.Catalogue.{Catalogue, holders}
 use Rattle.vp_model.specs.Durable.{DurableState}
 use Rattle.vp_model.specs.Locks.{holds}
 use Rattle.vp_model.specs.Transactions.{entry_of, last_changes, writes_held}
-use Rattle.vp_model.specs.Refresh.{is_open, is_usable_in}
+use Rattle.vp_model.specs.Refresh.{is_open}
 use Rattle.vp_model.specs.Site.{SiteState, Stepped}
 use Rattle.vp_laws.proofs.Lists.Members.{Has, has_none, has_cons, any_true, any_false, both_true, map_has, filter_has}
 use Rattle.vp_laws.proofs.Lists.Changes.{mapped_has}
@@ -21,14 +21,15 @@ use Rattle.vp_laws.proofs.Lists.Views.{Precedes}
 use Rattle.vp_laws.proofs.Moves.LocalViews.{letter}
 use Rattle.vp_laws.proofs.Table.Votes.{IsPrepared}
 use Rattle.vp_laws.proofs.Table.Listed.{IsUnlisted}
+use Rattle.vp_laws.proofs.Table.LocalLocks.{LowerDoubt}
 use Rattle.vp_laws.proofs.Worlds.Scenes.{Scene, plain_at, kept_at}
 use Rattle.vp_laws.proofs.Invariant.Names.{UsedTxn}
 use Rattle.vp_laws.proofs.Invariant.Entered.{AgreedAs}
 use Rattle.vp_laws.proofs.Copies.Facts.{copy_holder, entry_closes}
 use Rattle.vp_laws.proofs.Copies.Refreshes.{unlisted_none}
-use Rattle.vp_laws.proofs.Copies.OwnUse.{view_is, written_closed}
 use Rattle.vp_laws.proofs.Worlds.Sites.{now_is}
-use Rattle.vp_laws.proofs.Keeping.NewEntries.{entering, stops, Fresh, doubt_from, doubt_says, fresh_same, fresh_not_entered}
+use Rattle.vp_laws.proofs.Keeping.NewEntries.{entering, Fresh, doubt_from, doubt_says, fresh_same, fresh_not_entered}
+use Rattle.vp_laws.proofs.Copies.Opening.{stops}
 use Rattle.vp_laws.proofs.Copies.Origins.{Own, Origin, origin}
 use Rattle.vp_laws.proofs.Copies.Writes.{applied_sure, written_sure}
 use Rattle.vp_laws.proofs.Copies.Brought.{brought_sure}
@@ -59,15 +60,12 @@ module _ (catalogue : Catalogue) (w new : Scene) (s : ℕ) (x : SiteState) (give
     wrote : HasChanged t rec
     wrote = held_wrote catalogue to rec (last_changes (entry_of t)) (subst (λ (ws : List (ℕ × Change)). Has (keys ws) rec) (sym is.has_written) on)
 
-    usable_there : (v : View) → AgreedAs w t.view v → accessible catalogue rec v.members ≡ true
-    usable_there v agreed = subst (λ (held : Option View). is_usable_in catalogue held rec ≡ true) (view_is catalogue w k copies i y t up here v agreed) ((refresh.live i y t up here).changed rec wrote)
-
     -- no entry of the step is of a lower view and wrote the record
     live_stops : (e : Commit) → Has o.effects.commits e → Wrote e rec → Precedes e.view view → ⊥
     live_stops e h also below =
         let of = (k.led.site i y up).live t here in
         let agreed : AgreedAs w t.view of.0 = ((k.views.site i y up).held of.0 of.1, of.2) in
-        stops catalogue w new s x given o k n d refresh e of.0 rec h also (subst (Precedes e.view) (sym (of.2 ∙ is.in_view)) below) (written_closed catalogue w k copies i y t up here refresh of.0 agreed rec wrote)
+        stops catalogue w new s x given o k n d refresh e of.0 rec h also (subst (Precedes e.view) (sym (of.2 ∙ is.in_view)) below) (refresh.uses i y t rec of.0 up here (inr wrote) agreed)
 
   -- a doubt that was here, of a transaction that stood
   old_stops : (j : ℕ) (u : Doubt) (rec : ℕ) → Has (kept_at w j).doubts u → Has (keys u.writes) rec → Stands w u.txn → (e : Commit) → Has o.effects.commits e → Wrote e rec → Precedes e.view u.view → ⊥
@@ -143,16 +141,22 @@ module _ (catalogue : Catalogue) (w new : Scene) (s : ℕ) (x : SiteState) (give
           held_one : (a b : View) → x.held ≡ Some a → x.held ≡ Some b → a.id ≡ b.id
           held_one a b p q = let z : a ≡ b = cc in ap (λ (v : View). v.id) z
 
-      usable : is_open catalogue x rec ≡ true
-      usable = subst (λ (held : Option View). is_usable_in catalogue held rec ≡ true) (sym v.1)
-          (usable_there i was.site was.u was.up_then was.here f.from s f.prepared.number f.part.txn f.prepared.view f.reads f.writes (was.named ∙ named ∙ sym name_is) came rec on_writes v.0 (d.here.held v.0 v.1, v.2 ∙ sym prepared.in_view))
+      -- the part's lock on it, which is not of one in doubt here
+      lock : (l : Lock) × Has x.locks l × (l.rec ≡ rec) × (l.owner ≡ owner.Txn f.part.txn)
+      lock = all_locked (keys f.writes) f.part.txn (both_true _ _ f.prepared.locks).0 rec on_writes
+
+      certain : (view : ViewId) → LowerDoubt x.doubts view f.part.txn → ⊥
+      certain view other = same_txn-not other.0.txn f.part.txn (any_false (λ (u : Doubt). same_txn u.txn f.part.txn) x.doubts f.prepared.certain other.0 other.1) other.2
+
+      usable : is_open x rec ≡ true
+      usable = go (value_at rec x.bars) refl
+        where
+          go : (bar : Option (ℕ × ℕ)) → value_at rec x.bars ≡ bar → is_open x rec ≡ true
+          go None e = rw e refl
+          go (Some bar) e = let b = k.barred.site s x d.up rec bar e in absurd (certain b.view.id (b.owners lock.0 f.part.txn lock.1 lock.2 lock.3))
 
       unlisted : IsUnlisted x.refresh rec
-      unlisted r listed same =
-          let low = (k.guards.site s x d.up).lower r listed in
-          let lock = all_locked (keys f.writes) f.part.txn (both_true _ _ f.prepared.locks).0 rec on_writes in
-          let other = low.3 lock.0 f.part.txn lock.1 (lock.2 ∙ sym same) lock.3 in
-          same_txn-not other.0.txn f.part.txn (any_false (λ (u : Doubt). same_txn u.txn f.part.txn) x.doubts f.prepared.certain other.0 other.1) other.2
+      unlisted r listed same = let low = (k.guards.site s x d.up).lower r listed in certain low.0.id (low.3 lock.0 f.part.txn lock.1 (lock.2 ∙ sym same) lock.3)
 
   pub base_keeps : InvBase w → InvBase new
   base_keeps base j rec c u e h there on stands entry also later below = go (origin catalogue w new s x given o k n d j rec c h) (doubt_from catalogue w new s x given o k n d j u there)

@@ -15,8 +15,7 @@ use Rattle.vp_laws.proofs.Invariant.Known.{Known}
 use Rattle.vp_laws.proofs.Journal.ValuesAfter.{Wrote}
 use Rattle.vp_laws.proofs.Keeping.Closing.{closed_lasts}
 use Rattle.vp_laws.proofs.Keeping.Does.{Does}
-use Rattle.vp_laws.proofs.Keeping.Listed.{not_below_itself}
-use Rattle.vp_laws.proofs.Keeping.NewEntries.{JournalNow, journal_now, one_entry, entering, entering_agreed, agreed_was}
+use Rattle.vp_laws.proofs.Keeping.NewEntries.{JournalNow, journal_now, entering, entering_agreed}
 use Rattle.vp_laws.proofs.Keeping.Stopping.{met_stops}
 use Rattle.vp_laws.proofs.Journal.TablesAfter.{Table, accessible_by, weighs}
 use Rattle.vp_laws.proofs.Copies.Force.{below, Weighed, usable_after, walk_up}
@@ -56,36 +55,3 @@ module _ (tables : Commit → List (ℕ × Table)) (rec : ℕ) where
       closed = closed_lasts catalogue w new s x given o d.up d.here.kept d.below.parts d.shares d.leaves d.st rec v opened.closed;
       usable = subst (λ (t : Table). accessible_by t v.members ≡ true) (sym (below_stays v.id (λ e h low q. open_stops e v h (too e q) low opened))) opened.usable;
     }
-
-    -- and so does all that is known of tables
-    pub weighed_keeps : ((e : Commit) (v : View) (t : Table) → Has o.effects.commits e → value_at rec (tables e) ≡ Some t → AgreedAs w e.view v → accessible_by t v.members ≡ true) → ((e : Commit) (t : Table) → Has o.effects.commits e → value_at rec (tables e) ≡ Some t → keys t ≡ holders catalogue rec) → ((e : Commit) (v : View) → Has o.effects.commits e → Wrote e rec → AgreedAs w e.view v → Closed catalogue w rec v) → ((e : Commit) (v : View) → Has w.journal e → weighs tables rec e ≡ true → AgreedAs w e.view v → OpenBy catalogue w v) → Weighed tables rec catalogue new
-    weighed_keeps given_new sites_new closed_new old = record {
-      usable = λ e v h q a. (opened e v h q a).0;
-      majority = λ e v t h is a. ⊎_elim
-          (λ was. inv.majority e v t was is (agreed_was catalogue w new s x given o k n d e v was a))
-          (λ more. given_new e v t more is (new_agreed e v more a))
-          (d.st.entered e h);
-      sites = λ e t h is. ⊎_elim (λ was. inv.sites e t was is) (λ more. sites_new e t more is) (d.st.entered e h);
-      closed = λ e v h q a. (opened e v h q a).1;
-      agreed = λ e h. let q = n.led.entry e h in (q.0, (q.1, q.2));
-    }
-      where
-        new_agreed : (e : Commit) (v : View) → Has o.effects.commits e → AgreedAs new e.view v → AgreedAs w e.view v
-        new_agreed e v h a =
-            let f = entering catalogue w new s x given o k n d e h in
-            let there = entering_agreed catalogue w new s x given o k n d e f in
-            let same : f.view ≡ v = n.views.unique f.view v (d.st.moved.agreed f.view there.0) a.0 (f.is ∙ sym a.1) in
-            (subst (Has w.agreed) same there.0, a.1)
-
-        opened : (e : Commit) (v : View) → Has new.journal e → weighs tables rec e ≡ true → AgreedAs new e.view v → (accessible_by (below tables rec catalogue new e.view) v.members ≡ true) × Closed catalogue new rec v
-        opened e v h q a = ⊎_elim
-            (λ was.
-            let b = agreed_was catalogue w new s x given o k n d e v was a in
-            let l = open_lasts v (old e v was q b) in
-            (subst (λ (i : ViewId). accessible_by (below tables rec catalogue new i) v.members ≡ true) a.1 l.usable, l.closed))
-            (λ more.
-            let b = new_agreed e v more a in (
-              subst (λ (t : Table). accessible_by t v.members ≡ true) (sym (below_stays e.view (λ g i low z. not_below_itself g.view e.view low (ap (λ (c : Commit). c.view) (one_entry catalogue w new s x given o k n d g e i more))))) (used e v more (too e q) b),
-              closed_lasts catalogue w new s x given o d.up d.here.kept d.below.parts d.shares d.leaves d.st rec v (closed_new e v more (too e q) b),
-            ))
-            (d.st.entered e h)

@@ -13,11 +13,12 @@ use Rattle.vp_model.specs.Step.{durable_of}
 use Rattle.vp_laws.proofs.Lists.Members.{Has}
 use Rattle.vp_laws.proofs.Lists.Views.{AtMost, AtMost-same, AtMost-along, not_both}
 use Rattle.vp_laws.proofs.Worlds.Scenes.{Scene, kept_at}
-use Rattle.vp_laws.proofs.Invariant.Held.{copy_value}
+use Rattle.vp_laws.proofs.Invariant.Held.{copy_value, holds_copy}
 use Rattle.vp_laws.proofs.Journal.LastChanges.{last_change}
 use Rattle.vp_laws.proofs.Journal.ValuesAfter.{Content, content_of, started, made, Wrote, value_after, value_up_to, value_written}
 use Rattle.vp_laws.proofs.Keeping.NewEntries.{Entering, entering, journal_with, certain_was, not_listed}
 use Rattle.vp_laws.proofs.Copies.Origins.{Written}
+use Rattle.vp_laws.proofs.Copies.OwnUse.{lock_open}
 use Rattle.vp_laws.proofs.Copies.Refreshes.{unlisted_none}
 use Rattle.vp_laws.proofs.Copies.Usable.{usable_value}
 use Rattle.vp_laws.proofs.Copies.Writes.{written_date, there_last, wrote}
@@ -48,8 +49,9 @@ module _ (catalogue : Catalogue) (w new : Scene) (s : ℕ) (x : SiteState) (give
   old_there : Has x.copies (rec, b.old)
   old_there = subst (λ (n : ℕ). Has x.copies (n, b.old)) rec_is (subst (λ (k : DurableState). Has k.copies (b.write.0, b.old)) (sym kept_here) b.before)
 
-  usable : is_open catalogue x rec ≡ true
-  usable = (refresh.live s x f.was d.up f.live).changed rec (subst (λ (e : Commit). Wrote e rec) (sym f.done) changed)
+  usable : is_open x rec ≡ true
+  usable = lock_open catalogue w k s x f.was d.up f.live rec true
+      (((k.guards.site s x d.up).own f.was f.live).wrote rec (subst (λ (e : Commit). Wrote e rec) (sym f.done) changed) (holds_copy catalogue w s x d.up d.here.kept k.held rec held_here))
 
   unlisted : refreshing_of rec x.refresh ≡ None
   unlisted = unlisted_none rec x.refresh (λ r h is. not_listed catalogue w new s x given o k n d b.entry r b.entered h (subst (Wrote b.entry) (sym is) changed))

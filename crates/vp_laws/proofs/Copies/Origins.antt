@@ -24,7 +24,8 @@ use Rattle.vp_laws.proofs.Invariant.Held.{copy_value}
 use Rattle.vp_laws.proofs.Copies.OneDoubt.{doubt_found}
 use Rattle.vp_laws.proofs.Copies.Facts.{copy_dated, copy_holder, closed_above}
 use Rattle.vp_laws.proofs.Worlds.Sites.{KeptIs, kept_is}
-use Rattle.vp_laws.proofs.Keeping.NewEntries.{doubted, stops, doubt_stays, Doubted}
+use Rattle.vp_laws.proofs.Keeping.NewEntries.{doubted, doubt_stays, Doubted}
+use Rattle.vp_laws.proofs.Copies.Opening.{stops}
 use Rattle.vp_laws.proofs.Keeping.Does.{Does}
 use Rattle.vp_laws.proofs.Invariant.Copies.{FromView}
 use Rattle.vp_laws.proofs.Invariant.Refresh.{InvRefresh}
@@ -135,7 +136,7 @@ module _ (catalogue : Catalogue) (w new : Scene) (s : ℕ) (x : SiteState) (give
         outcome = λ z. absurd (m z);
         entered = λ z. absurd (m z);
       }))
-      go (KeptIs.here z is) = from_copy z (d.unlisting.base.copies (rec, c) (value_pair rec o.site.copies c (subst (λ (k : DurableState). value_at rec k.copies ≡ Some c) is h)))
+      go (KeptIs.here z is) = from_copy z (d.unlisting.base.0.copies (rec, c) (value_pair rec o.site.copies c (subst (λ (k : DurableState). value_at rec k.copies ≡ Some c) is h)))
 
   -- a doubt on an untouched copy that is gone was aborted, so its transaction has no entry
   pub gone_aborted : (j rec : ℕ) (c : Stored) (u : Doubt) → Untouched j rec c → Has (kept_at w j).doubts u → Has (keys u.writes) rec → Has (kept_at new j).doubts u ⊎ ((e : Commit) → Has w.journal e → e.txn ≢ u.txn)

@@ -4,18 +4,18 @@ use Rattle.std.specs.Prelude.{Option, Some, None, option_map, slice_get}
 use Rattle.std.proofs.lemmas.Option.{slice_get-map}
 use Rattle.vp_model.specs.Types.{ViewId, TxnId, View, Commit, Stored, Live, Doubt}
 use Rattle.vp_model.specs.Words.{opening, value_at}
-use Rattle.vp_model.specs.Refresh.{is_usable_in}
-use Rattle.vp_model.specs.Catalogue.{Table, Catalogue, RecordEntry, sites_of, start_values, start_copies}
+use Rattle.vp_model.specs.Catalogue.{Table, Catalogue, RecordEntry, accessible, accessible_by, holders, sites_of, start_values, start_copies, weights_of}
 use Rattle.vp_model.specs.Durable.{DurableState, empty_durable, apply}
 use Rattle.vp_model.specs.Site.{SiteState}
 use Rattle.vp_model.specs.Step.{start, start_record}
 use Rattle.vp_model.specs.World.{Place, place_of, start_place, start_world}
-use Rattle.vp_laws.proofs.Lists.Members.{Has, has_none}
+use Rattle.vp_laws.specs.Catalogues.{IsWhole}
+use Rattle.vp_laws.proofs.Lists.Members.{Has, contains, has_none}
 use Rattle.vp_laws.proofs.Lists.Views.{Precedes, not_both, opening_least}
 use Rattle.vp_laws.proofs.Table.Copies.{value_pair}
 use Rattle.vp_laws.proofs.Table.Leaves.{Uses}
 use Rattle.vp_laws.proofs.Worlds.Scenes.{Scene, scene_of, kept_in, up-place, plain_at, kept_at}
-use Rattle.vp_laws.proofs.Worlds.Sites.{start_at, Quiet, QuietIs, quiet_is, quiet_kept, started, start_kept, start_sent, start_entered, started_idle, live_still}
+use Rattle.vp_laws.proofs.Worlds.Sites.{start_at, Quiet, QuietIs, quiet_is, quiet_kept, started, start_kept, start_journal, start_sent, start_entered, started_idle, live_still}
 use Rattle.vp_laws.proofs.Invariant.Shares.{HasRequest}
 use Rattle.vp_laws.proofs.Invariant.Entered.{AgreedAs}
 use Rattle.vp_laws.proofs.Invariant.Lived.{InvLived}
@@ -26,7 +26,11 @@ use Rattle.vp_laws.proofs.Invariant.Refresh.{InvRefresh}
 use Rattle.vp_laws.proofs.Keeping.Lived.{start_unused}
 use Rattle.vp_laws.proofs.Keeping.Used.{request_on, answered_on}
 use Rattle.vp_laws.proofs.Keeping.Views.{views_last}
-use Rattle.vp_laws.proofs.Invariant.Closed.{Open, Closed}
+use Rattle.vp_laws.proofs.Invariant.Closed.{Open, Closed, InForce, table_in_force}
+use Rattle.vp_laws.proofs.Journal.TablesAfter.{given_by, table_below}
+use Rattle.vp_laws.proofs.Keeping.Held.{held_starts}
+use Rattle.vp_laws.proofs.Invariant.Held.{copy_held}
+use Rattle.vp_laws.proofs.Lists.Changes.{mapped_has}
 use Rattle.vp_laws.proofs.Lists.Numbers.{from_first}
 use Rattle.vp_laws.proofs.Lists.StartCopies.{placed_value}
 
@@ -75,29 +79,42 @@ module _ (catalogue : Catalogue) where
   unfolding start
   start_promise s d = refl
 
+  start_view : (s : ℕ) (x : SiteState) (v : View) → plain_at w s ≡ Some x → x.held ≡ Some v → v.id ≡ opening
+  start_view s x v up held = (((views_last catalogue).starts.site s x up).tidy.held v held).0 ∙ ap (λ (x : SiteState). x.promise) (sym (started catalogue s x up)) ∙ start_promise s (empty_durable (start_copies catalogue s))
+
   start_closed : (s rec : ℕ) (x : SiteState) (v : View) → plain_at w s ≡ Some x → x.held ≡ Some v → Closed catalogue w rec v
   start_closed s rec x v up held q holder member = record { left = λ j below. absurd (none j below); certain = λ u h on below. no_doubt q u h }
     where
-      at : v.id ≡ opening
-      at = (((views_last catalogue).starts.site s x up).tidy.held v held).0 ∙ ap (λ (x : SiteState). x.promise) (sym (started catalogue s x up)) ∙ start_promise s (empty_durable (start_copies catalogue s))
-
       none : (j : ViewId) → Precedes j v.id → ⊥
-      none j below = not_both j opening (subst (Precedes j) at below) (opening_least j)
+      none j below = not_both j opening (subst (Precedes j) (start_view s x v up held) below) (opening_least j)
 
   no_request : (from to number rec : ℕ) (txn : TxnId) (view : ViewId) (exclusive : Bool) → HasRequest w from to txn view number rec exclusive → ⊥
   no_request from to number rec txn view false (HasRequest.to_read h) = start_sent catalogue _ h
   no_request from to number rec txn view true (HasRequest.to_write h) = start_sent catalogue _ h
 
-  pub copies_starts : InvCopies catalogue w
-  copies_starts = record {
-    value = λ s rec c h none. start_value s rec c h;
-    value_in_doubt = λ s rec c u h on. absurd (no_doubt s u on.0);
-    last = λ s rec c u front back e f h on is named behind wrote. absurd (no_doubt s u on.0);
-    above = λ s rec c e v h there wrote later agreed member. absurd (start_entered catalogue e there);
-    from = start_from;
-    between = λ s rec x v c e up held usable unlisted h there wrote later below. start_entered catalogue e there;
-    open_copy = λ s rec x v c up held usable unlisted h. record { closed = start_closed s rec x v up held; usable = subst (λ (held : Option View). is_usable_in catalogue held rec ≡ true) held usable };
-  }
+  -- the view is that of all sites, in which each record that is held is accessible
+  module _ (whole : IsWhole catalogue) where
+    start_usable : (s rec : ℕ) (x : SiteState) (v : View) (c : Stored) → plain_at w s ≡ Some x → x.held ≡ Some v → value_at rec x.copies ≡ Some c → InForce catalogue w rec v
+    start_usable s rec x v c up held copy =
+        let views = (views_last catalogue).starts in
+        let first : View = record { id = opening; members = sites_of catalogue } in
+        let all : v ≡ first = views.unique v first ((views.site s x up).held v held) views.opening (start_view s x v up held) in
+        let copied = mapped_has (λ (p : ℕ × Stored). p.0) x.copies (rec, c) (value_pair rec x.copies c copy) in
+        let holder = copy_held catalogue w s x up (views.site s x up).kept (held_starts catalogue) rec copied in
+        let start : table_in_force catalogue w rec v.id ≡ weights_of catalogue rec = ap (λ (es : List Commit). table_below given_by rec (weights_of catalogue rec) es v.id) (start_journal catalogue) in
+        subst (λ (t : Table). accessible_by t v.members ≡ true) (sym start)
+        (subst (λ (v : View). accessible catalogue rec v.members ≡ true) (sym all) (whole.opened rec s (contains (holders catalogue rec) s holder)))
+
+    pub copies_starts : InvCopies catalogue w
+    copies_starts = record {
+      value = λ s rec c h none. start_value s rec c h;
+      value_in_doubt = λ s rec c u h on. absurd (no_doubt s u on.0);
+      last = λ s rec c u front back e f h on is named behind wrote. absurd (no_doubt s u on.0);
+      above = λ s rec c e v h there wrote later agreed member. absurd (start_entered catalogue e there);
+      from = start_from;
+      between = λ s rec x v c e up held opened unlisted h there wrote later below. start_entered catalogue e there;
+      open_copy = λ s rec x v c up held opened unlisted h. record { closed = start_closed s rec x v up held; usable = start_usable s rec x v c up held h };
+    }
 
   pub refresh_starts : InvRefresh catalogue w
   refresh_starts = record {
@@ -110,7 +127,8 @@ module _ (catalogue : Catalogue) where
     entry = λ e v rec h agreed did. absurd (start_entered catalogue e h);
     weighed = λ e v rec table h agreed gave. absurd (start_entered catalogue e h);
     used = λ s q rec exclusive x t v up h has agreed. absurd (started_idle catalogue s x t up h);
-    asked = λ from to number rec txn view exclusive v h agreed. absurd (no_request from to number rec txn view exclusive h);
+    uses = λ s x t rec v up h did agreed. absurd (started_idle catalogue s x t up h);
+    asked = λ from to number rec txn view exclusive h. absurd (no_request from to number rec txn view exclusive h);
   }
 
 -- a site that goes down or starts again
@@ -130,8 +148,11 @@ module _ (catalogue : Catalogue) (w new : Scene) (s : ℕ) (q : Quiet catalogue 
   agreed_was : (i : ViewId) (v : View) → AgreedAs new i v → AgreedAs w i v
   agreed_was i v a = (rw q.agreed at a.0, a.1)
 
+  force_now : (rec : ℕ) (v : View) → InForce catalogue w rec v → InForce catalogue new rec v
+  force_now rec v h = subst (λ (es : List Commit). accessible_by (table_below given_by rec (weights_of catalogue rec) es v.id) v.members ≡ true) (sym q.journal) h
+
   open_now : (rec : ℕ) (v : View) → Open catalogue w rec v → Open catalogue new rec v
-  open_now rec v h = record { closed = λ a holder member. closed_quiet catalogue w new s q lived a rec v.id (h.closed a holder member); usable = h.usable }
+  open_now rec v h = record { closed = λ a holder member. closed_quiet catalogue w new s q lived a rec v.id (h.closed a holder member); usable = force_now rec v h.usable }
 
   from_now : (j rec : ℕ) (date : ViewId) → FromView catalogue w j rec date → FromView catalogue new j rec date
   from_now j rec date (FromView.member v agreed m) = FromView.member v (q.moved.agreed v agreed.0, agreed.1) m
@@ -165,8 +186,8 @@ module _ (catalogue : Catalogue) (w new : Scene) (s : ℕ) (q : Quiet catalogue 
         let u = copies.above j rec c e v (copy_was j rec c h) (entry_was e there) wrote later (agreed_was e.view v agreed) member in
         (u.0, subst (λ (us : List Doubt). Has us u.0) (sym (doubts_same j)) u.1, u.2);
     from = λ j rec c h. from_now j rec c.date (copies.from j rec c (copy_was j rec c h));
-    between = λ j rec y v c e up held usable unlisted h there wrote later below. copies.between j rec y v c e (still_held j y v up held) held usable unlisted h (entry_was e there) wrote later below;
-    open_copy = λ j rec y v c up held usable unlisted h. open_now rec v (copies.open_copy j rec y v c (still_held j y v up held) held usable unlisted h);
+    between = λ j rec y v c e up held opened unlisted h there wrote later below. copies.between j rec y v c e (still_held j y v up held) held opened unlisted h (entry_was e there) wrote later below;
+    open_copy = λ j rec y v c up held opened unlisted h. open_now rec v (copies.open_copy j rec y v c (still_held j y v up held) held opened unlisted h);
   }
 
   pub refresh_quiet : InvRefresh catalogue new
@@ -180,5 +201,6 @@ module _ (catalogue : Catalogue) (w new : Scene) (s : ℕ) (q : Quiet catalogue 
     entry = λ e v rec h agreed did. open_now rec v (refresh.entry e v rec (entry_was e h) (agreed_was e.view v agreed) did);
     weighed = λ e v rec table h agreed gave. refresh.weighed e v rec table (entry_was e h) (agreed_was e.view v agreed) gave;
     used = λ j a rec exclusive y t v up h has agreed. open_now rec v (refresh.used j a rec exclusive y t v (still_live j y t up h) h (answered_on w new q.sent a t.txn rec exclusive has) (agreed_was t.view v agreed));
-    asked = λ from to number rec txn view exclusive v h agreed. refresh.asked from to number rec txn view exclusive v (request_on w new q.sent from to txn view number rec exclusive h) (agreed_was view v agreed);
+    uses = λ j y t rec v up h did agreed. open_now rec v (refresh.uses j y t rec v (still_live j y t up h) h did (agreed_was t.view v agreed));
+    asked = λ from to number rec txn view exclusive h. refresh.asked from to number rec txn view exclusive (request_on w new q.sent from to txn view number rec exclusive h);
   }

@@ -1,33 +1,37 @@
 -- A step keeps the invariant of answers to a refresh and of closed records.
-use Rattle.std.proofs.Common.{◌≡◌, ◌≢◌, ◌⊎◌, ◌∙◌, ap, sym, subst, ℕ, Bool, true, false, refl, inl, inr, ⊎_elim}
-use Rattle.std.specs.Prelude.{Option, Some, is_some, not, ◌||◌, ◌&&◌, ◌==◌}
+use Rattle.std.proofs.Common.{◌≡◌, ◌≢◌, ◌⊎◌, ◌∙◌, ap, sym, subst, ℕ, Bool, true, false, List, refl, inl, inr, length, ⊎_elim}
+use Rattle.std.specs.Prelude.{Option, Some, None, not, ◌||◌, ◌&&◌, ◌==◌}
 use Rattle.vp_model.specs.Types.{ViewId, TxnId, View, Sent, Commit, Input, Stored, Pending, Live}
 use Rattle.vp_model.specs.Types.message
 use Rattle.vp_model.specs.Types.owner
-use Rattle.vp_model.specs.Words.{has, value_at}
-use Rattle.vp_model.specs.Catalogue.{Catalogue, Table, holders, accessible}
+use Rattle.vp_model.specs.Types.op
+use Rattle.vp_model.specs.Words.{has, is_empty, value_at}
+use Rattle.vp_model.specs.Locks.{conflict}
+use Rattle.vp_model.specs.Transactions.{Deed, entry_of, last_changes}
+use Rattle.vp_model.specs.Catalogue.{Catalogue, holders}
 use Rattle.vp_model.specs.Durable.{DurableState}
-use Rattle.vp_model.specs.Refresh.{is_open, is_usable_in, is_doubtful, members_in, other_holders}
+use Rattle.vp_model.specs.Refresh.{is_open, is_doubtful, members_in, other_holders}
 use Rattle.vp_model.specs.Messages.{holds_view}
-use Rattle.vp_model.specs.Site.{SiteState, Stepped}
-use Rattle.vp_laws.specs.Votes.{is_commit}
-use Rattle.vp_laws.proofs.Lists.Members.{Has, filter_has}
-use Rattle.vp_laws.proofs.Lists.Names.{apart_unique}
+use Rattle.vp_model.specs.Site.{SiteState, Lent, Stepped}
+use Rattle.vp_laws.proofs.Lists.Members.{Has, has_none, filter_has}
+use Rattle.vp_laws.proofs.Lists.Changes.{empty_not}
+use Rattle.vp_laws.proofs.Lists.Numbers.{one_above}
 use Rattle.vp_laws.proofs.Lists.Views.{AtMost, Precedes, not_both, same_site, three_ways}
 use Rattle.vp_laws.proofs.Journal.Order.{Precedes-trans}
 use Rattle.vp_laws.proofs.Lists.LockTables.{IsFree, free_from_none}
 use Rattle.vp_laws.proofs.Moves.LocalViews.{letter}
-use Rattle.vp_laws.proofs.Moves.Table.{Comes, Requests, Reads, Decides}
+use Rattle.vp_laws.proofs.Moves.Calls.{done, reads_same, writes_same}
+use Rattle.vp_laws.proofs.Moves.Table.{Comes, Requests, Reads, Changes, May, Locked, Completes, record_of}
 use Rattle.vp_laws.proofs.Table.Led.{IsOf}
-use Rattle.vp_laws.proofs.Table.Votes.{some_not}
 use Rattle.vp_laws.proofs.Moves.OnlyCoordinator.{is_aside}
-use Rattle.vp_laws.proofs.Table.Steps.{SentFor}
+use Rattle.vp_laws.proofs.Table.Steps.{LiveNow, SentFor}
 use Rattle.vp_laws.proofs.Table.Shares.{is_reply, ReplyTo, Granted}
 use Rattle.vp_laws.proofs.Table.CopyAt.{Certain}
 use Rattle.vp_laws.proofs.Table.Leaves.{Uses}
 use Rattle.vp_laws.proofs.Table.Listed.{IsUnlisted}
 use Rattle.vp_laws.proofs.Worlds.Scenes.{Scene, plain_at, kept_at}
 use Rattle.vp_laws.proofs.Invariant.Shares.{HasRequest}
+use Rattle.vp_laws.proofs.Invariant.Answers.{WritesTo}
 use Rattle.vp_laws.proofs.Invariant.Ops.{HasUsed}
 use Rattle.vp_laws.proofs.Invariant.Entered.{AgreedAs}
 use Rattle.vp_laws.proofs.Invariant.Used.{HasAnswered}
@@ -35,14 +39,16 @@ use Rattle.vp_laws.proofs.Keeping.Closing.{closed_at_lasts}
 use Rattle.vp_laws.proofs.Journal.ValuesAfter.{content_of, Wrote, value_after}
 use Rattle.vp_laws.proofs.Copies.Facts.{copy_holder, closed_above}
 use Rattle.vp_laws.proofs.Worlds.Sites.{now_is, NowIs}
-use Rattle.vp_laws.proofs.Keeping.NewEntries.{none_entered, journal_same, Entering, entering, doubted, stops, agreed_was, Fresh, doubt_from}
+use Rattle.vp_laws.proofs.Keeping.NewEntries.{none_entered, journal_same, Entering, entering, doubted, agreed_was, Fresh, doubt_from}
 use Rattle.vp_laws.proofs.Copies.Values.{value_now}
 use Rattle.vp_laws.proofs.Copies.Brought.{doubt_on}
-use Rattle.vp_laws.proofs.Copies.CopiesKept.{open_now, from_lasts}
-use Rattle.vp_laws.proofs.Copies.OwnUse.{written_closed, idle_reads, used_closed}
+use Rattle.vp_laws.proofs.Copies.CopiesKept.{from_lasts}
+use Rattle.vp_laws.proofs.Copies.Opening.{stops, open_now, entries_open, entries_weighed}
 use Rattle.vp_laws.proofs.Copies.Refreshes.{unlisted_none, certain_from, left_below}
-use Rattle.vp_laws.proofs.Invariant.LiveUses.{MayWeigh, LiveUses, live_uses}
+use Rattle.vp_laws.proofs.Invariant.LiveUses.{LiveUses, live_uses}
+use Rattle.vp_laws.proofs.Journal.Changed.{HasChanged, alters, changed_by, change_there, operation_there, written_changed}
 use Rattle.vp_laws.proofs.Keeping.Does.{Does}
+use Rattle.vp_laws.proofs.Keeping.Holders.{holder_elsewhere}
 use Rattle.vp_laws.proofs.Invariant.Copies.{FromView, InvCopies}
 use Rattle.vp_laws.proofs.Invariant.Refresh.{InvRefresh}
 use Rattle.vp_laws.proofs.Keeping.Ops.{same_held}
@@ -158,92 +164,37 @@ module _ (catalogue : Catalogue) (w new : Scene) (s : ℕ) (x : SiteState) (give
       equal (FromView.member v agreed member) same = answer_stops p to rec view stored e v sent low h wrote (subst (λ (i : ViewId). Precedes i view) (sym same) low) (d.st.moved.agreed v agreed.0, agreed.1 ∙ sym same) member
       equal (FromView.closed v agreed later member opened) same = stops catalogue w new s x given o k n d refresh e v rec h wrote (subst (λ (i : ViewId). Precedes i v.id) (sym same) later) opened
 
-  -- what a new entry used is closed for its view
-  no_reads : (p : Pending) (rec : ℕ) → is_commit p.call ≡ true → Reads catalogue p rec → ⊥
-  no_reads p rec c r = let z = ap is_commit r.words in cc
-
-  deciding : (e : Commit) → Has o.effects.commits e → (f : Entering catalogue w new s x given o k n d e) → (p : Pending) (rec : ℕ) → f.was.pending ≡ Some p → Reads catalogue p rec → ⊥
-  deciding e h f p rec pending reads = go (d.steps.entered e h).was (d.steps.entered e h).decides (ap (λ (e : Commit). e.txn) (d.steps.entered e h).is)
-    where
-      same : (t : Live) → Has x.live t → t.txn ≡ e.txn → f.was ≡ t
-      same t there named = apart_unique x.live (k.votes.site s x d.up) f.was t f.live there (f.named ∙ sym named)
-
-      go : (t : Live) → Decides catalogue x given t → t.txn ≡ e.txn → ⊥
-      go t (Decides.alone was a there next commit alone is) named = some_not f.was.pending p pending (ap (λ (t : Live). is_some t.pending) (same was there (ap (λ (t : Live). t.txn) (sym is) ∙ named)) ∙ next.idle)
-      go t (Decides.voted a from there last comes commit) named =
-          let is : p ≡ a = (let z = sym pending ∙ ap (λ (t : Live). t.pending) (same t there named) ∙ last.pending in cc) in
-          no_reads a rec commit (subst (λ (p : Pending). Reads catalogue p rec) is reads)
-
-  entry_new : (e : Commit) (v : View) (rec : ℕ) → Has o.effects.commits e → AgreedAs new e.view v → HasUsed e.ops rec ⊎ Wrote e rec → Open catalogue new rec v
-  entry_new e v rec h agreed did =
-      let f = entering catalogue w new s x given o k n d e h in
-      let same : f.view ≡ v = n.views.unique f.view v (d.st.moved.agreed f.view (d.here.held f.view f.held)) agreed.0 (f.is ∙ sym agreed.1) in
-      let was : AgreedAs w f.was.view v = (subst (Has w.agreed) same (d.here.held f.view f.held), agreed.1 ∙ sym f.viewed) in
-      open_now catalogue w new s x given o k n d copies refresh rec v
-      (⊎_elim
-      (λ used. used_closed catalogue w k copies s x f.was d.up f.live refresh v was (idle_reads catalogue w k copies s x f.was d.up f.live refresh v was (deciding e h f)) rec (subst (λ (e : Commit). HasUsed e.ops rec) (sym f.done) used))
-      (λ wrote. written_closed catalogue w k copies s x f.was d.up f.live refresh v was rec (subst (λ (e : Commit). Wrote e rec) (sym f.done) wrote))
-      did)
-
-  weighed_new : (e : Commit) (v : View) (rec : ℕ) (table : Table) → Has o.effects.commits e → AgreedAs new e.view v → value_at rec e.tables ≡ Some table → MayWeigh catalogue v.members rec table
-  weighed_new e v rec table h agreed gave =
-      let f = entering catalogue w new s x given o k n d e h in
-      let same : f.view ≡ v = n.views.unique f.view v (d.st.moved.agreed f.view (d.here.held f.view f.held)) agreed.0 (f.is ∙ sym agreed.1) in
-      let held : x.held ≡ Some v = f.held ∙ ap (λ (v : View). Some v) same in
-      subst (λ (held : Option View). MayWeigh catalogue (members_in held) rec table) held
-      ((refresh.live s x f.was d.up f.live).weighed rec table (subst (λ (e : Commit). value_at rec e.tables ≡ Some table) (sym f.done) gave))
-
-  -- each record that is asked for is accessible
-  usable_in : (u : Live) (r rec : ℕ) (view : ViewId) (v : View) → Has x.live u → is_open catalogue x r ≡ true → r ≡ rec → u.view ≡ view → AgreedAs new view v → accessible catalogue rec v.members ≡ true
-  usable_in u r rec view v h usable same at agreed =
-      let of : IsOf x u = d.led.live u h in
-      let is : of.0 ≡ v = n.views.unique of.0 v (d.st.moved.agreed of.0 (d.here.held of.0 of.1)) agreed.0 (of.2 ∙ at ∙ sym agreed.1) in
-      subst (λ (n : ℕ). accessible catalogue n v.members ≡ true) same (subst (λ (v : View). accessible catalogue r v.members ≡ true) is (subst (λ (held : Option View). is_usable_in catalogue held r ≡ true) of.1 usable))
-
+  -- each site that is asked holds the record
   held_by : (r rec q to : ℕ) → Has (other_holders catalogue x r) q → r ≡ rec → q ≡ to → Has (holders catalogue rec) to
   held_by r rec q to h same it = subst (Has (holders catalogue rec)) it (subst (λ (n : ℕ). Has (holders catalogue n) q) same (filter_has (λ (q : ℕ). has (members_in x.held) q && not (q == x.id)) (holders catalogue r) q h).0)
 
-  asked_sent : (m : Sent) → SentFor catalogue x given o.site.live m → (from to number rec : ℕ) (txn : TxnId) (view : ViewId) (exclusive : Bool) (v : View) → ((m ≡ letter from to (message.ReadRequest txn view number rec)) ⊎ (m ≡ letter from to (message.WriteRequest txn view number rec))) → AgreedAs new view v → (accessible catalogue rec v.members ≡ true) × Has (holders catalogue rec) to
-  asked_sent m (SentFor.aside a) from to number rec txn view exclusive v is agreed = absurd (⊎_elim (λ (e : m ≡ letter from to (message.ReadRequest txn view number rec)). let z = ap (λ (m : Sent). is_aside m.message) e in let y = a.aside in cc) (λ (e : m ≡ letter from to (message.WriteRequest txn view number rec)). let z = ap (λ (m : Sent). is_aside m.message) e in let y = a.aside in cc) is)
-  asked_sent m (SentFor.outcome t commit f e) from to number rec txn view exclusive v is agreed = absurd (⊎_elim (λ (q : m ≡ letter from to (message.ReadRequest txn view number rec)). let z = sym e ∙ ap (λ (m : Sent). m.message) q in cc) (λ (q : m ≡ letter from to (message.WriteRequest txn view number rec)). let z = sym e ∙ ap (λ (m : Sent). m.message) q in cc) is)
-  asked_sent m (SentFor.reads u p r q h a only e) from to number rec txn view exclusive v is agreed = ⊎_elim
+  asked_sent : (m : Sent) → SentFor catalogue x given o.site.live m → (from to number rec : ℕ) (txn : TxnId) (view : ViewId) → ((m ≡ letter from to (message.ReadRequest txn view number rec)) ⊎ (m ≡ letter from to (message.WriteRequest txn view number rec))) → Has (holders catalogue rec) to
+  asked_sent m (SentFor.aside a) from to number rec txn view is = absurd (⊎_elim (λ (e : m ≡ letter from to (message.ReadRequest txn view number rec)). let z = ap (λ (m : Sent). is_aside m.message) e in let y = a.aside in cc) (λ (e : m ≡ letter from to (message.WriteRequest txn view number rec)). let z = ap (λ (m : Sent). is_aside m.message) e in let y = a.aside in cc) is)
+  asked_sent m (SentFor.outcome t commit f e) from to number rec txn view is = absurd (⊎_elim (λ (q : m ≡ letter from to (message.ReadRequest txn view number rec)). let z = sym e ∙ ap (λ (m : Sent). m.message) q in cc) (λ (q : m ≡ letter from to (message.WriteRequest txn view number rec)). let z = sym e ∙ ap (λ (m : Sent). m.message) q in cc) is)
+  asked_sent m (SentFor.reads u p r q h a only e) from to number rec txn view is = ⊎_elim
       (λ (f : m ≡ letter from to (message.ReadRequest txn view number rec)).
       let z = ap (λ (m : Sent). m.message) (e ∙ f) in
       let same : r ≡ rec = cc in
-      let at : u.view ≡ view = cc in
-      let it : q ≡ to = ap (λ (m : Sent). m.to) (e ∙ f) in
-      (usable_in u r rec view v h a.usable same at agreed, held_by r rec q to a.holder same it))
+      held_by r rec q to a.holder same (ap (λ (m : Sent). m.to) (e ∙ f)))
       (λ (f : m ≡ letter from to (message.WriteRequest txn view number rec)). absurd (let z = ap (λ (m : Sent). m.message) (e ∙ f) in cc))
       is
-  asked_sent m (SentFor.writes u p r value q h a j only e) from to number rec txn view exclusive v is agreed = ⊎_elim
+  asked_sent m (SentFor.writes u p r value q h a j only e) from to number rec txn view is = ⊎_elim
       (λ (f : m ≡ letter from to (message.ReadRequest txn view number rec)). absurd (let z = ap (λ (m : Sent). m.message) (e ∙ f) in cc))
       (λ (f : m ≡ letter from to (message.WriteRequest txn view number rec)).
       let z = ap (λ (m : Sent). m.message) (e ∙ f) in
       let same : r ≡ rec = cc in
-      let at : u.view ≡ view = cc in
-      let it : q ≡ to = ap (λ (m : Sent). m.to) (e ∙ f) in
-      (usable_in u r rec view v h a.usable same at agreed, held_by r rec q to j same it))
+      held_by r rec q to j same (ap (λ (m : Sent). m.to) (e ∙ f)))
       is
-  asked_sent m (SentFor.prepares u p q h a j only e) from to number rec txn view exclusive v is agreed = absurd (⊎_elim (λ (f : m ≡ letter from to (message.ReadRequest txn view number rec)). let z = ap (λ (m : Sent). m.message) (e ∙ f) in cc) (λ (f : m ≡ letter from to (message.WriteRequest txn view number rec)). let z = ap (λ (m : Sent). m.message) (e ∙ f) in cc) is)
+  asked_sent m (SentFor.prepares u p q h a j only e) from to number rec txn view is = absurd (⊎_elim (λ (f : m ≡ letter from to (message.ReadRequest txn view number rec)). let z = ap (λ (m : Sent). m.message) (e ∙ f) in cc) (λ (f : m ≡ letter from to (message.WriteRequest txn view number rec)). let z = ap (λ (m : Sent). m.message) (e ∙ f) in cc) is)
 
-  agreed_of : (from to number rec : ℕ) (txn : TxnId) (view : ViewId) (exclusive : Bool) (v : View) → HasRequest w from to txn view number rec exclusive → AgreedAs new view v → AgreedAs w view v
-  agreed_of from to number rec txn view false v (HasRequest.to_read h) agreed =
-      let b = k.led.asked _ h in
-      let same : b.0 ≡ v = n.views.unique b.0 v (d.st.moved.agreed b.0 b.1) agreed.0 (b.2 ∙ sym agreed.1) in
-      (subst (Has w.agreed) same b.1, agreed.1)
-  agreed_of from to number rec txn view true v (HasRequest.to_write h) agreed =
-      let b = k.led.asked _ h in
-      let same : b.0 ≡ v = n.views.unique b.0 v (d.st.moved.agreed b.0 b.1) agreed.0 (b.2 ∙ sym agreed.1) in
-      (subst (Has w.agreed) same b.1, agreed.1)
-
-  asked_now : (from to number rec : ℕ) (txn : TxnId) (view : ViewId) (exclusive : Bool) (v : View) → HasRequest new from to txn view number rec exclusive → AgreedAs new view v → (accessible catalogue rec v.members ≡ true) × Has (holders catalogue rec) to
-  asked_now from to number rec txn view false v (HasRequest.to_read h) agreed = ⊎_elim
-      (λ old. refresh.asked from to number rec txn view false v (HasRequest.to_read old) (agreed_of from to number rec txn view false v (HasRequest.to_read old) agreed))
-      (λ more. asked_sent (letter from to (message.ReadRequest txn view number rec)) (d.steps.sent _ more) from to number rec txn view false v (inl refl) agreed)
+  asked_now : (from to number rec : ℕ) (txn : TxnId) (view : ViewId) (exclusive : Bool) → HasRequest new from to txn view number rec exclusive → Has (holders catalogue rec) to
+  asked_now from to number rec txn view false (HasRequest.to_read h) = ⊎_elim
+      (λ old. refresh.asked from to number rec txn view false (HasRequest.to_read old))
+      (λ more. asked_sent (letter from to (message.ReadRequest txn view number rec)) (d.steps.sent _ more) from to number rec txn view (inl refl))
       (d.st.sent _ h)
-  asked_now from to number rec txn view true v (HasRequest.to_write h) agreed = ⊎_elim
-      (λ old. refresh.asked from to number rec txn view true v (HasRequest.to_write old) (agreed_of from to number rec txn view true v (HasRequest.to_write old) agreed))
-      (λ more. asked_sent (letter from to (message.WriteRequest txn view number rec)) (d.steps.sent _ more) from to number rec txn view true v (inr refl) agreed)
+  asked_now from to number rec txn view true (HasRequest.to_write h) = ⊎_elim
+      (λ old. refresh.asked from to number rec txn view true (HasRequest.to_write old))
+      (λ more. asked_sent (letter from to (message.WriteRequest txn view number rec)) (d.steps.sent _ more) from to number rec txn view (inr refl))
       (d.st.sent _ h)
 
   -- what is answered for a live transaction
@@ -273,32 +224,126 @@ module _ (catalogue : Catalogue) (w new : Scene) (s : ℕ) (x : SiteState) (give
   granted_closed to number rec txn exclusive stored g v agreed =
       let h = holding x g.view g.held in
       let same : h.0 ≡ v = n.views.unique h.0 v (d.st.moved.agreed h.0 (d.here.held h.0 h.1)) agreed.0 (h.2 ∙ sym agreed.1) in
-      let held : x.held ≡ Some v = h.1 ∙ ap (λ (v : View). Some v) same in
-      let request = request_was to number rec txn g.view exclusive g.comes in
-      let usable = (refresh.asked to s number rec txn g.view exclusive v request (agreed_of to s number rec txn g.view exclusive v request agreed)).0 in
-      copies.open_copy s rec x v stored d.up held (subst (λ (held : Option View). is_usable_in catalogue held rec ≡ true) (sym held) usable)
+      copies.open_copy s rec x v stored d.up (h.1 ∙ ap (λ (v : View). Some v) same) g.opened
       (unlisted_none rec x.refresh (free_unlisted rec exclusive txn (free_from_none rec exclusive txn x.locks g.free))) g.copy
 
-  used_new : (j q rec : ℕ) (exclusive : Bool) (y : SiteState) (t : Live) (v : View) → plain_at new j ≡ Some y → Has y.live t → HasAnswered new q t.txn rec exclusive → AgreedAs new t.view v → Open catalogue new rec v
-  used_new j q rec exclusive y t v up live has agreed = open_now catalogue w new s x given o k n d copies refresh rec v (go (d.split j y t (now_is w new s x o d.st j y up) live q rec exclusive has))
-    where
-      view_then : Was w j t → AgreedAs w t.view v
-      view_then old =
-          let of : IsOf old.site old.u = (k.led.site j old.site old.up_then).live old.u old.here in
-          let there = (k.views.site j old.site old.up_then).held of.0 of.1 in
-          let same : of.0 ≡ v = n.views.unique of.0 v (d.st.moved.agreed of.0 there) agreed.0 (of.2 ∙ old.viewed ∙ sym agreed.1) in
-          (subst (Has w.agreed) same there, agreed.1)
+  -- the view of a transaction that was live, as it was
+  view_then : (j : ℕ) (y : SiteState) (u : Live) (v : View) → plain_at w j ≡ Some y → Has y.live u → AgreedAs new u.view v → (y.held ≡ Some v) × AgreedAs w u.view v
+  view_then j y u v up h agreed =
+      let of : IsOf y u = (k.led.site j y up).live u h in
+      let there = (k.views.site j y up).held of.0 of.1 in
+      let same : of.0 ≡ v = n.views.unique of.0 v (d.st.moved.agreed of.0 there) agreed.0 (of.2 ∙ sym agreed.1) in
+      (of.1 ∙ ap (λ (v : View). Some v) same, (subst (Has w.agreed) same there, agreed.1))
 
+  used_new : (j q rec : ℕ) (exclusive : Bool) (y : SiteState) (t : Live) (v : View) → plain_at new j ≡ Some y → Has y.live t → HasAnswered new q t.txn rec exclusive → AgreedAs new t.view v → Open catalogue new rec v
+  used_new j q rec exclusive y t v up live has agreed = open_now catalogue w new s x given o k n d refresh rec v (go (d.split j y t (now_is w new s x o d.st j y up) live q rec exclusive has))
+    where
       at_site : (old : Was w j t) → plain_at w t.txn.site ≡ Some old.site
       at_site old = rw (ap (λ (t : TxnId). t.site) (sym old.named) ∙ ((k.led.site j old.site old.up_then).names old.u old.here).0 ∙ (k.views.site j old.site old.up_then).id) old.up_then
 
       go : Split w s x given o j t q rec exclusive → Open catalogue w rec v
       go (Split.before old had) =
-          let a = view_then old in
-          refresh.used j q rec exclusive old.site old.u v old.up_then old.here (subst (λ (txn : TxnId). HasAnswered w q txn rec exclusive) (sym old.named) had) (a.0, a.1 ∙ sym old.viewed)
+          refresh.used j q rec exclusive old.site old.u v old.up_then old.here (subst (λ (txn : TxnId). HasAnswered w q txn rec exclusive) (sym old.named) had)
+          (view_then j old.site old.u v old.up_then old.here (agreed.0, agreed.1 ∙ sym old.viewed)).1
       go (Split.now old at uses to number stored g) =
           let viewed : old.u.view ≡ g.view = said_view to number rec t.txn g.view exclusive (request_was to number rec t.txn g.view exclusive g.comes) old.site old.u (at_site old) old.here old.named in
           granted_closed to number rec t.txn exclusive stored g v (agreed.0, agreed.1 ∙ sym old.viewed ∙ viewed)
+
+  -- what an answer to a call answers: the request on its record
+  pub read_request : (from : ℕ) (u : Live) (p : Pending) (rec : ℕ) (value : Option (List ℕ)) → Has x.live u → u.pending ≡ Some p → Reads catalogue p rec → Comes given from (message.ReadAnswer u.txn p.number value) → (view : ViewId) × Has w.sent (letter s from (message.ReadRequest u.txn view p.number rec))
+  read_request from u p rec value h pending reads c =
+      let request = k.shares.says _ (d.came from (message.ReadAnswer u.txn p.number value) c) in
+      let same : request.1 ≡ rec = ⊎_elim
+      (λ low. absurd (one_above p.number (length u.answers) low ((k.ops.live s x u d.up h).next p pending)))
+      (λ (q : (b : Pending) × (u.pending ≡ Some b) × (b.number ≡ p.number) × Reads catalogue b request.1).
+      let one : q.0 ≡ p = (let y = q.1 in let z = pending in cc) in
+      reads_same catalogue p request.1 rec (subst (λ (p : Pending). Reads catalogue p request.1) one q.3) reads)
+      (k.answers.asks (letter s from (message.ReadRequest u.txn request.0 p.number request.1)) request.2 x u (rw ((d.led.names u h).0 ∙ d.here.id) d.up) h refl) in
+      (request.0, subst (λ (r : ℕ). Has w.sent (letter s from (message.ReadRequest u.txn request.0 p.number r))) same request.2)
+
+  change_request : (from : ℕ) (u : Live) (p : Pending) (rec : ℕ) (deed : Deed) → Has x.live u → u.pending ≡ Some p → Changes catalogue p rec deed → Comes given from (message.WriteAnswer u.txn p.number) → (view : ViewId) × Has w.sent (letter s from (message.WriteRequest u.txn view p.number rec))
+  change_request from u p rec deed h pending changes c =
+      let request = k.shares.says _ (d.came from (message.WriteAnswer u.txn p.number) c) in
+      let same : request.1 ≡ rec = ⊎_elim
+      (λ low. absurd (one_above p.number (length u.answers) low ((k.ops.live s x u d.up h).next p pending)))
+      (λ (q : (b : Pending) × (u.pending ≡ Some b) × (b.number ≡ p.number) × WritesTo catalogue request.1 b).
+      let one : q.0 ≡ p = (let y = q.1 in let z = pending in cc) in
+      writes_same catalogue p request.1 rec q.3.0 deed (subst (λ (p : Pending). Changes catalogue p request.1 q.3.0) one q.3.1) changes)
+      (k.answers.asks (letter s from (message.WriteRequest u.txn request.0 p.number request.1)) request.2 x u (rw ((d.led.names u h).0 ∙ d.here.id) d.up) h refl) in
+      (request.0, subst (λ (r : ℕ). Has w.sent (letter s from (message.WriteRequest u.txn request.0 p.number r))) same request.2)
+
+  -- what a call does that is done in this step is on an open record
+  module _ (u : Live) (p : Pending) (deed : Deed) (h : Has x.live u) (v : View) (agreed : AgreedAs new u.view v) where
+    had : (rec : ℕ) → HasUsed u.ops rec ⊎ HasChanged u rec → Open catalogue w rec v
+    had rec did = refresh.uses s x u rec v d.up h did (view_then s x u v d.up h agreed).1
+
+    copy_open : (rec : ℕ) (exclusive : Bool) (stored : Stored) → is_open x rec ≡ true → value_at rec x.copies ≡ Some stored → conflict rec exclusive u.txn x.locks ≡ None → Open catalogue w rec v
+    copy_open rec exclusive stored opened copy free =
+        copies.open_copy s rec x v stored d.up (view_then s x u v d.up h agreed).0 opened
+        (unlisted_none rec x.refresh (free_unlisted rec exclusive u.txn (free_from_none rec exclusive u.txn x.locks free))) copy
+
+    alone_open : (rec : ℕ) (l : Lent) → May catalogue x u rec deed → is_empty (other_holders catalogue x rec) ≡ true → Locked x u rec l → Open catalogue w rec v
+    alone_open rec l may alone (Locked.no_copy none e) = let q = holder_elsewhere catalogue w s x d.up k rec deed may.enough none in absurd (empty_not (other_holders catalogue x rec) q.0 alone q.1)
+    alone_open rec l may alone (Locked.locked stored copy free e) = copy_open rec true stored may.usable copy free
+
+    on_read : (rec : ℕ) (value : Option (List ℕ)) → deed ≡ Deed.operates (op.Read rec value) → Open catalogue w rec v → Open catalogue w (record_of deed) v
+    on_read rec value is opened = subst (λ (deed : Deed). Open catalogue w (record_of deed) v) (sym is) opened
+
+    on_change : (rec : ℕ) → Changes catalogue p rec deed → Open catalogue w rec v → Open catalogue w (record_of deed) v
+    on_change rec changes opened = subst (λ (n : ℕ). Open catalogue w n v) (sym changes.on) opened
+
+    deed_open : (l : Lent) → Completes catalogue x given u p deed l → Open catalogue w (record_of deed) v
+    deed_open l (Completes.own_write rec value next reads a wrote is e) = on_read rec value is (had rec (inr (written_changed u rec value wrote)))
+    deed_open l (Completes.own_copy rec stored next reads a none copy free is e) = on_read rec stored.value is (copy_open rec false stored a copy free)
+    deed_open l (Completes.change_again rec before next changes may was e) = on_change rec changes (had rec (inr (change_there (last_changes (entry_of u)) rec before was)))
+    deed_open l (Completes.change_alone rec next changes may none alone taken) = on_change rec changes (alone_open rec l may alone taken)
+    deed_open l (Completes.read_answered from rec value c last reads is e) =
+        let request = read_request from u p rec value h last.pending reads c in
+        on_read rec value is (refresh.used s from rec false x u v d.up h (HasAnswered.read (s, p.number, request.0, value, d.came from _ c, request.1)) (view_then s x u v d.up h agreed).1)
+    deed_open l (Completes.change_answered from rec c last changes e) =
+        let request = change_request from u p rec deed h last.pending changes c in
+        on_change rec changes (refresh.used s from rec true x u v d.up h (HasAnswered.wrote (s, p.number, request.0, d.came from _ c, request.1)) (view_then s x u v d.up h agreed).1)
+
+    done_open : (l : Lent) (rec : ℕ) → Completes catalogue x given u p deed l → HasUsed (done u p deed).ops rec ⊎ HasChanged (done u p deed) rec → Open catalogue w rec v
+    done_open l rec c did = ⊎_elim
+        (λ (used : HasUsed (done u p deed).ops rec). ⊎_elim
+        (λ old. had rec (inl (used.0, old, used.2)))
+        (λ now. subst (λ (n : ℕ). Open catalogue w n v) (ap record_of now ∙ used.2) (deed_open l c))
+        (operation_there u.ops deed used.0 used.1))
+        (λ changed. ⊎_elim
+        (λ old. had rec (inr old))
+        (λ (now : (alters deed rec ≡ true) × (record_of deed ≡ rec)). subst (λ (n : ℕ). Open catalogue w n v) now.1 (deed_open l c))
+        (changed_by u p deed rec changed))
+        did
+
+  same_uses : (u t : Live) (rec : ℕ) (v : View) → Has x.live u → entry_of t ≡ entry_of u → HasUsed t.ops rec ⊎ HasChanged t rec → AgreedAs new t.view v → Open catalogue w rec v
+  same_uses u t rec v h same did agreed = refresh.uses s x u rec v d.up h
+      (⊎_elim
+      (λ used. inl (subst (λ (e : Commit). HasUsed e.ops rec) same used))
+      (λ changed. inr (subst (λ (e : Commit). Wrote e rec) same changed))
+      did)
+      (view_then s x u v d.up h (agreed.0, agreed.1 ∙ ap (λ (e : Commit). e.view) same)).1
+
+  uses_here : (t : Live) (rec : ℕ) (v : View) → LiveNow catalogue x given t → HasUsed t.ops rec ⊎ HasChanged t rec → AgreedAs new t.view v → Open catalogue w rec v
+  uses_here t rec v (LiveNow.still h) did agreed = same_uses t t rec v h refl did agreed
+  uses_here t rec v (LiveNow.marked u h tick e) did agreed = same_uses u t rec v h (ap entry_of (sym e)) did agreed
+  uses_here t rec v (LiveNow.waits u p from h f m l c e) did agreed = same_uses u t rec v h (ap entry_of (sym e)) did agreed
+  uses_here t rec v (LiveNow.reads u p r q h a e) did agreed = same_uses u t rec v h (ap entry_of (sym e)) did agreed
+  uses_here t rec v (LiveNow.writes u p r deed h a e) did agreed = same_uses u t rec v h (ap entry_of (sym e)) did agreed
+  uses_here t rec v (LiveNow.prepares u p h a e) did agreed = same_uses u t rec v h (ap entry_of (sym e)) did agreed
+  uses_here t rec v (LiveNow.completed u p deed l h c e) did agreed =
+      done_open u p deed h v (subst (λ (t : Live). AgreedAs new t.view v) (sym e) agreed) l rec c (subst (λ (t : Live). HasUsed t.ops rec ⊎ HasChanged t rec) (sym e) did)
+  uses_here t rec v (LiveNow.begins view h e) did agreed = absurd (⊎_elim
+      (λ (used : HasUsed t.ops rec). has_none used.0 (subst (λ (t : Live). Has t.ops used.0) (sym e) used.1))
+      (λ changed. has_none rec (subst (λ (t : Live). HasChanged t rec) (sym e) changed))
+      did)
+
+  uses_now : (j : ℕ) (y : SiteState) (t : Live) (rec : ℕ) (v : View) → plain_at new j ≡ Some y → Has y.live t → HasUsed t.ops rec ⊎ HasChanged t rec → AgreedAs new t.view v → Open catalogue new rec v
+  uses_now j y t rec v up live did agreed = open_now catalogue w new s x given o k n d refresh rec v (go (now_is w new s x o d.st j y up))
+    where
+      go : NowIs w s o.site j y → Open catalogue w rec v
+      go (NowIs.other m old) = refresh.uses j y t rec v old live did (view_then j y t v old live agreed).1
+      go (NowIs.here z same) = uses_here t rec v (d.steps.live t (subst (λ (y : SiteState). Has y.live t) (sym same) live)) did agreed
 
   live_now : (j : ℕ) (y : SiteState) (t : Live) → Has y.live t → NowIs w s o.site j y → LiveUses catalogue y.held t
   live_now j y t h (NowIs.other z old) = refresh.live j y t old h
@@ -328,14 +373,9 @@ module _ (catalogue : Catalogue) (w new : Scene) (s : ℕ) (x : SiteState) (give
         (λ old. from_lasts catalogue w new s x given o k n d copies refresh p rec stored.date (refresh.from p to rec view stored old low))
         (λ more. replied_from p rec view stored (sent_now p to rec view stored more)) (d.st.sent _ h);
     live = λ j y t up h. live_now j y t h (now_is w new s x o d.st j y up);
-    entry = λ e v rec h agreed did. ⊎_elim
-        (λ old. open_now catalogue w new s x given o k n d copies refresh rec v (refresh.entry e v rec old (agreed_was catalogue w new s x given o k n d e v old agreed) did))
-        (λ more. entry_new e v rec more agreed did)
-        (d.st.entered e h);
-    weighed = λ e v rec table h agreed gave. ⊎_elim
-        (λ old. refresh.weighed e v rec table old (agreed_was catalogue w new s x given o k n d e v old agreed) gave)
-        (λ more. weighed_new e v rec table more agreed gave)
-        (d.st.entered e h);
+    uses = uses_now;
+    entry = entries_open catalogue w new s x given o k n d refresh;
+    weighed = entries_weighed catalogue w new s x given o k n d refresh;
     used = used_new;
     asked = asked_now;
   }

@@ -6,9 +6,9 @@ use Rattle.std.proofs.lemmas.Bool.{eqb-true}
 use Rattle.vp_model.specs.Types.{ViewId, View, Commit, Input, Stored, Refreshing, Doubt}
 use Rattle.vp_model.specs.Types.message
 use Rattle.vp_model.specs.Words.{has, is_empty, keys, opening}
-use Rattle.vp_model.specs.Catalogue.{Catalogue, holders, accessible}
+use Rattle.vp_model.specs.Catalogue.{Catalogue, holders}
 use Rattle.vp_model.specs.Durable.{DurableState}
-use Rattle.vp_model.specs.Refresh.{refreshing_of, is_usable_in, other_holders, other_holders_in, unanswered, is_doubtful}
+use Rattle.vp_model.specs.Refresh.{refreshing_of, other_holders, other_holders_in, unanswered, is_doubtful}
 use Rattle.vp_model.specs.Site.{SiteState, Stepped}
 use Rattle.vp_laws.proofs.Lists.Members.{Has, has_first, has_more, has_cons, has_none, has_from_test, filter_keeps, map_has, any_false, has_test}
 use Rattle.vp_laws.proofs.Lists.Views.{AtMost, Precedes, AtMost-trans, AtMost-along, Precedes-at_most, not_both, same_site}
@@ -106,12 +106,6 @@ module _ (catalogue : Catalogue) (w new : Scene) (s : ℕ) (x : SiteState) (give
   -- no entry of this step wrote the record
   pub answer_unwritten : (rec : ℕ) (q : ℕ × Stored) → AnswerNow catalogue x given rec q → (e : Commit) → Has o.effects.commits e → Wrote e rec → ⊥
   answer_unwritten rec q a e h wrote = let r = answer_listed rec q a in not_listed catalogue w new s x given o k n d e r.0 h r.1 (subst (Wrote e) (sym r.2) wrote)
-
-  -- and it may be used in the held view
-  pub answer_usable : (rec : ℕ) (q : ℕ × Stored) (u : View) → AnswerNow catalogue x given rec q → x.held ≡ Some u → accessible catalogue rec u.members ≡ true
-  answer_usable rec q u a held =
-      let r = answer_listed rec q a in
-      subst (λ (n : ℕ). accessible catalogue n u.members ≡ true) r.2 (subst (λ (h : Option View). is_usable_in catalogue h r.0.rec ≡ true) held (k.listed.listed s x r.0 d.up r.1).1)
 
   -- a site has left all views below the one that it held as the step began
   pub left_below : (u : View) (j : ViewId) → x.held ≡ Some u → Precedes j u.id → HasLeft new s j

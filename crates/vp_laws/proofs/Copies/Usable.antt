@@ -30,7 +30,7 @@ after_between catalogue journal c d rec h none = go (slice_get (start_values cat
 not_same : (i : ViewId) → same_view i i ≡ false → ⊥
 not_same i e = let t : same_view i i ≡ true = same_from i i refl in cc
 
-module _ (catalogue : Catalogue) (w : Scene) (shares : InvShares catalogue w) (inv : InvCopies catalogue w) (s rec : ℕ) (x : SiteState) (v : View) (c : Stored) (up : plain_at w s ≡ Some x) (kept : durable_of x ≡ kept_at w s) (held : x.held ≡ Some v) (usable : is_open catalogue x rec ≡ true) (unlisted : refreshing_of rec x.refresh ≡ None) (copy : value_at rec x.copies ≡ Some c) (agreed : Has w.agreed v) (member : Has v.members s) (holder : Has (holders catalogue rec) s) (dated : AtMost c.date v.id) (unentered : (d : Doubt) → Has (kept_at w s).doubts d → Has (keys d.writes) rec → (e : Commit) → Has w.journal e → e.txn ≢ d.txn) where
+module _ (catalogue : Catalogue) (w : Scene) (shares : InvShares catalogue w) (inv : InvCopies catalogue w) (s rec : ℕ) (x : SiteState) (v : View) (c : Stored) (up : plain_at w s ≡ Some x) (kept : durable_of x ≡ kept_at w s) (held : x.held ≡ Some v) (usable : is_open x rec ≡ true) (unlisted : refreshing_of rec x.refresh ≡ None) (copy : value_at rec x.copies ≡ Some c) (agreed : Has w.agreed v) (member : Has v.members s) (holder : Has (holders catalogue rec) s) (dated : AtMost c.date v.id) (unentered : (d : Doubt) → Has (kept_at w s).doubts d → Has (keys d.writes) rec → (e : Commit) → Has w.journal e → e.txn ≢ d.txn) where
   copy_kept : value_at rec (kept_at w s).copies ≡ Some c
   copy_kept = subst (λ (k : DurableState). value_at rec k.copies ≡ Some c) kept copy
 

@@ -24,6 +24,10 @@ total_of t = sum_by (λ (w : ℕ × ℕ). w.1) t
 abbrev pub accessible_by : Table → List ℕ → Bool
 accessible_by t members = nat_lt (total_of t) (2 * weight_inside members t)
 
+-- the tables that an entry gives
+abbrev pub given_by : Commit → List (ℕ × Table)
+given_by e = e.tables
+
 -- `tables` are the tables that an entry gives records
 module _ (tables : Commit → List (ℕ × Table)) (rec : ℕ) where
   -- the entry changes the table of the record

@@ -1,12 +1,11 @@
 -- What one step of a site of which all is known does: every later proof on a step uses this.
-use Rattle.std.proofs.Common.{◌≡◌, ◌∙◌, ◌≤◌, inl, ap, sym, subst, ℕ, Bool, true}
+use Rattle.std.proofs.Common.{◌≡◌, ◌∙◌, ◌≤◌, inl, ap, sym, subst, ℕ, Bool}
 use Rattle.std.specs.Prelude.{Some}
-use Rattle.vp_model.specs.Types.{View, Input, Message, Live}
-use Rattle.vp_model.specs.Words.{keys}
+use Rattle.vp_model.specs.Types.{View, Input, Message, Live, Refreshing}
+use Rattle.vp_model.specs.Words.{keys, value_at}
 use Rattle.vp_model.specs.Catalogue.{Catalogue}
-use Rattle.vp_model.specs.Refresh.{is_open}
 use Rattle.vp_model.specs.Durable.{DurableState}
-use Rattle.vp_model.specs.Site.{SiteState, Stepped}
+use Rattle.vp_model.specs.Site.{SiteState, Stepped, begin_step}
 use Rattle.vp_model.specs.Step.{step}
 use Rattle.vp_laws.proofs.Lists.Members.{Has}
 use Rattle.vp_laws.proofs.Moves.LocalViews.{letter, Local}
@@ -22,12 +21,15 @@ use Rattle.vp_laws.proofs.Table.Replies.{Replying, replies-step}
 use Rattle.vp_laws.proofs.Table.Alone.{Alone, alone-step}
 use Rattle.vp_laws.proofs.Table.Waits.{Waits, waits-step}
 use Rattle.vp_laws.proofs.Table.Leaves.{Leaves, leaves-step}
-use Rattle.vp_laws.proofs.Table.Locks.{Guards, guards-step}
+use Rattle.vp_laws.proofs.Moves.Both.{both}
+use Rattle.vp_laws.proofs.Table.CopyAt.{CopiesAt, starts as copies_start, table as copies_table}
+use Rattle.vp_laws.proofs.Table.Listed.{IsUnlisted, Listing, starts as listed_start, table as listed_table}
+use Rattle.vp_laws.proofs.Table.Barred.{Barring, starts as barred_start, table as barred_table}
+use Rattle.vp_laws.proofs.Table.Locks.{Guards, guards-step, starts as locks_start, table as locks_table}
 use Rattle.vp_laws.proofs.Table.Copies.{Copies, copies-step}
 use Rattle.vp_laws.proofs.Keeping.Once.{once_each}
-use Rattle.vp_laws.proofs.Table.Unlisted.{Unlisting, unlisting-step}
-use Rattle.vp_laws.proofs.Table.Listed.{IsUnlisted}
-use Rattle.vp_laws.proofs.Table.Covered.{Quits, quits}
+use Rattle.vp_laws.proofs.Table.Unlisted.{Base, Unlisting, unlisting-step}
+use Rattle.vp_laws.proofs.Table.Covered.{BarFrom, Quits, bar_from, quits}
 use Rattle.vp_laws.proofs.Worlds.Scenes.{Scene, plain_at, Acted, acted, stepping}
 use Rattle.vp_laws.proofs.Worlds.Events.{Arrives, came_in}
 use Rattle.vp_laws.proofs.Worlds.Sites.{NowIs}
@@ -68,7 +70,7 @@ pub record Does (catalogue : Catalogue) (w new : Scene) (s : ℕ) (x : SiteState
   -- where finished transactions come from
   pub finished : FinishedNow x o.site.coordinator o.effects.messages o.effects.commits
   -- what it replies
-  pub replying : Replying x o.site.live o.effects.commits o.effects.replies
+  pub replying : Replying x given o.site.live o.effects.commits o.effects.replies
   -- a step with an entry changes no other live transaction
   pub alone : Alone x o.site.coordinator o.effects.messages o.effects.commits
   -- whom its decisions wait for
@@ -81,8 +83,10 @@ pub record Does (catalogue : Catalogue) (w new : Scene) (s : ℕ) (x : SiteState
   pub copies : Copies catalogue x given o
   -- why a record is not under refresh
   pub unlisting : Unlisting catalogue x given o
-  -- why one that may be used is not
-  pub quits : (rec : ℕ) (v : View) → o.site.held ≡ Some v → is_open catalogue o.site rec ≡ true → Has (keys x.copies) rec → IsUnlisted o.site.refresh rec → Quits catalogue x given o rec
+  -- why one that has a copy here is not
+  pub quits : (rec : ℕ) (v : View) → o.site.held ≡ Some v → Has (keys x.copies) rec → IsUnlisted o.site.refresh rec → Quits catalogue x given o rec
+  -- where bars are from
+  pub bar_from : (rec : ℕ) (v : View) (bar : ℕ × ℕ) → o.site.held ≡ Some v → value_at rec o.site.bars ≡ Some bar → IsUnlisted o.site.refresh rec → BarFrom catalogue x given o rec bar
   -- what a live transaction of a used name was before
   pub was : (j : ℕ) (y : SiteState) (t : Live) → UsedTxn w t.txn → Has y.live t → NowIs w s o.site j y → Was w j t
   -- an answer was given before, or is given now
@@ -100,12 +104,22 @@ does catalogue w s x given up r k =
     let settled = k.ends.settled s x up in
     let locks = k.guards.site s x up in
     let leads = led-step catalogue x given ok.tidy led in
-    let locks_now = guards-step catalogue x given ok.tidy led below apart locks
-    (outcomes catalogue w s x given up r k.views led k.led below k.ends k.shares k.entered)
-    (awaited catalogue w s x given up r k.views led k.led below k.ends k.shares k.entered)
-    (invited catalogue w s x given up r k.views led k.led below k.ends k.shares k.entered) in
+    let over = outcomes catalogue w s x given up r k.views led k.led below k.ends k.shares k.entered in
+    let waits_for = awaited catalogue w s x given up r k.views led k.led below k.ends k.shares k.entered in
+    let invites_to = invited catalogue w s x given up r k.views led k.led below k.ends k.shares k.entered in
+    let locks_now = guards-step catalogue x given ok.tidy led below apart locks over waits_for invites_to in
     let st = stepping catalogue w s x given up ok.kept (local-step catalogue x given ok.tidy) in
     let once = once_each catalogue w s x given ok.kept k.ends k.shares (came_in w s given r) in
+    let in_view : (a : Refreshing) → Has x.refresh a → (v : View) × (x.held ≡ Some v) = (λ a h. let q = locks.lower a h in (q.0, q.1)) in
+    let listed : (a : Refreshing) → Has x.refresh a → Has (keys x.copies) a.rec = (λ a h. k.listed.listed s x a up h) in
+    let barred = k.barred.site s x up in
+    let locks_begin = locks_start catalogue x given ok.tidy led below apart locks over waits_for invites_to in
+    let locks_moves = locks_table catalogue x given ok.tidy led below apart locks over waits_for invites_to in
+    let begun : Base catalogue x given (begin_step x) = (copies_start catalogue x given ok.tidy in_view once, (listed_start catalogue x given ok.tidy in_view listed, barred_start catalogue x given ok.tidy locks_moves locks_begin barred)) in
+    let unlists = unlisting-step catalogue x given
+    (both catalogue x given (CopiesAt catalogue x given) (λ (o : Stepped). Listing catalogue x given o × Barring catalogue x given o) (copies_table catalogue x given ok.tidy in_view once)
+    (both catalogue x given (Listing catalogue x given) (Barring catalogue x given) (listed_table catalogue x given ok.tidy in_view listed) (barred_table catalogue x given ok.tidy locks_moves locks_begin barred)))
+    begun in
     record {
       up = up;
       arrives = r;
@@ -127,9 +141,10 @@ does catalogue w s x given up r k =
       waits = (waits-step catalogue x given settled.decisions).kept;
       leaves = leaves-step catalogue x given;
       guards = locks_now;
-      copies = copies-step catalogue x given ok.tidy (λ r h. let q = locks.lower r h in (q.0, q.1)) once;
-      unlisting = unlisting-step catalogue x given ok.tidy (λ r h. let q = locks.lower r h in (q.0, q.1)) once;
-      quits = quits catalogue x given (λ e. (led.idle e).1) ok.tidy (unlisting-step catalogue x given ok.tidy (λ r h. let q = locks.lower r h in (q.0, q.1)) once);
+      copies = copies-step catalogue x given ok.tidy in_view once;
+      unlisting = unlists;
+      quits = quits catalogue x given (λ e. (led.idle e).1) barred ok.tidy unlists;
+      bar_from = bar_from catalogue x given (λ e. (led.idle e).1) barred ok.tidy unlists;
       was = was catalogue w (acted w s x o) s x given up r ok.id (ap (λ (d : DurableState). d.promise) ok.kept) k.views k.led (owned catalogue w k.views k.led) k.names k.ends k.shares k.answers k.used (steps-step catalogue x given led apart).kept (shares-step catalogue x given) (leaves-step catalogue x given) locks_now st;
       split = split catalogue w (acted w s x o) s x given up r ok.id (ap (λ (d : DurableState). d.promise) ok.kept) k.views k.led (owned catalogue w k.views k.led) k.names k.ends k.shares k.answers k.used (steps-step catalogue x given led apart).kept (shares-step catalogue x given) (leaves-step catalogue x given) locks_now st;
       st = st;

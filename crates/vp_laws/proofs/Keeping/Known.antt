@@ -13,6 +13,7 @@ use Rattle.vp_model.specs.Site.{SiteState}
 use Rattle.std.specs.Prelude.{Some}
 use Rattle.vp_laws.proofs.Keeping.Answers.{answers_keep, answers_quiet, answers_starts}
 use Rattle.std.proofs.Common.{ap, ℕ, ◌≡◌}
+use Rattle.vp_laws.proofs.Keeping.Barred.{barred_acts, barred_quiet, barred_starts}
 use Rattle.vp_laws.proofs.Keeping.Below.{below_acts, below_quiet, below_starts}
 use Rattle.vp_laws.proofs.Keeping.Dated.{dated_keep, dated_quiet, dated_starts}
 use Rattle.vp_laws.proofs.Keeping.Does.{does}
@@ -59,6 +60,7 @@ known_starts catalogue = record {
   reads = reads_starts catalogue;
   held = held_starts catalogue;
   listed = listed_starts catalogue;
+  barred = barred_starts catalogue;
   repeated = repeated_starts catalogue;
 }
 
@@ -100,6 +102,7 @@ known_acts catalogue w s x given up r k =
       held = held;
       listed = listed_keep catalogue w new s x given o up k.views views d.led k.led k.shares shares k.entered entered k.settled k.guards k.held held k.listed d.steps d.shares
           (listing-step catalogue x given d.here.tidy (λ r h. let q = (k.guards.site s x up).lower r h in (q.0, q.1)) (λ r h. k.listed.listed s x r up h)) d.st;
+      barred = barred_acts w new s x o d.unlisting.base.1.1.barred d.st k.barred;
       repeated = repeated_acts catalogue w s x given up d.st k.repeated;
     }
 
@@ -124,6 +127,7 @@ known_quiet catalogue w new s q views k = record {
   reads = reads_quiet catalogue w new s q k.reads;
   held = held_quiet catalogue w new s q k.held;
   listed = listed_quiet catalogue w new s q k.listed;
+  barred = barred_quiet catalogue w new s q k.barred;
   repeated = repeated_quiet catalogue w new s q k.repeated;
 }
 

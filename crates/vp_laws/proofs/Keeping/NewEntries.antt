@@ -1,18 +1,17 @@
 -- What an entry of a step means for others: it belongs to a live transaction here, each other holder of what it wrote is in doubt
--- about it, nothing here is in doubt about that or under refresh, and no record that is closed for a higher view was written.
-use Rattle.std.proofs.Common.{true, Option, ◌≡◌, ◌≢◌, ◌⊎◌, ◌∙◌, ap, sym, subst, ℕ, Bool, false, List, [], ◌∷◌, ◌++◌, refl, inl, inr, ⊎_elim, append-nil}
+-- about it, and nothing here is in doubt about that or under refresh.
+use Rattle.std.proofs.Common.{Option, ◌≡◌, ◌≢◌, ◌⊎◌, ◌∙◌, ap, sym, subst, ℕ, Bool, false, List, [], ◌∷◌, ◌++◌, refl, inl, inr, ⊎_elim, append-nil}
 use Rattle.std.specs.Prelude.{Some}
 use Rattle.vp_model.specs.Types.{Change, TxnId, View, Message, Commit, Input, Part, Live, Refreshing, Doubt}
 use Rattle.vp_model.specs.Types.message
 use Rattle.vp_model.specs.Words.{is_empty, same_txn, keys}
-use Rattle.vp_model.specs.Catalogue.{Catalogue, holders, accessible}
+use Rattle.vp_model.specs.Catalogue.{Catalogue, holders}
 use Rattle.vp_model.specs.Durable.{DurableState}
 use Rattle.vp_model.specs.Transactions.{entry_of, last_changes, writes_held}
 use Rattle.vp_model.specs.Site.{SiteState, Stepped}
 use Rattle.vp_model.specs.Step.{durable_of}
 use Rattle.vp_model.proofs.SameTxn.{same_txn-not}
 use Rattle.vp_laws.proofs.Lists.Members.{Has, has_none, has_one_is, has_first, map_has, any_false}
-use Rattle.vp_laws.proofs.Lists.Views.{Precedes}
 use Rattle.vp_laws.proofs.Moves.LocalViews.{letter}
 use Rattle.vp_laws.proofs.Moves.Table.{Comes, Decides}
 use Rattle.vp_laws.proofs.Table.Led.{IsOf}
@@ -21,17 +20,13 @@ use Rattle.vp_laws.proofs.Worlds.Scenes.{Scene, kept_in, kept_at}
 use Rattle.vp_laws.proofs.Invariant.Shares.{InDoubt}
 use Rattle.vp_laws.proofs.Invariant.Entered.{AgreedAs}
 use Rattle.vp_laws.proofs.Invariant.Held.{holds_copy}
-use Rattle.vp_laws.proofs.Keeping.Stopping.{closed_stops}
 use Rattle.vp_laws.proofs.Worlds.Sites.{KeptIs, kept_is}
-use Rattle.vp_model.specs.Refresh.{is_usable_in}
 use Rattle.vp_laws.proofs.Keeping.Does.{Does}
-use Rattle.vp_laws.proofs.Invariant.Refresh.{InvRefresh}
 use Rattle.vp_laws.proofs.Keeping.Guards.{txn_same}
 use Rattle.vp_laws.proofs.Keeping.Listed.{wrote_here, not_below_itself}
 use Rattle.vp_laws.proofs.Keeping.Settled.{doubt_was}
 use Rattle.vp_laws.proofs.Invariant.Known.{Known}
 use Rattle.vp_laws.proofs.Lists.Changes.{some_not_empty}
-use Rattle.vp_laws.proofs.Invariant.Closed.{Open}
 use Rattle.vp_laws.proofs.Journal.ValuesAfter.{Wrote}
 
 module _ (catalogue : Catalogue) (w new : Scene) (s : ℕ) (x : SiteState) (given : Input) (o : Stepped) (k : Known catalogue w) (n : Known catalogue new) (d : Does catalogue w new s x given o) where
@@ -173,7 +168,7 @@ module _ (catalogue : Catalogue) (w new : Scene) (s : ℕ) (x : SiteState) (give
   not_listed e r h listed wrote =
       let f = entering e h in
       let locks = k.guards.site s x d.up in
-      let lock = (locks.own f.was f.live).wrote r.rec (subst (λ (e : Commit). Wrote e r.rec) (sym f.done) wrote) (k.listed.listed s x r d.up listed).0 in
+      let lock = (locks.own f.was f.live).wrote r.rec (subst (λ (e : Commit). Wrote e r.rec) (sym f.done) wrote) (k.listed.listed s x r d.up listed) in
       let low = locks.lower r listed in
       let u = low.3 lock.lock f.was.txn lock.has lock.on lock.by in
       let says = doubt_says e (d.st.enters e h) s u.0 (subst (λ (k : DurableState). Has k.doubts u.0) d.here.kept u.1) (u.2 ∙ f.named) in
@@ -186,29 +181,6 @@ module _ (catalogue : Catalogue) (w new : Scene) (s : ℕ) (x : SiteState) (give
       let q = k.led.entry e h in
       let same : q.0 ≡ v = n.views.unique q.0 v (d.st.moved.agreed q.0 q.1) a.0 (q.2 ∙ sym a.1) in
       (subst (Has w.agreed) same q.1, a.1)
-
-  -- what it wrote is accessible in its view
-  entering_wrote : (refresh : InvRefresh catalogue w) (e : Commit) (f : Entering e) (v : View) (rec : ℕ) → AgreedAs new e.view v → Wrote e rec → accessible catalogue rec v.members ≡ true
-  entering_wrote refresh e f v rec agreed wrote =
-      let there = entering_agreed e f in
-      let same : f.view ≡ v = n.views.unique f.view v (d.st.moved.agreed f.view there.0) agreed.0 (f.is ∙ sym agreed.1) in
-      subst (λ (v : View). accessible catalogue rec v.members ≡ true) same
-      (subst (λ (held : Option View). is_usable_in catalogue held rec ≡ true) f.held ((refresh.live s x f.was d.up f.live).changed rec (subst (λ (e : Commit). Wrote e rec) (sym f.done) wrote)))
-
-  -- and so is what an entry wrote that is there now
-  pub wrote_in_force : (refresh : InvRefresh catalogue w) (e : Commit) (v : View) (rec : ℕ) → Has new.journal e → AgreedAs new e.view v → Wrote e rec → accessible catalogue rec v.members ≡ true
-  wrote_in_force refresh e v rec there agreed wrote = ⊎_elim
-      (λ old. (refresh.entry e v rec old (agreed_was e v old agreed) (inr wrote)).usable)
-      (λ more. entering_wrote refresh e (entering e more) v rec agreed wrote)
-      (d.st.entered e there)
-
-  -- it wrote no record that is open in a higher view
-  pub stops : (refresh : InvRefresh catalogue w) (e : Commit) (u : View) (rec : ℕ) → Has o.effects.commits e → Wrote e rec → Precedes e.view u.id → Open catalogue w rec u → ⊥
-  stops refresh e u rec h wrote below opened =
-      let f = entering e h in
-      let agreed = entering_agreed e f in
-      let now : AgreedAs new e.view f.view = (d.st.moved.agreed f.view agreed.0, agreed.1) in
-      closed_stops catalogue w new s x given o d.up d.here.id d.led k.shares n.shares n.entered d.steps d.shares d.st e f.view u rec h now wrote (entering_wrote refresh e f f.view rec now wrote) below opened
 
   -- what has become of a doubt: it stays, or its outcome came
   pub doubt_stays : (j : ℕ) (u : Doubt) → Has (kept_at w j).doubts u → Has (kept_at new j).doubts u ⊎ ((j ≡ s) × OutcomeComes given u.txn)

@@ -19,7 +19,7 @@ use Rattle.vp_laws.proofs.Table.Leaves.{Uses}
 use Rattle.vp_laws.proofs.Worlds.Scenes.{Scene, plain_at, Acted}
 use Rattle.vp_laws.proofs.Invariant.Shares.{InDoubt, InvShares}
 use Rattle.vp_laws.proofs.Invariant.Entered.{AgreedAs, InvEntered}
-use Rattle.vp_laws.proofs.Invariant.Closed.{ClosedAt, Open}
+use Rattle.vp_laws.proofs.Invariant.Closed.{ClosedAt}
 use Rattle.vp_laws.proofs.Journal.ValuesAfter.{Wrote}
 
 -- two sets of sites in which a record is accessible share a holder
@@ -84,8 +84,3 @@ module _ (catalogue : Catalogue) (w new : Scene) (s : ℕ) (x : SiteState) (give
           let g = (shares.doubts q d.0 d.1).0 in
           let says = shares_now.entry e (st.enters e h) g.0 q d.0.view g.1 g.2 d.0.writes (subst (λ (t : TxnId). Has new.sent (letter g.0 q (message.Prepare t d.0.view g.1 g.2 d.0.writes))) d.2 (st.moved.sent _ g.3)) in
           c.certain d.0 d.1 (subst (λ (ws : List (ℕ × Change)). Has (keys ws) rec) says.1 writes) (subst (λ (j : ViewId). Precedes j i) says.0 below)
-
-  pub closed_stops : (e : Commit) (v u : View) (rec : ℕ) → Has o.effects.commits e → AgreedAs new e.view v → Wrote e rec → accessible catalogue rec v.members ≡ true → Precedes e.view u.id → Open catalogue w rec u → ⊥
-  closed_stops e v u rec h agreed wrote usable below opened =
-      let q = shared_holder catalogue rec v.members u.members usable opened.usable in
-      met_stops e v rec q.0 u.id h agreed wrote q.1 q.2 below (opened.closed q.0 q.1 q.3)

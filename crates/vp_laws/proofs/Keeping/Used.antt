@@ -10,6 +10,8 @@ use Rattle.vp_model.specs.Catalogue.{Catalogue}
 use Rattle.vp_model.specs.Site.{SiteState, Stepped}
 use Rattle.vp_model.specs.Messages.{on_message, on_read_request, on_write_request, on_request, lock_copy, grant}
 use Rattle.vp_model.specs.Step.{on_input, step}
+use Rattle.vp_model.specs.Words.{value_at}
+use Rattle.vp_laws.proofs.Moves.Coordinator.{unbarred}
 use Rattle.vp_laws.proofs.Lists.Members.{Has}
 use Rattle.vp_laws.proofs.Lists.Views.{AtMost, not_both, same_site}
 use Rattle.vp_laws.proofs.Lists.LockTables.{HasLock, lock_taken}
@@ -62,18 +64,24 @@ granted_lock : (catalogue : Catalogue) (x : SiteState) (given : Input) (from : �
 unfolding step on_input on_message on_read_request on_write_request on_request lock_copy grant
 granted_lock catalogue x given from txn number rec exclusive stored g = go exclusive g.comes g.free
   where
+    free_bar : value_at rec x.bars ≡ None
+    free_bar = unbarred x rec g.opened
+
     go : (exclusive : Bool) → Requests given from txn g.view number rec exclusive → conflict rec exclusive txn x.locks ≡ None → HasLock rec exclusive (owner.Txn txn) (step catalogue x given).site.locks
-    go false (Requests.reads e) free = rw (e, g.held, g.going, g.copy, free) (lock_taken rec false (owner.Txn txn) x.locks)
-    go true (Requests.writes e) free = rw (e, g.held, g.going, g.copy, free) (lock_taken rec true (owner.Txn txn) x.locks)
+    go false (Requests.reads e) free = rw (e, g.held, g.going, g.copy, free_bar, free) (lock_taken rec false (owner.Txn txn) x.locks)
+    go true (Requests.writes e) free = rw (e, g.held, g.going, g.copy, free_bar, free) (lock_taken rec true (owner.Txn txn) x.locks)
 
 -- and the views are as before
 granted_views : (catalogue : Catalogue) (x : SiteState) (given : Input) (from : ℕ) (txn : TxnId) (number rec : ℕ) (exclusive : Bool) (stored : Stored) → Granted x given from txn number rec exclusive stored → (step catalogue x given).site.held ≡ x.held
 unfolding step on_input on_message on_read_request on_write_request on_request lock_copy grant
 granted_views catalogue x given from txn number rec exclusive stored g = go exclusive g.comes g.free
   where
+    free_bar : value_at rec x.bars ≡ None
+    free_bar = unbarred x rec g.opened
+
     go : (exclusive : Bool) → Requests given from txn g.view number rec exclusive → conflict rec exclusive txn x.locks ≡ None → (step catalogue x given).site.held ≡ x.held
-    go false (Requests.reads e) free = rw (e, g.held, g.going, g.copy, free) refl
-    go true (Requests.writes e) free = rw (e, g.held, g.going, g.copy, free) refl
+    go false (Requests.reads e) free = rw (e, g.held, g.going, g.copy, free_bar, free) refl
+    go true (Requests.writes e) free = rw (e, g.held, g.going, g.copy, free_bar, free) refl
 
 -- a request of this step
 record NewRead (catalogue : Catalogue) (x : SiteState) (given : Input) (live : List Live) (txn : TxnId) (number rec : ℕ) : Type 0 where

@@ -6,7 +6,8 @@ use Rattle.std.proofs.lemmas.Bool.{eq-eqb, false≢true}
 use Rattle.vp_model.specs.Catalogue.{Catalogue, sites_of}
 use Rattle.vp_catalog.specs.Document.{IsCatalogueSoFar}
 use Rattle.vp_catalog.proofs.Apart.{sites_differ}
-use Rattle.vp_laws.specs.Catalogues.{AreApart}
+use Rattle.vp_laws.specs.Catalogues.{AreApart, IsWhole}
+use Rattle.vp_laws.proofs.Lists.Whole.{catalogue_whole}
 use Rattle.vp_laws.proofs.Lists.Members.{has_of}
 use Rattle.vp_laws.proofs.Lists.Items.{all_at}
 
@@ -17,3 +18,6 @@ distinct_apart (n ∷ ns) h = ((λ again. false≢true (sym (all_at (λ m. nat_e
 
 pub catalogue_apart : (c : Catalogue) → IsCatalogueSoFar c → AreApart (sites_of c)
 catalogue_apart c h = distinct_apart (sites_of c) (sites_differ c h)
+
+pub whole_catalogue : (c : Catalogue) → IsCatalogueSoFar c → IsWhole c
+whole_catalogue c h = record { apart = catalogue_apart c h; opened = λ rec q held. catalogue_whole c h rec q (has_of (holders c rec) q held) }

@@ -1,5 +1,4 @@
 -- What survives the small moves survives them together.
-use Rattle.std.proofs.Common.{◌×◌}
 use Rattle.vp_model.specs.Types.{Input}
 use Rattle.vp_model.specs.Catalogue.{Catalogue}
 use Rattle.vp_model.specs.Site.{SiteState, Stepped}

@@ -27,7 +27,7 @@ use Rattle.vp_laws.proofs.Moves.Frames.{close-commits, close-ends}
 use Rattle.vp_laws.proofs.Lists.Changes.{without_first_has}
 use Rattle.vp_laws.proofs.Moves.LocalViews.{letter}
 use Rattle.vp_laws.specs.Votes.{is_commit}
-use Rattle.vp_laws.proofs.Moves.Table.{Closed, Comes, Handled, IsNext, Reads, Changes, May, Tries, record_of, Counts, remaining, IsLast, Locked, Completes, Decides, Replies, IsCallOf, Names, Says, Closes, is_abort, lent_at, OfCoordinator, SendsBack}
+use Rattle.vp_laws.proofs.Moves.Table.{Closed, Comes, Handled, IsNext, Reads, Changes, May, Tries, record_of, Counts, remaining, IsLast, Locked, Completes, Decides, Replies, Answered, IsCallOf, Names, Says, Closes, is_abort, lent_at, OfCoordinator, SendsBack}
 use Rattle.vp_laws.proofs.Lists.Keeps.{by_option, by_some, by_test}
 use Rattle.vp_model.proofs.SameTxn.{same_txn-is}
 
@@ -64,6 +64,14 @@ nor false b e = e
 pub none_first : {X : Type 0} (a b : Option X) → first_some a b ≡ None → b ≡ None
 none_first (Some y) b e = cc
 none_first None b e = e
+
+-- an open record has no bar
+pub unbarred : (x : SiteState) (rec : ℕ) → is_open x rec ≡ true → value_at rec x.bars ≡ None
+unbarred x rec opened = go (value_at rec x.bars) refl opened
+  where
+    go : (bar : Option (ℕ × ℕ)) → value_at rec x.bars ≡ bar → not (is_some bar) ≡ true → value_at rec x.bars ≡ None
+    go None e o = e
+    go (Some bar) e o = cc
 
 pub open_here : (catalogue : Catalogue) (x : SiteState) (rec : ℕ) (deed : Deed) → short catalogue x.held x.bars rec deed ≡ None → is_open x rec ≡ true
 open_here catalogue x rec deed e = usable (value_at rec x.bars) (short_of_holders catalogue rec (members_in x.held)) (none_first _ (first_some (value_at rec x.bars) (short_of_holders catalogue rec (members_in x.held))) e)
@@ -120,9 +128,9 @@ module _ (catalogue : Catalogue) (x : SiteState) (given : Input) (Q : Lent → T
   on_begin-kept : (port : ℕ) → given ≡ input.Call port call.Begin → Q (on_begin (surroundings x) port (lent_at x))
   unfolding on_begin begin_in
   on_begin-kept port comes = by_option Q _ _ _
-      (λ view e. by_test Q (nat_le 1024 (length x.live)) _ _ (λ many. k.answers _ port (Replies.other refl) (Says.full comes))
-      (λ few. by_test Q (x.seq == 2 ^ 32 - 1) _ _ (λ spent. k.answers _ port (Replies.other refl) (Says.spent comes)) (λ left. k.begin port view e comes left)))
-      (λ none. k.answers _ port (Replies.other refl) (Says.no_view comes))
+      (λ view e. by_test Q (nat_le 1024 (length x.live)) _ _ (λ many. k.answers _ port (Answered.replies (Replies.other refl)) (Says.full comes))
+      (λ few. by_test Q (x.seq == 2 ^ 32 - 1) _ _ (λ spent. k.answers _ port (Answered.replies (Replies.other refl)) (Says.spent comes)) (λ left. k.begin port view e comes left)))
+      (λ none. k.answers _ port (Answered.replies (Replies.other refl)) (Says.no_view comes))
 
   handled_by : (t : Live) (p : Pending) → Has x.live t → Handled x (handling t p)
   handled_by t p e = record { was = t; live = e; same = refl }
@@ -165,11 +173,11 @@ module _ (catalogue : Catalogue) (x : SiteState) (given : Input) (Q : Lent → T
     with_record-kept : (name : List ℕ) (asked : ℕ → Deed) (use_record : ℕ → Lent → Lent) → Names p.call name → ((rec : ℕ) → Tries p.call rec (asked rec)) → ((rec : ℕ) → find_record catalogue name ≡ Some rec → nat_le 64 (length t.answers) ≡ false → May catalogue x t rec (asked rec) → Q (use_record rec (lent_at x))) → Q (with_record catalogue x.held t p name asked use_record (lent_at x))
     unfolding with_record
     with_record-kept name asked use_record m tries used = by_option Q _ _ _
-        (λ rec e. by_test Q (is_bad_table catalogue (asked rec)) _ _ (λ bad. k.answers _ _ (Replies.other refl) (Says.bad_table t p.call p.number next.comes here next.number))
-        (λ table. by_test Q (nat_le 64 (length t.answers) || is_too_large t (asked rec)) _ _ (λ many. k.answers _ _ (Replies.other refl) (Says.many t p.call p.number next.comes here next.number))
-        (λ fits. by_option Q _ (short catalogue x.held x.bars rec (asked rec)) _ (λ weights s. k.answers _ _ (Replies.other refl) (Says.inaccessible t p.call p.number name rec (asked rec) weights next.comes here next.number m e (tries rec) s))
+        (λ rec e. by_test Q (is_bad_table catalogue (asked rec)) _ _ (λ bad. k.answers _ _ (Answered.replies (Replies.other refl)) (Says.bad_table t p.call p.number next.comes here next.number))
+        (λ table. by_test Q (nat_le 64 (length t.answers) || is_too_large t (asked rec)) _ _ (λ many. k.answers _ _ (Answered.replies (Replies.other refl)) (Says.many t p.call p.number next.comes here next.number))
+        (λ fits. by_option Q _ (short catalogue x.held x.bars rec (asked rec)) _ (λ weights s. k.answers _ _ (Answered.unable t p name weights.0 weights.1 here next refl) (Says.inaccessible t p.call p.number name rec (asked rec) weights next.comes here next.number m e (tries rec) s))
         (λ enough. used rec e (neither _ _ fits) (record { table = table; fits = nor (nat_le 64 (length t.answers)) _ fits; enough = enough; usable = open_here catalogue x rec (asked rec) enough })))))
-        (λ none. k.answers _ _ (Replies.other refl) (Says.no_record t p.call p.number next.comes here next.number))
+        (λ none. k.answers _ _ (Answered.replies (Replies.other refl)) (Says.no_record t p.call p.number next.comes here next.number))
 
     new_change-kept : (name : List ℕ) (asked : ℕ → Deed) → Names p.call name → ((rec : ℕ) → Tries p.call rec (asked rec)) → ((rec : ℕ) → find_record catalogue name ≡ Some rec → Changes catalogue p rec (asked rec)) → Q (new_change catalogue x.id x.held t p name asked (lent_at x))
     unfolding new_change
@@ -195,20 +203,20 @@ module _ (catalogue : Catalogue) (x : SiteState) (given : Input) (Q : Lent → T
   live_call-kept : (t : Live) (p : Pending) → given ≡ input.Call p.port p.call → Has x.live t → Q (live_call catalogue x.id x.held t p (lent_at x))
   unfolding live_call
   live_call-kept t p comes here =
-      by_test Q (nat_le p.number (length t.answers)) _ _ (λ old. by_some Q _ (λ answer. lent_reply answer p.port) (lent_at x) (λ answer e. let q = slice_has t.answers (p.number - 1) answer e in k.answers answer p.port (Replies.kept t here q) (Says.again t p.call answer comes here q)) h)
-      (λ fresh. by_test Q (nat_lt (length t.answers + 1) p.number) _ _ (λ skipped. k.answers _ _ (Replies.other refl) (Says.skipped t p.call comes here))
-      (λ fits. by_test Q (is_some t.pending) _ _ (λ busy. k.answers _ _ (Replies.other refl) (Says.busy t p.call p.number comes here (next_number p.number (length t.answers) fresh fits))) (λ idle. new_call-kept t p here (record { comes = comes; idle = idle; number = next_number p.number (length t.answers) fresh fits }) p.call refl)))
+      by_test Q (nat_le p.number (length t.answers)) _ _ (λ old. by_some Q _ (λ answer. lent_reply answer p.port) (lent_at x) (λ answer e. let q = slice_has t.answers (p.number - 1) answer e in k.answers answer p.port (Answered.replies (Replies.kept t here q)) (Says.again t p.call answer comes here q)) h)
+      (λ fresh. by_test Q (nat_lt (length t.answers + 1) p.number) _ _ (λ skipped. k.answers _ _ (Answered.replies (Replies.other refl)) (Says.skipped t p.call comes here))
+      (λ fits. by_test Q (is_some t.pending) _ _ (λ busy. k.answers _ _ (Answered.replies (Replies.other refl)) (Says.busy t p.call p.number comes here (next_number p.number (length t.answers) fresh fits))) (λ idle. new_call-kept t p here (record { comes = comes; idle = idle; number = next_number p.number (length t.answers) fresh fits }) p.call refl)))
 
   finished_call-kept : (port : ℕ) (words : Call) (txn : TxnId) (number : ℕ) (f : Finished) → given ≡ input.Call port words → IsCallOf words txn number → Has x.finished f → Q (finished_call port number f (lent_at x))
   unfolding finished_call
   finished_call-kept port words txn number f comes own here = by_test Q (nat_le number (length f.answers)) _ _
-      (λ old. by_some Q _ (λ answer. lent_reply answer port) (lent_at x) (λ answer e. let q = slice_has f.answers (number - 1) answer e in k.answers answer port (Replies.kept_end f here q) (Says.again_ended f words answer comes here q)) h)
-      (λ more. k.answers _ port (Replies.over f number here refl) (Says.over f words txn number comes own here))
+      (λ old. by_some Q _ (λ answer. lent_reply answer port) (lent_at x) (λ answer e. let q = slice_has f.answers (number - 1) answer e in k.answers answer port (Answered.replies (Replies.kept_end f here q)) (Says.again_ended f words answer comes here q)) h)
+      (λ more. k.answers _ port (Answered.replies (Replies.over f number here refl)) (Says.over f words txn number comes own here))
 
   on_txn_call-kept : (port : ℕ) (txn : TxnId) (number : ℕ) (words : Call) → given ≡ input.Call port words → IsCallOf words txn number → Q (on_txn_call catalogue x.id x.held port txn number words (lent_at x))
   unfolding on_txn_call
   on_txn_call-kept port txn number words comes own =
-      by_option Q _ _ _ (λ t e. live_call-kept t (handled port number words) comes (live_of-has txn x.live t e)) (λ none. by_option Q (λ f. finished_call port number f (lent_at x)) (finished_of txn x.finished) (lent_reply (answer.Unknown txn) port (lent_at x)) (λ f e. finished_call-kept port words txn number f comes own (find_has (λ (t : Finished). same_txn t.txn txn) x.finished f e)) (λ unknown. k.answers (answer.Unknown txn) port (Replies.other refl) (Says.unknown words txn number comes own)))
+      by_option Q _ _ _ (λ t e. live_call-kept t (handled port number words) comes (live_of-has txn x.live t e)) (λ none. by_option Q (λ f. finished_call port number f (lent_at x)) (finished_of txn x.finished) (lent_reply (answer.Unknown txn) port (lent_at x)) (λ f e. finished_call-kept port words txn number f comes own (find_has (λ (t : Finished). same_txn t.txn txn) x.finished f e)) (λ unknown. k.answers (answer.Unknown txn) port (Answered.replies (Replies.other refl)) (Says.unknown words txn number comes own)))
 
   pub own_call-kept : (port : ℕ) (words : Call) → given ≡ input.Call port words → Q (own_call catalogue port words (surroundings x) (lent_at x))
   unfolding own_call

@@ -21,7 +21,7 @@ use Rattle.vp_model.specs.Step.{fix, without_wait, fix_view, ask_again, ask_agai
 use Rattle.vp_laws.proofs.Lists.Members.{Has, has_first, has_more, both_true, map_has}
 use Rattle.vp_laws.proofs.Lists.Views.{is_view_is}
 use Rattle.vp_laws.proofs.Moves.Frames.{close_all-beside, close_all-none}
-use Rattle.vp_laws.proofs.Moves.Table.{Comes, Replies, Says, Left, Joined, Requests, Asks, SendsBack, lent_at, Back, Table, AsksAgain}
+use Rattle.vp_laws.proofs.Moves.Table.{Comes, Replies, Answered, Says, Left, Joined, Requests, Asks, SendsBack, lent_at, Back, Table, AsksAgain}
 use Rattle.vp_laws.proofs.Moves.Coordinator.{abandon-closed, abandon-kept, time_out_calls-kept, own_call-kept, on_answer-kept}
 use Rattle.vp_laws.proofs.Moves.LocalViews.{letter}
 use Rattle.vp_laws.proofs.Lists.Keeps.{by_test}
@@ -150,7 +150,7 @@ module _ (catalogue : Catalogue) (x : SiteState) (given : Input) (P : Stepped �
 
   on_regroup-kept : (port : ℕ) → given ≡ input.Call port call.Regroup → P (on_regroup catalogue port (begin_step x))
   unfolding on_regroup
-  on_regroup-kept port comes = by_test P (is_spent x.views) _ _ (λ e. k.coordinator.answers (answer.Spent (highest x.views)) port (Replies.other refl) (Says.views_spent comes)) (λ e. k.answers_inviting port comes e invite-kept)
+  on_regroup-kept port comes = by_test P (is_spent x.views) _ _ (λ e. k.coordinator.answers (answer.Spent (highest x.views)) port (Answered.replies (Replies.other refl)) (Says.views_spent comes)) (λ e. k.answers_inviting port comes e invite-kept)
 
   on_call-kept : (port : ℕ) (words : Call) → given ≡ input.Call port words → P (on_call catalogue port words (begin_step x))
   unfolding on_call

@@ -168,6 +168,7 @@ is_end (answer.Aborted txn number) = true
 is_end (answer.LockHeld txn number name at owner) = true
 is_end (answer.ViewChanged txn number at held now) = true
 is_end (answer.TimedOut txn number at) = true
+is_end (answer.Inaccessible txn number name inside total) = true
 is_end words = false
 
 -- a reply that changes nothing: no end, an answer that was kept, or the end of a finished transaction
@@ -176,6 +177,11 @@ pub data Replies (x : SiteState) (words : Answer) : Type 0 where
   kept : (t : Live) → Has x.live t → Has t.answers words → Replies x words
   kept_end : (f : Finished) → Has x.finished f → Has f.answers words → Replies x words
   over : (f : Finished) (number : ℕ) → Has x.finished f → answer_of f.txn number f.ending ≡ words → Replies x words
+
+-- or it refuses the next call of a live transaction, as there isn't enough weight
+pub data Answered (x : SiteState) (given : Input) (words : Answer) : Type 0 where
+  replies : Replies x words → Answered x given words
+  unable : (t : Live) (p : Pending) (name : List ℕ) (inside total : ℕ) → Has x.live t → IsNext given t p → answer.Inaccessible t.txn p.number name inside total ≡ words → Answered x given words
 
 -- the call is of this transaction and has this number
 pub data IsCallOf : Call → TxnId → ℕ → Type 0 where
@@ -230,7 +236,7 @@ pub data Closes (x : SiteState) (given : Input) (t : Live) : Ending → Type 0 w
 -- Q speaks of what the coordinator has done so far, in a step from x for the input `given`
 pub record OfCoordinator (catalogue : Catalogue) (x : SiteState) (given : Input) (Q : Lent → Type 0) : Type 0 where
   pub begin : (port : ℕ) (view : View) → x.held ≡ Some view → given ≡ input.Call port call.Begin → (x.seq == 2 ^ 32 - 1) ≡ false → Q (start_txn (next_name x) port view.id (lent_at x))
-  pub answers : (words : Answer) (port : ℕ) → Replies x words → Says catalogue x given port words → Q (lent_reply words port (lent_at x))
+  pub answers : (words : Answer) (port : ℕ) → Answered x given words → Says catalogue x given port words → Q (lent_reply words port (lent_at x))
   pub take_lock : (t : Live) (rec : ℕ) (exclusive : Bool) (stored : Stored) → Has x.live t → is_some t.pending ≡ false → is_open x rec ≡ true → value_at rec x.copies ≡ Some stored → conflict rec exclusive t.txn x.locks ≡ None → Q (take_lock t.txn rec exclusive (lent_at x))
   pub complete : (t : Live) (p : Pending) (deed : Deed) (l : Lent) → Has x.live t → Completes catalogue x given t p deed l → (is_some t.pending ≡ false → nat_le 64 (length t.answers) ≡ false) → l.live ≡ x.live → Q l → Q (complete t p deed l)
   pub read_at : (t : Live) (p : Pending) (rec q : ℕ) → Has x.live t → IsNext given t p → Reads catalogue p rec → is_open x rec ≡ true → value_at rec (last_writes t.ops) ≡ None → value_at rec x.copies ≡ None → Has (other_holders catalogue x rec) q → nat_le 64 (length t.answers) ≡ false → Q (read_at x.id t p rec q (lent_at x))

@@ -1,13 +1,13 @@
 -- Two live transactions of one view do not use a record that one of them has written: they would have conflicting locks at a site.
-use Rattle.std.proofs.Common.{◌≡◌, ◌≢◌, ◌∙◌, sym, subst, ℕ, Bool, true, false, List, refl, ⊎_elim}
+use Rattle.std.proofs.Common.{◌≡◌, ◌≢◌, ◌∙◌, sym, subst, ℕ, Bool, true, false, List, refl, inr, ⊎_elim}
 use Rattle.std.specs.Prelude.{Option, Some, None}
 use Rattle.vp_laws.proofs.Journal.Changed.{operation_changed, HasChanged}
 use Rattle.vp_model.specs.Types.{View, Op, Stored, Live}
 use Rattle.vp_model.specs.Types.op
 use Rattle.vp_model.specs.Types.owner
 use Rattle.vp_model.specs.Words.{value_at}
-use Rattle.vp_model.specs.Catalogue.{Catalogue, holders, accessible}
-use Rattle.vp_model.specs.Refresh.{is_usable_in, other_holders_in}
+use Rattle.vp_model.specs.Catalogue.{Catalogue, holders}
+use Rattle.vp_model.specs.Refresh.{other_holders_in}
 use Rattle.vp_model.specs.Site.{SiteState}
 use Rattle.vp_laws.specs.Entries.{record_in}
 use Rattle.vp_laws.proofs.Lists.Members.{Has}
@@ -25,7 +25,7 @@ use Rattle.vp_laws.proofs.Invariant.Entered.{AgreedAs}
 use Rattle.vp_laws.proofs.Invariant.HasLeft.{HasLeft}
 use Rattle.vp_laws.proofs.Invariant.Used.{HasAnswered, LockedAt}
 use Rattle.vp_laws.proofs.Invariant.Held.{holds_copy, copy_held}
-use Rattle.vp_laws.proofs.Keeping.Stopping.{in_force_holder}
+use Rattle.vp_laws.proofs.Copies.Weights.{force_holder}
 use Rattle.vp_laws.proofs.Invariant.Reading.{InvReading}
 use Rattle.vp_laws.proofs.Copies.OwnUse.{view_is}
 use Rattle.vp_laws.proofs.Invariant.Copies.{InvCopies}
@@ -73,7 +73,7 @@ module _ (catalogue : Catalogue) (w : Scene) (k : Known catalogue w) (copies : I
     id = (k.views.site j y up).id
 
     held : y.held ≡ Some v
-    held = view_is catalogue w k copies j y t up live v agreed
+    held = view_is catalogue w k j y t up live v agreed
 
     -- what it wrote it has used at each holder in the view
     pub written_at : (rec q : ℕ) → HasChanged t rec → Has (holders catalogue rec) q → Has v.members q → UsedAt w q t rec true
@@ -82,33 +82,25 @@ module _ (catalogue : Catalogue) (w : Scene) (k : Known catalogue w) (copies : I
         (λ (other : q ≢ j). UsedAt.answered (HasAnswered.wrote ((k.answers.live j y t up live).wrote rec wrote q (subst (λ (held : Option View). Has (other_holders_in catalogue y.id held rec) q) (sym held) (other_holder catalogue y.id rec q v holder member (λ z. other (z ∙ id)))))))
         (same_site q j)
 
-    usable : (rec : ℕ) → HasUsed t.ops rec → accessible catalogue rec v.members ≡ true
-    usable rec h = subst (λ (held : Option View). is_usable_in catalogue held rec ≡ true) held ((refresh.live j y t up live).usable rec h)
-
-    usable_changed : (rec : ℕ) → HasChanged t rec → accessible catalogue rec v.members ≡ true
-    usable_changed rec h = subst (λ (held : Option View). is_usable_in catalogue held rec ≡ true) held ((refresh.live j y t up live).changed rec h)
-
     wrote_some : (rec : ℕ) → HasChanged t rec → UsedSome catalogue w t v rec
     wrote_some rec wrote =
-        let a = usable_changed rec wrote in
-        let q = in_force_holder catalogue rec v.members a in
+        let q = force_holder catalogue w k refresh rec v (refresh.uses j y t rec v up live (inr wrote) agreed).usable in
         record { site = q.0; holder = q.1; member = q.2; exclusive = true; used = written_at rec q.0 wrote q.1 q.2 }
 
     -- a site that has answered a read is a holder in the view
-    pub read_from : (rec q : ℕ) → HasRead w q t.txn rec → (accessible catalogue rec v.members ≡ true) × Has (holders catalogue rec) q × Has v.members q
+    pub read_from : (rec q : ℕ) → HasRead w q t.txn rec → Has (holders catalogue rec) q × Has v.members q
     read_from rec q r =
         let request : HasRequest w r.0 q t.txn r.2 r.1 rec false = HasRequest.to_read r.5 in
         let b = k.led.asked _ r.5 in
         let viewed : t.view ≡ r.2 = (k.shares.says _ r.5).live y t (rw (((k.led.site j y up).names t live).0 ∙ id) up) live refl in
         let same : b.0 ≡ v = k.views.unique b.0 v b.1 agreed.0 (b.2 ∙ sym viewed ∙ sym agreed.1) in
-        let a = refresh.asked r.0 q r.1 rec t.txn r.2 false v request (agreed.0, agreed.1 ∙ viewed) in
-        (a.0, a.1, subst (λ (v : View). Has v.members q) same b.3)
+        (refresh.asked r.0 q r.1 rec t.txn r.2 false request, subst (λ (v : View). Has v.members q) same b.3)
 
     read_some : (rec : ℕ) (value : Option (List ℕ)) → Has t.ops (op.Read rec value) → UsedSome catalogue w t v rec
     read_some rec value h = go (value_at rec y.copies) refl
       where
         elsewhere : (q : ℕ) → HasRead w q t.txn rec → UsedSome catalogue w t v rec
-        elsewhere q r = let a = read_from rec q r in record { site = q; holder = a.1; member = a.2; exclusive = false; used = UsedAt.answered (HasAnswered.read r) }
+        elsewhere q r = let a = read_from rec q r in record { site = q; holder = a.0; member = a.1; exclusive = false; used = UsedAt.answered (HasAnswered.read r) }
 
         go : (c : Option Stored) → value_at rec y.copies ≡ c → UsedSome catalogue w t v rec
         go (Some stored) e =

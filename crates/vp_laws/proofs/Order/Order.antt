@@ -1,10 +1,10 @@
 -- The entries by view stay a serial run, after which what the live transactions have done can be played.
-use Rattle.std.proofs.Common.{inl, ◌≡◌, ◌≢◌, ◌∙◌, ap, sym, subst, ℕ, true, false, List, [], ◌∷◌, ◌++◌, ⊎_elim}
+use Rattle.std.proofs.Common.{inl, ◌≡◌, ◌≢◌, ◌∙◌, ap, sym, subst, ℕ, false, List, [], ◌∷◌, ◌++◌, ⊎_elim}
 use Rattle.std.specs.Prelude.{option_map, Option, Some}
 use Rattle.vp_laws.proofs.Journal.Changed.{HasChanged}
 use Rattle.vp_model.specs.Types.{ViewId, TxnId, View, Commit, Input, Op, Live}
 use Rattle.vp_model.specs.Types.message
-use Rattle.vp_model.specs.Catalogue.{Catalogue, holders, accessible, start_values}
+use Rattle.vp_model.specs.Catalogue.{Catalogue, holders, start_values}
 use Rattle.vp_model.specs.OneCopy.{Values, play, serial, order, content}
 use Rattle.vp_model.specs.Site.{SiteState, Stepped}
 use Rattle.vp_laws.specs.Entries.{record_in}
@@ -23,8 +23,8 @@ use Rattle.vp_laws.proofs.Invariant.Reading.{InvReading}
 use Rattle.vp_laws.proofs.Journal.ValuesAfter.{read_after, Content, Wrote, value_after}
 use Rattle.vp_laws.proofs.Journal.ValuesGrow.{after_more}
 use Rattle.vp_laws.proofs.Journal.Playing.{WritesNone, plays_behind, entry_plays, content_own, content_below}
-use Rattle.vp_laws.proofs.Keeping.NewEntries.{JournalNow, journal_now, Entering, entering, stops}
-use Rattle.vp_laws.proofs.Copies.OwnUse.{used_closed}
+use Rattle.vp_laws.proofs.Keeping.NewEntries.{JournalNow, journal_now, Entering, entering}
+use Rattle.vp_laws.proofs.Copies.Opening.{stops}
 use Rattle.vp_laws.proofs.Order.Conflicts.{UsedAt, apart_used, written_at, read_from, no_conflict}
 use Rattle.vp_laws.proofs.Journal.Contents.{plays_above}
 use Rattle.vp_laws.proofs.Order.Steps.{plays_then, answered_now}
@@ -73,7 +73,7 @@ module _ (catalogue : Catalogue) (w new : Scene) (s : ℕ) (x : SiteState) (give
       higher_none : Precedes e.view t.view → WritesNone e t.ops
       higher_none below operation did wrote =
           stops catalogue w new s x given o k n d refresh e of.0 (record_in operation) h wrote (subst (Precedes e.view) (sym of.2) below)
-          (used_closed catalogue w k copies j y t up live refresh of.0 agreed (λ rec value there none. reading.done j y t rec value up live there none) (record_in operation) (op_used t.ops operation did))
+          (refresh.uses j y t (record_in operation) of.0 up live (inl (op_used t.ops operation did)) agreed)
 
       plays_grow : Plays (content first (w.journal ++ e ∷ []) t.view) t.ops
       plays_grow = go (inv.live j y t up live)
@@ -100,14 +100,14 @@ module _ (catalogue : Catalogue) (w new : Scene) (s : ℕ) (x : SiteState) (give
       value_grow : (q rec : ℕ) (value : Option (List ℕ)) → HasRead w q t.txn rec → read_after catalogue w.journal t.view rec ≡ Some value → read_after catalogue (w.journal ++ e ∷ []) t.view rec ≡ Some value
       value_grow q rec value r is = ap (option_map (λ (c : Content). c.value)) (after_more catalogue w.journal e t.view rec none) ∙ is
         where
-          a : (accessible catalogue rec of.0.members ≡ true) × Has (holders catalogue rec) q × Has of.0.members q
+          a : Has (holders catalogue rec) q × Has of.0.members q
           a = read_from catalogue w k copies refresh reading j y t up live of.0 agreed rec q r
 
           equal : Wrote e rec → e.view ≡ t.view → ⊥
           equal wrote same =
               let one : f.view ≡ of.0 = k.views.unique f.view of.0 its_view.0 agreed.0 (f.is ∙ same ∙ sym of.2) in
               other (sym (apart_used catalogue w k copies refresh reading s j x y f.was t d.up f.live up live (f.viewed ∙ same) q rec false
-              (written_at catalogue w k copies refresh reading s x f.was d.up f.live f.view its_view rec q (has_written rec wrote) a.1 (subst (λ (v : View). Has v.members q) (sym one) a.2))
+              (written_at catalogue w k copies refresh reading s x f.was d.up f.live f.view its_view rec q (has_written rec wrote) a.0 (subst (λ (v : View). Has v.members q) (sym one) a.1))
               (UsedAt.answered (HasAnswered.read r))) ∙ f.named)
 
           none : Wrote e rec → AtMost e.view t.view → ⊥

@@ -1,6 +1,6 @@
 -- What a live transaction has done, the operation of the step included, can be played after the entries before it; and an answer
 -- that is given has the value after them.
-use Rattle.std.proofs.Common.{◌≡◌, ◌≢◌, ◌∙◌, ap, sym, subst, ℕ, Bool, true, false, List, [], ◌∷◌, ◌++◌, refl, ⊎_elim, length}
+use Rattle.std.proofs.Common.{◌≡◌, ◌≢◌, ◌∙◌, ap, sym, subst, ℕ, Bool, true, false, List, [], ◌∷◌, ◌++◌, refl, inr}
 use Rattle.std.specs.Prelude.{option_map, Option, Some, None, is_some, option_and_then, slice_get, slice_set, ◌||◌}
 use Rattle.vp_model.specs.Types.{ViewId, TxnId, View, Sent, Commit, Input, Op, Stored, Pending, Live, Doubt}
 use Rattle.vp_model.specs.Types.message
@@ -10,7 +10,7 @@ use Rattle.vp_model.specs.Words.{keys, value_at}
 use Rattle.vp_model.specs.Catalogue.{Catalogue, holders, start_values}
 use Rattle.vp_model.specs.Durable.{DurableState}
 use Rattle.vp_model.specs.Transactions.{with_operation, Deed, last_writes}
-use Rattle.vp_model.specs.Refresh.{is_open, is_usable_in}
+use Rattle.vp_model.specs.Refresh.{is_open}
 use Rattle.vp_model.specs.OneCopy.{Values, play, content}
 use Rattle.vp_model.specs.Site.{SiteState, Stepped, Lent}
 use Rattle.vp_model.proofs.PlayedInParts.{play-append}
@@ -20,25 +20,25 @@ use Rattle.vp_laws.proofs.Lists.Changes.{mapped_has}
 use Rattle.vp_laws.proofs.Lists.Views.{AtMost, AtMost-along}
 use Rattle.vp_laws.proofs.Lists.LockTables.{IsFree, free_from_none}
 use Rattle.vp_laws.proofs.Moves.LocalViews.{letter}
-use Rattle.vp_laws.proofs.Moves.Table.{Requests, Reads, Completes}
+use Rattle.vp_laws.proofs.Moves.Table.{Requests, Completes}
 use Rattle.vp_laws.proofs.Table.Led.{IsOf}
 use Rattle.vp_laws.proofs.Table.Steps.{LiveNow}
 use Rattle.vp_laws.proofs.Table.Shares.{is_reply, ReplyTo, Granted}
 use Rattle.vp_laws.proofs.Table.Copies.{value_pair}
 use Rattle.vp_laws.proofs.Worlds.Scenes.{Scene, plain_at, kept_at}
-use Rattle.vp_laws.proofs.Invariant.Shares.{HasRequest}
 use Rattle.vp_laws.proofs.Invariant.Held.{copy_held}
 use Rattle.vp_laws.proofs.Invariant.Reading.{InvReading}
-use Rattle.vp_laws.proofs.Keeping.Stopping.{in_force_holder}
+use Rattle.vp_laws.proofs.Copies.Weights.{force_holder}
+use Rattle.vp_laws.proofs.Journal.Changed.{written_changed}
 use Rattle.vp_laws.proofs.Journal.ValuesAfter.{Content, read_after, content_of, value_after}
 use Rattle.vp_laws.proofs.Journal.ValuesGrow.{after_some}
 use Rattle.vp_laws.proofs.Journal.Playing.{content_value}
 use Rattle.vp_laws.proofs.Copies.Refreshes.{unlisted_none}
-use Rattle.vp_laws.proofs.Copies.RefreshKept.{free_unlisted}
+use Rattle.vp_laws.proofs.Copies.RefreshKept.{free_unlisted, read_request}
 use Rattle.vp_laws.proofs.Keeping.NewEntries.{journal_same}
 use Rattle.vp_laws.proofs.Copies.Usable.{usable_value}
 use Rattle.vp_laws.proofs.Journal.Contents.{content_there}
-use Rattle.vp_laws.proofs.Moves.Calls.{read_not_write_asked, reads_same}
+use Rattle.vp_laws.proofs.Moves.Calls.{read_not_write_asked}
 use Rattle.vp_laws.proofs.Keeping.Does.{Does}
 use Rattle.vp_laws.proofs.Invariant.Copies.{InvCopies}
 use Rattle.vp_laws.proofs.Invariant.Order.{Plays, InvOrder}
@@ -46,7 +46,6 @@ use Rattle.vp_laws.proofs.Invariant.Refresh.{InvRefresh}
 use Rattle.vp_laws.proofs.Keeping.Guards.{txn_same}
 use Rattle.vp_laws.proofs.Keeping.Settled.{holding}
 use Rattle.vp_laws.proofs.Invariant.Known.{Known}
-use Rattle.vp_laws.proofs.Lists.Numbers.{one_above}
 
 -- the value of a record after operations: the last one that they wrote, or the one before
 
@@ -62,7 +61,7 @@ plays_with start ops operation p q = (p.0, q.0, p.2, play-append p.0 ops (operat
 
 module _ (catalogue : Catalogue) (w new : Scene) (s : ℕ) (x : SiteState) (given : Input) (o : Stepped) (k : Known catalogue w) (n : Known catalogue new) (d : Does catalogue w new s x given o) (copies : InvCopies catalogue w) (refresh : InvRefresh catalogue w) (reading : InvReading catalogue w) (inv : InvOrder catalogue w) where
   -- a copy here on which no other transaction has a lock has the value after the entries of views up to the held one
-  free_value : (rec : ℕ) (exclusive : Bool) (txn : TxnId) (v : View) (stored : Stored) → x.held ≡ Some v → is_open catalogue x rec ≡ true → value_at rec x.copies ≡ Some stored → IsFree rec exclusive (owner.Txn txn) x.locks → ((e : Commit) → Has w.journal e → e.txn ≢ txn) → value_after catalogue w.journal v.id rec ≡ Some (content_of stored)
+  free_value : (rec : ℕ) (exclusive : Bool) (txn : TxnId) (v : View) (stored : Stored) → x.held ≡ Some v → is_open x rec ≡ true → value_at rec x.copies ≡ Some stored → IsFree rec exclusive (owner.Txn txn) x.locks → ((e : Commit) → Has w.journal e → e.txn ≢ txn) → value_after catalogue w.journal v.id rec ≡ Some (content_of stored)
   free_value rec exclusive txn v stored held usable copy free no_entry =
       usable_value catalogue w k.shares copies s rec x v stored d.up d.here.kept held usable
       (unlisted_none rec x.refresh (free_unlisted catalogue w new s x given o k n d copies refresh rec exclusive txn free))
@@ -91,11 +90,10 @@ module _ (catalogue : Catalogue) (w new : Scene) (s : ℕ) (x : SiteState) (give
   live_no_entry : (t : Live) → Has x.live t → (e : Commit) → Has w.journal e → e.txn ≢ t.txn
   live_no_entry t h e entry named = k.ends.entry e entry x (rw (ap (λ (t : TxnId). t.site) named ∙ (d.led.names t h).0 ∙ d.here.id) d.up) t h (sym named)
 
-  -- a record that may be used has a value
-  value_there : (rec : ℕ) (before : Values) (view : ViewId) → is_open catalogue x rec ≡ true → content (start_values catalogue) w.journal view ≡ Some before → is_some (slice_get before rec) ≡ true
-  value_there rec before view usable h =
-      let q = in_force_holder catalogue rec _ usable in
-      let v = after_some catalogue w.journal view rec q.0 q.1 in
+  -- a record that a site holds has a value
+  value_there : (rec q : ℕ) (before : Values) (view : ViewId) → Has (holders catalogue rec) q → content (start_values catalogue) w.journal view ≡ Some before → is_some (slice_get before rec) ≡ true
+  value_there rec q before view holder h =
+      let v = after_some catalogue w.journal view rec q holder in
       rw (content_value catalogue w.journal view before rec h ∙ ap (option_map (λ (c : Content). c.value)) v.1) refl
 
   -- the read that a step does has the value that the record has then
@@ -104,7 +102,10 @@ module _ (catalogue : Catalogue) (w new : Scene) (s : ℕ) (x : SiteState) (give
       let z = sym e ∙ is in
       let same : r ≡ rec = cc in
       let valued : v ≡ value = cc in
-      written_then before after u.ops rec value plays (rw (← same, ← valued) wrote) (value_there rec before u.view (subst (λ (n : ℕ). is_open catalogue x n ≡ true) same usable) start)
+      let of : IsOf x u = d.led.live u h in
+      let opened = refresh.uses s x u r of.0 d.up h (inr (written_changed u r v wrote)) (d.here.held of.0 of.1, of.2) in
+      let q = force_holder catalogue w k refresh r of.0 opened.usable in
+      written_then before after u.ops rec value plays (rw (← same, ← valued) wrote) (value_there rec q.0 before u.view (subst (λ (n : ℕ). Has (holders catalogue n) q.0) same q.1) start)
   read_value u a deed l h (Completes.own_copy r stored next reads usable none copy free e g) rec value is before after start plays =
       let z = sym e ∙ is in
       let same : r ≡ rec = cc in
@@ -126,19 +127,10 @@ module _ (catalogue : Catalogue) (w new : Scene) (s : ℕ) (x : SiteState) (give
       sent : Has w.sent (letter from s (message.ReadAnswer u.txn a.number v))
       sent = d.came from (message.ReadAnswer u.txn a.number v) c
 
-      request : (view : ViewId) × (other : ℕ) × Has w.sent (letter s from (message.ReadRequest u.txn view a.number other))
-      request = k.shares.says _ sent
-
-      other_is : request.1 ≡ r
-      other_is = ⊎_elim
-          (λ low. absurd (one_above a.number (length u.answers) low ((k.ops.live s x u d.up h).next a last.pending)))
-          (λ (q : (b : Pending) × (u.pending ≡ Some b) × (b.number ≡ a.number) × Reads catalogue b request.1).
-          let one : q.0 ≡ a = (let y = q.1 in let z = last.pending in cc) in
-          reads_same catalogue a request.1 r (subst (λ (p : Pending). Reads catalogue p request.1) one q.3) reads)
-          (k.answers.asks (letter s from (message.ReadRequest u.txn request.0 a.number request.1)) request.2 x u (rw ((d.led.names u h).0 ∙ d.here.id) d.up) h refl)
-
       answer_value : read_after catalogue w.journal u.view r ≡ Some v
-      answer_value = subst (λ (n : ℕ). read_after catalogue w.journal u.view n ≡ Some v) other_is (inv.answered s from s a.number request.1 request.0 v x u d.up h sent request.2)
+      answer_value =
+          let request = read_request catalogue w new s x given o k n d copies refresh from u a r v h last.pending reads c in
+          inv.answered s from s a.number r request.0 v x u d.up h sent request.1
 
   -- the operation of a step goes through
   operation_plays : (u : Live) (a : Pending) (deed : Deed) (l : Lent) → Has x.live u → Completes catalogue x given u a deed l → Plays (content (start_values catalogue) w.journal u.view) (with_operation deed u.ops)
@@ -200,9 +192,8 @@ module _ (catalogue : Catalogue) (w new : Scene) (s : ℕ) (x : SiteState) (give
       let request = request_came to number r.rec u.txn g.view g.comes in
       let at : plain_at w u.txn.site ≡ Some y = rw (((k.led.site j y up).names u h).0 ∙ (k.views.site j y up).id) up in
       let viewed : u.view ≡ g.view = (k.shares.says _ request).live y u at h refl in
-      let usable = (refresh.asked to s number r.rec u.txn g.view false v.0 (HasRequest.to_read request) (d.here.held v.0 v.1, v.2)).0 in
       let no_entry : (e : Commit) → Has w.journal e → e.txn ≢ u.txn = (λ e entry named. k.ends.entry e entry y (rw (ap (λ (t : TxnId). t.site) named) at) u h (sym named)) in
-      let now = free_value r.rec false u.txn v.0 r.stored v.1 (subst (λ (held : Option View). is_usable_in catalogue held r.rec ≡ true) (sym v.1) usable) g.copy (free_from_none r.rec false u.txn x.locks g.free) no_entry in
+      let now = free_value r.rec false u.txn v.0 r.stored v.1 g.opened g.copy (free_from_none r.rec false u.txn x.locks g.free) no_entry in
       subst (λ (i : ViewId). read_after catalogue w.journal i r.rec ≡ Some value) (v.2 ∙ sym viewed) (ap (option_map (λ (c : Content). c.value)) now ∙ ap (λ (v : Option (List ℕ)). Some v) r.valued)
 
   read_quiet : (to : ℕ) (txn : TxnId) (view : ViewId) (number rec : ℕ) → Requests given to txn view number rec false → new.journal ≡ w.journal

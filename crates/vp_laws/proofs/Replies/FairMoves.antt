@@ -1,9 +1,11 @@
 -- After one step what is refused is still justified, and so are the step's own answers.
 use Rattle.std.proofs.Common.{◌≡◌, ◌≢◌, ◌∙◌, ◌⊎◌, inl, inr, append-nil, ap, sym, subst, ℕ, zero, suc, ◌+◌, ◌-◌, ◌≤◌, ◌*◌, Bool, true, false, cond, List, [], ◌∷◌, ◌++◌, map, refl, arith, ⊎_elim, length}
-use Rattle.std.specs.Prelude.{slice_get, Option, Some, None, is_some, option_map, option_to_list, nat_le, nat_lt, ◌&&◌, ◌||◌}
+use Rattle.std.specs.Prelude.{slice_get, Option, Some, None, is_some, filter, option_map, option_to_list, nat_le, nat_lt, ◌&&◌, ◌||◌}
 use Rattle.std.proofs.lemmas.Bool.Decides.{nat_tests}
 use Rattle.std.proofs.Math.ListN.{length-append}
-use Rattle.vp_model.specs.Calls.{short_by, short_here, short, change_asked}
+use Rattle.std.specs.List.{list_any}
+use Rattle.std.proofs.lemmas.List.Elements.{filter-append}
+use Rattle.vp_model.specs.Calls.{short_by, short_of_holders, short, change_asked}
 use Rattle.vp_model.specs.Types.op
 use Rattle.vp_model.specs.Types.{TxnId, ViewId, View, Owner, Obstacle, Answer, Event, Reply, Message, Input, Pending, Live, Ending, Finished}
 use Rattle.vp_base.specs.declared.site.Ending.TheVariants.{Committed, Aborted, LockHeld, ViewChanged, TimedOut, Inaccessible}
@@ -11,20 +13,21 @@ use Rattle.vp_model.specs.Types.answer
 use Rattle.vp_model.specs.Types.input
 use Rattle.vp_model.specs.Types.message
 use Rattle.vp_model.specs.Types.obstacle
-use Rattle.vp_model.specs.Words.{is_view, same_txn, first_some}
-use Rattle.vp_model.specs.Catalogue.{Catalogue, Table as Weights, find_record, weights_of, weight_inside, weight_total, accessible_by}
+use Rattle.vp_model.specs.Words.{is_view, same_txn, first_some, has, value_at}
+use Rattle.vp_model.specs.Catalogue.{Catalogue, Table as Weights, find_record, holders, total, weight_inside, weight_total, accessible_by}
 use Rattle.vp_model.specs.Site.{SiteState, Stepped}
 use Rattle.vp_model.specs.Answers.{is_live}
 use Rattle.vp_model.specs.Messages.{held_id}
 use Rattle.vp_model.specs.Locks.{conflict}
 use Rattle.vp_model.specs.Transactions.{Deed, answer_of, answers_after}
-use Rattle.vp_model.specs.Refresh.{members_in, is_usable_in}
+use Rattle.vp_model.specs.Refresh.{members, members_in}
 use Rattle.vp_model.specs.Step.{step}
 use Rattle.vp_model.specs.Told.{answers_in}
 use Rattle.vp_model.specs.World.{WorldState, Moment}
-use Rattle.vp_model.specs.Justified.{justified, was_blocked, held_other, is_held_by, is_other_view, left_then, closed_then, takes_refusal, is_step_of, tested_before, answers_call, keeps_end, tells_end, Request, handles, is_named, is_begun, table_in, sums_are, weighs, refused_number, refused_in}
-use Rattle.vp_laws.proofs.Replies.RefusedCalls.{refused_last, none_refused, first_told, refused_of}
-use Rattle.vp_laws.proofs.Lists.Members.{Has, has_none, has_one, has_left, has_right, has_cases, has_one_is, map_has, any_true, any_of}
+use Rattle.vp_model.specs.Justified.{justified, was_blocked, held_other, is_held_by, is_other_view, left_then, closed_then, takes_refusal, is_step_of, tested_before, answers_call, keeps_end, tells_end, Request, handles, is_named, is_begun, table_in, tables_below, sums_are, weighs, bars, held_by_none, was_barred, is_barred_by, is_delivery, site_named, refused_number, refused_in, barred_number, barred_in}
+use Rattle.vp_laws.proofs.Keeping.Settled.{holding}
+use Rattle.vp_laws.proofs.Replies.RefusedCalls.{first_in, first_last, none_first, first_told, refused_of, barred_of}
+use Rattle.vp_laws.proofs.Lists.Members.{Has, filter_has, has_none, has_one, has_left, has_right, has_cases, has_one_is, map_has, any_true, any_of}
 use Rattle.vp_laws.proofs.Moves.Table.{record_of, Comes, Handled, Reads, Changes, Tries, Requests, Asks}
 use Rattle.vp_laws.proofs.Moves.LocalViews.{letter}
 use Rattle.vp_laws.proofs.Worlds.Scenes.{Scene, scene_of, plain_at, acted}
@@ -34,14 +37,14 @@ use Rattle.vp_laws.proofs.Invariant.Answers.{Current}
 use Rattle.vp_laws.proofs.Table.Led.{Led}
 use Rattle.vp_model.proofs.SameTxn.{same_txn-self, same_txn-is}
 use Rattle.vp_laws.proofs.Lists.Names.{apart_unique}
-use Rattle.vp_laws.proofs.Replies.EndsTrue.{EndedAt, ended_step, ended_quiet, said_refused}
+use Rattle.vp_laws.proofs.Replies.EndsTrue.{EndedAt, ended_step, ended_quiet, said_refused, said_barred}
 use Rattle.vp_laws.proofs.Worlds.Sites.{NowIs, now_is, Quiet, quiet_is, live_still, finished_still}
 use Rattle.vp_laws.proofs.Moves.Reasons.{IsCallOf, Operates, Takes, Awaits, Why, told_to}
 use Rattle.vp_laws.proofs.Table.Refusals.{Refused, RefuseSays, refusals-step}
 use Rattle.vp_laws.proofs.Table.Fair.{is_free, finished_as, LiveFrom, FinishedFrom, ReplyFrom, Causes, causes-step}
-use Rattle.vp_laws.proofs.Replies.Fair.{WasBegun, Once, ByLock, OtherView, Fair, Untold, TellsEnd, closes, begun_more, fair_more, fair_justified}
-use Rattle.vp_laws.proofs.Replies.FairStep.{IsStep, table_called, step_here, handles_now, operation_asks, named_here, tested_x, replied, blocked_here, blocked_there, other_there, left_now, closed_now, called_now, called_first, pending_now, took_refusal, same_now, same_view-self}
-use Rattle.vp_laws.proofs.Replies.FairAt.{IsAsked, RefuseFair, RefuseOk, FairEnd, FairAt, refuse_on, end_more, free_justified, report_fair}
+use Rattle.vp_laws.proofs.Replies.Fair.{is_site, WasBegun, Once, ByLock, OtherView, Fair, Untold, TellsEnd, closes, begun_more, fair_more, fair_justified}
+use Rattle.vp_laws.proofs.Replies.FairStep.{IsStep, named_site, delivers, delivered_uncalled, barred_there, table_called, step_here, handles_now, operation_asks, named_here, tested_x, replied, blocked_here, blocked_there, other_there, left_now, closed_now, called_now, called_first, pending_now, took_refusal, same_now, same_view-self}
+use Rattle.vp_laws.proofs.Replies.FairAt.{named_number, IsAsked, RefuseFair, RefuseOk, FairEnd, FairAt, refuse_on, end_more, free_justified, report_fair}
 use Rattle.vp_laws.proofs.Table.Kept.{is_report, kept_has}
 use Rattle.vp_laws.proofs.Moves.Coordinator.{slice_has}
 use Rattle.vp_model.specs.Calls.{handling, kept_answer}
@@ -53,7 +56,7 @@ use Rattle.vp_laws.proofs.Lists.Numbers.{one_above, eq_self}
 use Rattle.vp_laws.proofs.Keeping.Does.{Does, does}
 use Rattle.vp_laws.proofs.Invariant.Known.{Known}
 use Rattle.vp_laws.proofs.Invariant.Invariant.{Invariant}
-use Rattle.vp_laws.proofs.Order.Invariant.{invariant_last}
+use Rattle.vp_laws.proofs.Order.Invariant.{invariant_acts}
 
 at_most_of : (a b c : ℕ) → a ≡ b + 1 → b + 1 ≤ c → a ≤ c
 at_most_of a b c e h = omega arith
@@ -71,6 +74,28 @@ report_unrefused : (txn : TxnId) (a : Answer) (n : ℕ) → is_report a ≡ true
 report_unrefused txn (answer.LockHeld t number name at holder) n e f = cc
 report_unrefused txn (answer.ViewChanged t number at held now) n e f = cc
 report_unrefused txn _ n e f = cc
+
+free_unbarred : (txn : TxnId) (a : Answer) (n : ℕ) → is_free a ≡ true → barred_number txn a ≡ Some n → ⊥
+free_unbarred txn (answer.Inaccessible t number name inside total) n e f = cc
+free_unbarred txn _ n e f = cc
+
+report_unnamed : (txn : TxnId) (a : Answer) (n : ℕ) → is_report a ≡ true → named_number txn a ≡ Some n → ⊥
+report_unnamed txn (answer.LockHeld t number name at holder) n e f = cc
+report_unnamed txn (answer.ViewChanged t number at held now) n e f = cc
+report_unnamed txn (answer.Inaccessible t number name inside total) n e f = cc
+report_unnamed txn _ n e f = cc
+
+-- an end has the number that it names
+named_of : (txn : TxnId) (number : ℕ) (why : Ending) (n : ℕ) → named_number txn (answer_of txn number why) ≡ Some n → number ≡ n
+named_of txn number Committed n e = cc
+named_of txn number Aborted n e = cc
+named_of txn number (LockHeld name at holder) n e = (refused_of txn txn number (LockHeld name at holder) n e).1
+named_of txn number (ViewChanged at held now) n e = (refused_of txn txn number (ViewChanged at held now) n e).1
+named_of txn number (TimedOut at) n e = cc
+named_of txn number (Inaccessible name inside total) n e = (barred_of txn txn number (Inaccessible name inside total) n e).1
+
+own_barred : (txn : TxnId) (number : ℕ) (name : List ℕ) (inside total : ℕ) → barred_number txn (answer.Inaccessible txn number name inside total) ≡ Some number
+own_barred txn number name inside total = rw (same_txn-self txn) refl
 
 own_held : (txn : TxnId) (number : ℕ) (name : List ℕ) (at : ℕ) (holder : Owner) → refused_number txn (answer.LockHeld txn number name at holder) ≡ Some number
 own_held txn number name at holder = rw (same_txn-self txn) refl
@@ -99,6 +124,7 @@ place_number (suc i) n e = inl (omega (arith, e))
 report_tells : (m : Moment) (a : Answer) → is_report a ≡ true → TellsEnd m a
 report_tells m (answer.LockHeld txn number name at holder) e = cc
 report_tells m (answer.ViewChanged txn number at held now) e = cc
+report_tells m (answer.Inaccessible txn number name inside total) e = cc
 report_tells m _ e = tt
 
 module _ (catalogue : Catalogue) (world : WorldState) (past : List Moment) (m0 : Moment) (s : ℕ) (x : SiteState) (given : Input) (up : plain_at (scene_of world) s ≡ Some x) (arrives : Arrives (scene_of world) s given) (is : IsStep m0 world s x given (step catalogue x given)) (fair : FairAt catalogue (scene_of world) past) where
@@ -118,7 +144,7 @@ module _ (catalogue : Catalogue) (world : WorldState) (past : List Moment) (m0 :
   known = fair.inv.known
 
   inv_now : Invariant catalogue (acted w s x o)
-  inv_now = (invariant_last catalogue).acts w s x given up arrives fair.inv
+  inv_now = invariant_acts catalogue w s x given up arrives fair.inv
 
   d : Does catalogue w (acted w s x o) s x given o
   d = does catalogue w s x given up arrives known
@@ -138,12 +164,13 @@ module _ (catalogue : Catalogue) (world : WorldState) (past : List Moment) (m0 :
   number_of t why p (Why.held_here was q name rec exclusive holder at e op f n) g = let z = ap (λ (t : Live). t.pending) e in let same : q ≡ p = cc in rw (← same, e) at.next.number
   number_of t why p (Why.held_there q from name exclusive holder a n op) g = next_number t p a.live g
   number_of t why p (Why.other_view q from held_now a n) g = next_number t p a.live g
+  number_of t why p (Why.barred_there q from name exclusive inside total a n op) g = next_number t p a.live g
   number_of t why p (Why.left h gone) g = next_number t p h g
   number_of t why p (Why.timed_out missing h) g = next_number t p h g
 
   -- a transaction that was live as the step began was told of no refusal before
   never_told : (txn : TxnId) (u : Live) → Has x.live u → u.txn ≡ txn → refused_in past txn ≡ None
-  never_told txn u h same = none_refused txn past (λ m k a q n e.
+  never_told txn u h same = none_first (refused_number txn) past (λ m k a q n e.
       let ended = fair.told m k a q txn n e in
       ended.over x (rw (← same, own_site u h) up) u h same)
 
@@ -153,6 +180,13 @@ module _ (catalogue : Catalogue) (world : WorldState) (past : List Moment) (m0 :
       let own : f.txn ≡ t.txn = (refused_of f.txn t.txn number f.ending n e).0 in
       (known.ends.settled s x up).finished f at.was h at.live (ap (λ (t : Live). t.txn) (sym at.same) ∙ sym own)
 
+  -- the pending call of one of that name has its next number
+  next_of : (t : Live) → Handled x t → (u : Live) (why : Ending) (p : Pending) → Handled x u → Why catalogue x given o.site u why → u.pending ≡ Some p → u.txn ≡ t.txn → p.number ≡ length t.answers + 1
+  next_of t at u why p also w q named =
+      let one : also.was ≡ at.was = apart_unique x.live (known.votes.site s x up) also.was at.was also.live at.live (ap (λ (t : Live). t.txn) (sym also.same) ∙ named ∙ ap (λ (t : Live). t.txn) at.same) in
+      let same : u.answers ≡ t.answers = ap (λ (t : Live). t.answers) also.same ∙ ap (λ (t : Live). t.answers) one ∙ ap (λ (t : Live). t.answers) (sym at.same) in
+      number_of u why p w q ∙ ap (λ (answers : List Answer). length answers + 1) same
+
   number_told : (t : Live) → Handled x t → (a : Answer) → ReplyFrom catalogue x given o.site a → (n : ℕ) → refused_number t.txn a ≡ Some n → n ≡ length t.answers + 1
   number_told t at a (ReplyFrom.free b f) n e = absurd (free_unrefused t.txn b n f e)
   number_told t at a (ReplyFrom.inaccessible u p name rec exclusive deed weights takes op found tries f) n e = cc
@@ -161,11 +195,7 @@ module _ (catalogue : Catalogue) (world : WorldState) (past : List Moment) (m0 :
       (λ (r : (number : ℕ) × (b ≡ answer_of f.txn number f.ending)). absurd (finished_other t f r.0 n at k (ap (refused_number t.txn) (sym r.1) ∙ e)))
       ((known.repeated.site s x up).finished f k b (kept_has place f.answers b q))
   number_told t at a (ReplyFrom.ended f number k l c) n e = absurd (finished_other t f number n at k e)
-  number_told t at a (ReplyFrom.closed u why p also w q) n e =
-      let own = refused_of u.txn t.txn p.number why n e in
-      let one : also.was ≡ at.was = apart_unique x.live (known.votes.site s x up) also.was at.was also.live at.live (ap (λ (t : Live). t.txn) (sym also.same) ∙ own.0 ∙ ap (λ (t : Live). t.txn) at.same) in
-      let same : u.answers ≡ t.answers = ap (λ (t : Live). t.answers) also.same ∙ ap (λ (t : Live). t.answers) one ∙ ap (λ (t : Live). t.answers) (sym at.same) in
-      sym own.1 ∙ number_of u why p w q ∙ ap (λ (answers : List Answer). length answers + 1) same
+  number_told t at a (ReplyFrom.closed u why p also w q) n e = let own = refused_of u.txn t.txn p.number why n e in sym own.1 ∙ next_of t at u why p also w q own.0
 
   number_in : (t : Live) → Handled x t → (a : Answer) → Has (answers_in m0.line) a → (n : ℕ) → refused_number t.txn a ≡ Some n → n ≡ length t.answers + 1
   number_in t at a h =
@@ -174,14 +204,46 @@ module _ (catalogue : Catalogue) (world : WorldState) (past : List Moment) (m0 :
 
   refused_first : (t : Live) (p : Pending) (a : Answer) → Handled x t → p.number ≡ length t.answers + 1 → refused_number t.txn a ≡ Some p.number → Has (answers_in m0.line) a → refused_in now t.txn ≡ Some p.number
   refused_first t p a at number own h =
-      refused_last t.txn past m0 (never_told t.txn at.was at.live (ap (λ (t : Live). t.txn) (sym at.same)))
-      ∙ first_told t.txn (answers_in m0.line) p.number (λ b q n e. number_in t at b q n e ∙ sym number) a h own
+      first_last (refused_number t.txn) past m0 (never_told t.txn at.was at.live (ap (λ (t : Live). t.txn) (sym at.same)))
+      ∙ first_told (refused_number t.txn) (answers_in m0.line) p.number (λ b q n e. number_in t at b q n e ∙ sym number) a h own
 
   -- a transaction that the step says was refused is over
   ended_told : (a : Answer) → Has (answers_in m0.line) a → (txn : TxnId) (n : ℕ) → refused_number txn a ≡ Some n → EndedAt (acted w s x o) txn
   ended_told a h txn n e =
       let r = map_has (λ (r : Reply). r.answer) o.effects.replies a (rw is.shown at h) in
       said_refused catalogue w (acted w s x o) s x given o known inv_now.known d fair.inv.own_ends r.0.answer txn n (d.replying.said r.0 r.1) (ap (refused_number txn) r.2 ∙ e)
+
+  -- the same of a transaction that a message ended by `inaccessible`
+  never_barred : (txn : TxnId) (u : Live) → Has x.live u → u.txn ≡ txn → barred_in past txn ≡ None
+  never_barred txn u h same = none_first (barred_number txn) (filter (λ (m : Moment). is_delivery m.line.event) past) (λ m k a q n e.
+      let f = filter_has (λ (m : Moment). is_delivery m.line.event) past m k in
+      let ended = fair.barred m f.0 f.1 a q txn n e in
+      ended.over x (rw (← same, own_site u h) up) u h same)
+
+  barred_told : (t : Live) → Handled x t → is_delivery m0.line.event ≡ true → (a : Answer) → ReplyFrom catalogue x given o.site a → (n : ℕ) → barred_number t.txn a ≡ Some n → n ≡ length t.answers + 1
+  barred_told t at delivery a (ReplyFrom.free b f) n e = absurd (free_unbarred t.txn b n f e)
+  barred_told t at delivery a (ReplyFrom.inaccessible u p name rec exclusive deed weights takes op found tries f) n e = absurd (delivered_uncalled catalogue m0 world s x given o is delivery p.port p.call takes.called.comes)
+  barred_told t at delivery a (ReplyFrom.repeated f place b k q c) n e = absurd (delivered_uncalled catalogue m0 world s x given o is delivery c.port c.words c.comes)
+  barred_told t at delivery a (ReplyFrom.ended f number k l c) n e = absurd (delivered_uncalled catalogue m0 world s x given o is delivery c.port c.words c.comes)
+  barred_told t at delivery a (ReplyFrom.closed u why p also w q) n e = let own = barred_of u.txn t.txn p.number why n e in sym own.1 ∙ next_of t at u why p also w q own.0
+
+  barred_first : (t : Live) (p : Pending) (a : Answer) → Handled x t → is_delivery m0.line.event ≡ true → p.number ≡ length t.answers + 1 → barred_number t.txn a ≡ Some p.number → Has (answers_in m0.line) a → barred_in now t.txn ≡ Some p.number
+  barred_first t p a at delivery number own h =
+      let last : filter (λ (m : Moment). is_delivery m.line.event) (m0 ∷ []) ≡ m0 ∷ [] = rw delivery refl in
+      ap (first_in (barred_number t.txn)) (filter-append (λ (m : Moment). is_delivery m.line.event) past (m0 ∷ []) ∙ ap (λ (ms : List Moment). filter (λ (m : Moment). is_delivery m.line.event) past ++ ms) last)
+      ∙ first_last (barred_number t.txn) (filter (λ (m : Moment). is_delivery m.line.event) past) m0 (never_barred t.txn at.was at.live (ap (λ (t : Live). t.txn) (sym at.same)))
+      ∙ first_told (barred_number t.txn) (answers_in m0.line) p.number (λ b q n e. barred_here t at delivery b q n e ∙ sym number) a h own
+    where
+      barred_here : (t : Live) → Handled x t → is_delivery m0.line.event ≡ true → (a : Answer) → Has (answers_in m0.line) a → (n : ℕ) → barred_number t.txn a ≡ Some n → n ≡ length t.answers + 1
+      barred_here t at delivery a h n e =
+          let r = map_has (λ (r : Reply). r.answer) o.effects.replies a (rw is.shown at h) in
+          barred_told t at delivery a (subst (ReplyFrom catalogue x given o.site) r.2 (c.says r.0 r.1)) n e
+
+  barred_ended : is_delivery m0.line.event ≡ true → (a : Answer) → Has (answers_in m0.line) a → (txn : TxnId) (n : ℕ) → barred_number txn a ≡ Some n → EndedAt (acted w s x o) txn
+  barred_ended delivery a h txn n e =
+      let r = map_has (λ (r : Reply). r.answer) o.effects.replies a (rw is.shown at h) in
+      said_barred catalogue w (acted w s x o) s x given o known inv_now.known d fair.inv.own_ends r.0.answer txn n (d.replying.said r.0 r.1)
+      (λ t p next. delivered_uncalled catalogue m0 world s x given o is delivery p.port p.call next.comes) (ap (barred_number txn) r.2 ∙ e)
 
   was_live : (t : Live) → Has x.live t → is_live t.txn x.live ≡ true
   was_live t h = any_of (λ (u : Live). same_txn u.txn t.txn) x.live t h (same_txn-self t.txn)
@@ -196,13 +258,17 @@ module _ (catalogue : Catalogue) (world : WorldState) (past : List Moment) (m0 :
   handled_site : (t : Live) → Handled x t → t.txn.site ≡ s
   handled_site t at = ap (λ (t : Live). t.txn.site) at.same ∙ own_site at.was at.live
 
-  -- the step closes a live transaction whose refusal it reports
-  closed_here : (t : Live) (a : Answer) (n : ℕ) → Handled x t → Has (answers_in m0.line) a → refused_number t.txn a ≡ Some n → closed_then t.txn m0 ≡ true
-  closed_here t a n at h e =
+  -- the step closes a live transaction that is over then
+  closed_over : (t : Live) → Handled x t → EndedAt (acted w s x o) t.txn → closed_then t.txn m0 ≡ true
+  closed_over t at ended =
       let was : at.was.txn ≡ t.txn = ap (λ (t : Live). t.txn) (sym at.same) in
       let site : t.txn.site ≡ s = handled_site t at in
       let live : is_live t.txn x.live ≡ true = subst (λ (txn : TxnId). is_live txn x.live ≡ true) was (was_live at.was at.live) in
-      closed_now catalogue m0 world s x given o is t.txn site live (over_now t.txn site (ended_told a h t.txn n e))
+      closed_now catalogue m0 world s x given o is t.txn site live (over_now t.txn site ended)
+
+  -- as one whose refusal it reports
+  closed_here : (t : Live) (a : Answer) (n : ℕ) → Handled x t → Has (answers_in m0.line) a → refused_number t.txn a ≡ Some n → closed_then t.txn m0 ≡ true
+  closed_here t a n at h e = closed_over t at (ended_told a h t.txn n e)
 
   -- the request that was refused is of the pending call, and of another site
   current : (t : Live) (p : Pending) (Asked : Pending → Type 0) → Has x.live t → t.pending ≡ Some p → Current Asked p.number t → Asked p
@@ -262,6 +328,23 @@ module _ (catalogue : Catalogue) (world : WorldState) (past : List Moment) (m0 :
         first = first;
         up_to = up_to;
         closed = ByLock.there n.1 (closes now t.txn (takes_refusal t.txn p.number from (is_held_by holder)) m0 here closed took) (record { moment = m; has = has_left past (m0 ∷ []) m h; passes = f name n.0 n.1 });
+      }
+
+  -- a bar that another site named
+  bar_fair : (t : Live) (p : Pending) (from : ℕ) (name : List ℕ) (exclusive : Bool) (i n k : ℕ) → Awaits x t p → Operates p.call name exclusive → Comes given from (message.Refuse t.txn p.number (obstacle.Barred i n)) → closed_then t.txn m0 ≡ true → barred_in now t.txn ≡ Some p.number → p.number ≤ k → RefuseFair catalogue w past from t.txn p.number (obstacle.Barred i n) → Fair catalogue now (answer.Inaccessible t.txn k name i n)
+  bar_fair t p from name exclusive i n k a op came closed first up_to (RefuseFair.barred view rec flag inside total q asked m h f) =
+      let named = named_there t p from q view rec flag exclusive name a asked op in
+      let self : is_barred_by i n (obstacle.Barred i n) ≡ true = rw (eq_self i) (eq_self n) in
+      let took : takes_refusal t.txn p.number from (is_barred_by i n) m0 ≡ true = took_refusal catalogue m0 world s x given o is from t.txn p.number (obstacle.Barred i n) (is_barred_by i n) came self in
+      record {
+        refused = p.number;
+        first = first;
+        up_to = up_to;
+        closed = record {
+          at = from;
+          closes = closes now t.txn (takes_refusal t.txn p.number from (is_barred_by i n)) m0 here closed took;
+          barred = record { moment = m; has = has_left past (m0 ∷ []) m h; passes = f name named.0 };
+        };
       }
 
   -- another view that another site named
@@ -327,47 +410,78 @@ module _ (catalogue : Catalogue) (world : WorldState) (past : List Moment) (m0 :
       let next = next_number t p a.live a.pending in
       let first : refused_in now t.txn ≡ Some p.number = refused_first t p _ handled next (own_view t.txn p.number from t.view held_now) (told p a.pending) in
       view_fair t p from held_now k a n (closed_here t _ p.number handled (told p a.pending) (own_view t.txn p.number from t.view held_now)) first (at_most_of p.number (length t.answers) k next (up_to p a.pending)) (fair.sent _ (d.came from _ n))
+  why_fair t why k handled (Why.barred_there p from name exclusive i n a came op) told up_to =
+      let next = next_number t p a.live a.pending in
+      let delivery = delivers catalogue m0 world s x given o is from _ came in
+      let own = own_barred t.txn p.number name i n in
+      bar_fair t p from name exclusive i n k a op came (closed_over t handled (barred_ended delivery _ (told p a.pending) t.txn p.number own)) (barred_first t p _ handled delivery next own (told p a.pending)) (at_most_of p.number (length t.answers) k next (up_to p a.pending)) (fair.sent _ (d.came from _ came))
   why_fair t why k handled (Why.left h gone) told up_to = left_fair t k h gone
   why_fair t why k handled (Why.timed_out missing h) told up_to = tt
 
   told_of : (t : Live) (why : Ending) → ((p : Pending) → t.pending ≡ Some p → Has o.effects.replies (told_to p.port (answer_of t.txn p.number why))) → (p : Pending) → t.pending ≡ Some p → Has (answers_in m0.line) (answer_of t.txn p.number why)
   told_of t why told p e = replied catalogue m0 world s x given o is p.port (answer_of t.txn p.number why) (told p e)
 
-  -- the weights that an answer names: by the call's own table, or by the catalogue's
-  weighs_when : (words : Event) (name : List ℕ) (rec : ℕ) (v : View) (i n : ℕ) → x.held ≡ Some v → nat_lt n (2 * i) ≡ false → find_record catalogue name ≡ Some rec → (option_map_or (λ table. sums_are table i n x) (table_in words) false || sums_are (weights_of catalogue rec) i n x) ≡ true → weighs catalogue words name i n x ≡ true
-  weighs_when words name rec v i n held short found sums =
-      let up_to : nat_le (2 * i) n ≡ true = grind (arith, nat_tests, short) in
-      let some : is_some x.held ≡ true = rw held refl in
-      rw (some, up_to, found) sums
+  -- the weights that an answer names: by the call's own table, by a bar, or none since no member holds the record
+  weighs_when : (name : List ℕ) (rec : ℕ) (v : View) (i n : ℕ) → x.held ≡ Some v → nat_le (2 * i) n ≡ true → find_record catalogue name ≡ Some rec → (option_map_or (sums_are i n (members x)) (table_in m0.line.event) false || bars catalogue m0.before.journal rec i n x || held_by_none catalogue rec i n x) ≡ true → weighs catalogue m0 name i n x ≡ true
+  weighs_when name rec v i n held up_to found sums = let some : is_some x.held ≡ true = rw held refl in rw (some, found) (all_of_two (nat_le (2 * i) n) _ up_to sums)
 
-  sums_self : (table : Weights) → sums_are table (weight_inside (members_in x.held) table) (weight_total table) x ≡ true
-  sums_self table = rw (eq_self (weight_inside (members_in x.held) table), eq_self (weight_total table)) refl
+  one_of_three : (a b c : Bool) → ((a ≡ true) ⊎ ((b ≡ true) ⊎ (c ≡ true))) → (a || b || c) ≡ true
+  one_of_three true b c h = refl
+  one_of_three false true c h = refl
+  one_of_three false false true h = refl
+  one_of_three false false false h = ⊎_elim (λ a. let z = a in cc) (λ q. ⊎_elim (λ b. let z = b in cc) (λ c. let z = c in cc) q) h
 
-  weighs_x : (t : Live) (p : Pending) (name : List ℕ) (rec : ℕ) (deed : Deed) (weights : ℕ × ℕ) → Takes x given t p → find_record catalogue name ≡ Some rec → Tries p.call rec deed → short catalogue x.held rec deed ≡ Some weights → weighs catalogue m0.line.event name weights.0 weights.1 x ≡ true
+  none_half : (n : ℕ) → nat_le (2 * 0) n ≡ true
+  none_half n = grind (arith, nat_tests)
+
+  half : (i n : ℕ) → nat_lt n (2 * i) ≡ false → nat_le (2 * i) n ≡ true
+  half i n short = grind (arith, nat_tests, short)
+
+  sums_self : (table : Weights) (sites : List ℕ) → sums_are (weight_inside sites table) (weight_total table) sites table ≡ true
+  sums_self table sites = rw (eq_self (weight_inside sites table)) (eq_self (weight_total table))
+
+  bar_holds : (rec : ℕ) (v : View) (bar : ℕ × ℕ) → x.held ≡ Some v → value_at rec x.bars ≡ Some bar → (bars catalogue w.journal rec bar.0 bar.1 x ≡ true) × (nat_le (2 * bar.0) bar.1 ≡ true)
+  bar_holds rec v bar held e =
+      let b = fair.inv.bars.site s rec x v bar up held e in
+      let up_to : nat_le (2 * bar.0) bar.1 ≡ true = subst (λ (q : ℕ × ℕ). nat_le (2 * q.0) q.1 ≡ true) (sym b.sums) (half (weight_inside v.members b.table) (weight_total b.table) b.short) in
+      let sums : sums_are bar.0 bar.1 v.members b.table ≡ true = subst (λ (q : ℕ × ℕ). sums_are q.0 q.1 v.members b.table ≡ true) (sym b.sums) (sums_self b.table v.members) in
+      let any : list_any (sums_are bar.0 bar.1 v.members) (tables_below catalogue w.journal rec v.id) ≡ true = any_of (sums_are bar.0 bar.1 v.members) (tables_below catalogue w.journal rec v.id) b.table b.given sums in
+      (rw (held, e, eq_self bar.0, eq_self bar.1, up_to) any, up_to)
+
+  weighs_x : (t : Live) (p : Pending) (name : List ℕ) (rec : ℕ) (deed : Deed) (weights : ℕ × ℕ) → Takes x given t p → find_record catalogue name ≡ Some rec → Tries p.call rec deed → short catalogue x.held x.bars rec deed ≡ Some weights → weighs catalogue m0 name weights.0 weights.1 x ≡ true
   weighs_x t p name rec deed weights at found tries e = go deed tries (short_by deed (members_in x.held)) refl e
     where
       v : (v : View) × (x.held ≡ Some v)
       v = let q = d.led.live t at.live in (q.0, q.1)
 
-      of_table : (table : Weights) (b : Bool) → accessible_by table (members_in x.held) ≡ b → (weights : ℕ × ℕ) → cond b None (Some (weight_inside (members_in x.held) table, weight_total table)) ≡ Some weights → (table_in m0.line.event ≡ Some table) ⊎ (weights_of catalogue rec ≡ table) → weighs catalogue m0.line.event name weights.0 weights.1 x ≡ true
-      of_table table true f weights e own = cc
-      of_table table false f weights e own =
+      of_table : (table : Weights) (b : Bool) → accessible_by table (members_in x.held) ≡ b → cond b None (Some (weight_inside (members_in x.held) table, weight_total table)) ≡ Some weights → table_in m0.line.event ≡ Some table → weighs catalogue m0 name weights.0 weights.1 x ≡ true
+      of_table table true f e own = cc
+      of_table table false f e own =
           let is : (weight_inside (members_in x.held) table, weight_total table) ≡ weights = cc in
-          subst (λ (q : ℕ × ℕ). weighs catalogue m0.line.event name q.0 q.1 x ≡ true) is
-          (weighs_when m0.line.event name rec v.0 (weight_inside (members_in x.held) table) (weight_total table) v.1 f found (⊎_elim
-          (λ called. or_left (option_map_or (λ t. sums_are t (weight_inside (members_in x.held) table) (weight_total table) x) (table_in m0.line.event) false) _ (rw called (sums_self table)))
-          (λ same. or_right (option_map_or (λ t. sums_are t (weight_inside (members_in x.held) table) (weight_total table) x) (table_in m0.line.event) false) _ (rw same (sums_self table)))
-          own))
+          let sums : option_map_or (sums_are (weight_inside (members_in x.held) table) (weight_total table) (members x)) (table_in m0.line.event) false ≡ true = rw own (sums_self table (members_in x.held)) in
+          subst (λ (q : ℕ × ℕ). weighs catalogue m0 name q.0 q.1 x ≡ true) is
+          (weighs_when name rec v.0 (weight_inside (members_in x.held) table) (weight_total table) v.1 (half (weight_inside (members_in x.held) table) (weight_total table) f) found (one_of_three _ _ _ (inl sums)))
 
-      by_catalogue : (weights : ℕ × ℕ) → short_here catalogue x.held rec ≡ Some weights → weighs catalogue m0.line.event name weights.0 weights.1 x ≡ true
-      by_catalogue weights e = of_table (weights_of catalogue rec) (is_usable_in catalogue x.held rec) refl weights e (inr refl)
+      by_none : (b : Bool) → list_any (has (members_in x.held)) (holders catalogue rec) ≡ b → cond b None (Some (0, total catalogue rec)) ≡ Some weights → weighs catalogue m0 name weights.0 weights.1 x ≡ true
+      by_none true f e = cc
+      by_none false f e =
+          let is : (0, total catalogue rec) ≡ weights = cc in
+          let none : held_by_none catalogue rec 0 (total catalogue rec) x ≡ true = rw (f, eq_self (total catalogue rec)) refl in
+          subst (λ (q : ℕ × ℕ). weighs catalogue m0 name q.0 q.1 x ≡ true) is
+          (weighs_when name rec v.0 0 (total catalogue rec) v.1 (none_half (total catalogue rec)) found (one_of_three _ _ _ (inr (inr none))))
 
-      go : (a : Deed) → Tries p.call rec a → (o : Option (ℕ × ℕ)) → short_by a (members_in x.held) ≡ o → first_some o (short_here catalogue x.held rec) ≡ Some weights → weighs catalogue m0.line.event name weights.0 weights.1 x ≡ true
-      go a from None q e = by_catalogue weights e
+      by_bar : (bar : Option (ℕ × ℕ)) → value_at rec x.bars ≡ bar → first_some bar (short_of_holders catalogue rec (members_in x.held)) ≡ Some weights → weighs catalogue m0 name weights.0 weights.1 x ≡ true
+      by_bar None f e = by_none (list_any (has (members_in x.held)) (holders catalogue rec)) refl e
+      by_bar (Some bar) f e =
+          let same : bar ≡ weights = cc in
+          let b = bar_holds rec v.0 bar v.1 f in
+          let barred : bars catalogue m0.before.journal rec bar.0 bar.1 x ≡ true = subst (λ (v : WorldState). bars catalogue v.journal rec bar.0 bar.1 x ≡ true) (sym is.before) b.0 in
+          subst (λ (q : ℕ × ℕ). weighs catalogue m0 name q.0 q.1 x ≡ true) same (weighs_when name rec v.0 bar.0 bar.1 v.1 b.1 found (one_of_three _ _ _ (inr (inl barred))))
+
+      go : (a : Deed) → Tries p.call rec a → (o : Option (ℕ × ℕ)) → short_by a (members_in x.held) ≡ o → first_some o (first_some (value_at rec x.bars) (short_of_holders catalogue rec (members_in x.held))) ≡ Some weights → weighs catalogue m0 name weights.0 weights.1 x ≡ true
+      go a from None q e = by_bar (value_at rec x.bars) refl e
       go _ (Tries.weighs txn number called table words) (Some own) q e =
-          let same : own ≡ weights = cc in
-          subst (λ (k : ℕ × ℕ). weighs catalogue m0.line.event name k.0 k.1 x ≡ true) same
-          (of_table table (accessible_by table (members_in x.held)) refl own q (inl (table_called m0.line.event world s given is.gives p.port txn number called table (at.called.comes ∙ ap (input.Call p.port) words))))
+          of_table table (accessible_by table (members_in x.held)) refl (q ∙ e) (table_called m0.line.event world s given is.gives p.port txn number called table (at.called.comes ∙ ap (input.Call p.port) words))
       go _ (Tries.reads txn number called words) (Some own) q e = cc
       go _ (Tries.writes txn number called value words) (Some own) q e = cc
       go _ (Tries.deletes txn number called words) (Some own) q e = cc
@@ -387,16 +501,16 @@ module _ (catalogue : Catalogue) (world : WorldState) (past : List Moment) (m0 :
       tells_here f.txn n (((known.ends.settled s x up).names f h).0 ∙ d.here.id)
       (or_right (closed_then f.txn m0) _ (tested_x catalogue m0 world s x given o is (keeps_end f.txn) kept)) calls
 
-  kept_tells : (f : Finished) → Has x.finished f → (n : ℕ) (why : Ending) → (refused_number f.txn (answer_of f.txn n why) ≡ Some n → answers_call f.txn n m0 ≡ true) → TellsEnd m0 (answer_of f.txn n why)
+  kept_tells : (f : Finished) → Has x.finished f → (n : ℕ) (why : Ending) → (named_number f.txn (answer_of f.txn n why) ≡ Some n → answers_call f.txn n m0 ≡ true) → TellsEnd m0 (answer_of f.txn n why)
   kept_tells f h n Committed calls = tt
   kept_tells f h n Aborted calls = tt
   kept_tells f h n (LockHeld name at holder) calls = keeps_tells f n h (calls (own_held f.txn n name at holder))
   kept_tells f h n (ViewChanged at held held_now) calls = keeps_tells f n h (calls (own_view f.txn n at held held_now))
   kept_tells f h n (TimedOut at) calls = tt
-  kept_tells f h n (Inaccessible name inside total) calls = tt
+  kept_tells f h n (Inaccessible name inside total) calls = keeps_tells f n h (calls (own_barred f.txn n name inside total))
 
   -- a kept refusal is repeated to the call that has its number, or to one under number 0
-  place_called : (f : Finished) (place : ℕ) (a : Answer) (n : ℕ) → Has x.finished f → kept_answer place f.answers ≡ Some a → IsCallOf given f.txn place → refused_number f.txn a ≡ Some n → answers_call f.txn n m0 ≡ true
+  place_called : (f : Finished) (place : ℕ) (a : Answer) (n : ℕ) → Has x.finished f → kept_answer place f.answers ≡ Some a → IsCallOf given f.txn place → named_number f.txn a ≡ Some n → answers_call f.txn n m0 ≡ true
   place_called f place a n h kept calls e = ⊎_elim
       (λ (same : n ≡ place). rw same (called_now catalogue m0 world s x given o is f.txn place calls))
       (λ (zeroth : (place ≡ 0) × (n ≡ 1)). rw zeroth.1 (called_first catalogue m0 world s x given o is f.txn (subst (IsCallOf given f.txn) zeroth.0 calls)))
@@ -414,8 +528,19 @@ module _ (catalogue : Catalogue) (world : WorldState) (past : List Moment) (m0 :
   closed_called t why p (Why.held_here was q name rec exclusive holder at e op f n) g = handled_called was q p t at e g
   closed_called t why p (Why.held_there q from name exclusive holder a n op) g = pending_now catalogue m0 world s x given o is t p a.live g (own_site t a.live)
   closed_called t why p (Why.other_view q from held_now a n) g = pending_now catalogue m0 world s x given o is t p a.live g (own_site t a.live)
+  closed_called t why p (Why.barred_there q from name exclusive inside total a n op) g = pending_now catalogue m0 world s x given o is t p a.live g (own_site t a.live)
   closed_called t why p (Why.left h gone) g = pending_now catalogue m0 world s x given o is t p h g (own_site t h)
   closed_called t why p (Why.timed_out missing h) g = pending_now catalogue m0 world s x given o is t p h g (own_site t h)
+
+  -- a bar ends a transaction by a message
+  barred_came : (t : Live) (why : Ending) (name : List ℕ) (inside total : ℕ) → why ≡ Inaccessible name inside total → Why catalogue x given o.site t why → is_delivery m0.line.event ≡ true
+  barred_came t why name inside total e (Why.aborted was q at g) = cc
+  barred_came t why name inside total e (Why.held_here was q n rec exclusive holder at g op f k) = cc
+  barred_came t why name inside total e (Why.held_there q from n exclusive holder a k op) = cc
+  barred_came t why name inside total e (Why.other_view q from held_now a k) = cc
+  barred_came t why name inside total e (Why.barred_there q from n exclusive i k a came op) = delivers catalogue m0 world s x given o is from _ came
+  barred_came t why name inside total e (Why.left h gone) = cc
+  barred_came t why name inside total e (Why.timed_out missing h) = cc
 
   why_tells : (t : Live) (why : Ending) (p : Pending) → Handled x t → Why catalogue x given o.site t why → t.pending ≡ Some p → Has (answers_in m0.line) (answer_of t.txn p.number why) → TellsEnd m0 (answer_of t.txn p.number why)
   why_tells t Committed p at y e h = tt
@@ -423,7 +548,7 @@ module _ (catalogue : Catalogue) (world : WorldState) (past : List Moment) (m0 :
   why_tells t (LockHeld name from holder) p at y e h = closes_tells t p.number (handled_site t at) (closed_here t _ p.number at h (own_held t.txn p.number name from holder)) (closed_called t _ p y e)
   why_tells t (ViewChanged from held held_now) p at y e h = closes_tells t p.number (handled_site t at) (closed_here t _ p.number at h (own_view t.txn p.number from held held_now)) (closed_called t _ p y e)
   why_tells t (TimedOut from) p at y e h = tt
-  why_tells t (Inaccessible name inside total) p at y e h = tt
+  why_tells t (Inaccessible name inside total) p at y e h = closes_tells t p.number (handled_site t at) (closed_over t at (barred_ended (barred_came t _ name inside total refl y) _ h t.txn p.number (own_barred t.txn p.number name inside total))) (closed_called t _ p y e)
 
   end_justified : (a : Answer) → Fair catalogue now a → Untold (lines_in now) a → TellsEnd m0 a → justified catalogue now m0 a ≡ true
   end_justified a f untold ends = fair_justified catalogue now m0 a f untold ends
@@ -435,12 +560,12 @@ module _ (catalogue : Catalogue) (world : WorldState) (past : List Moment) (m0 :
       let n = weights.1 in
       let r : Request = record { txn = t.txn; number = p.number; lock = Some (rec, exclusive); view = None } in
       let asked : handles catalogue s t.txn p.number (λ request. option_map_or (λ lock. is_named catalogue name lock.0) request.lock false) m0 ≡ true = handles_now catalogue m0 world s x given o is r (λ request. option_map_or (λ lock. is_named catalogue name lock.0) request.lock false) (operation_asks catalogue m0 world s x given o is t p name rec exclusive at.called op found) (named_here catalogue m0 world s x given o is name rec found) in
-      let weighed : tested_before s (λ site. is_live t.txn site.live && weighs catalogue m0.line.event name i n site) m0 ≡ true = tested_x catalogue m0 world s x given o is (λ site. is_live t.txn site.live && weighs catalogue m0.line.event name i n site) (all_of_two (is_live t.txn x.live) (weighs catalogue m0.line.event name i n x) (was_live t at.live) (weighs_x t p name rec deed weights at found tries e)) in
-      subst (λ (k : ℕ). (handles catalogue k t.txn p.number (λ request. option_map_or (λ lock. is_named catalogue name lock.0) request.lock false) m0 && tested_before k (λ site. is_live t.txn site.live && weighs catalogue m0.line.event name i n site) m0) ≡ true) (sym (own_site t at.live)) (all_of_two _ _ asked weighed)
+      let weighed : tested_before s (λ site. is_live t.txn site.live && weighs catalogue m0 name i n site) m0 ≡ true = tested_x catalogue m0 world s x given o is (λ site. is_live t.txn site.live && weighs catalogue m0 name i n site) (all_of_two (is_live t.txn x.live) (weighs catalogue m0 name i n x) (was_live t at.live) (weighs_x t p name rec deed weights at found tries e)) in
+      or_left _ _ (subst (λ (k : ℕ). (handles catalogue k t.txn p.number (λ request. option_map_or (λ lock. is_named catalogue name lock.0) request.lock false) m0 && tested_before k (λ site. is_live t.txn site.live && weighs catalogue m0 name i n site) m0) ≡ true) (sym (own_site t at.live)) (all_of_two _ _ asked weighed))
   reply_justified a h untold (ReplyFrom.repeated f place b k q c) =
       end_justified b (fair_more catalogue past (m0 ∷ []) b ((fair.finished s x f up k).answers b (kept_has place f.answers b q))) untold (⊎_elim
       (λ r. report_tells m0 b r)
-      (λ (r : (number : ℕ) × (b ≡ answer_of f.txn number f.ending)). subst (TellsEnd m0) (sym r.1) (kept_tells f k r.0 f.ending (λ e. place_called f place b r.0 k q c (ap (refused_number f.txn) r.1 ∙ e))))
+      (λ (r : (number : ℕ) × (b ≡ answer_of f.txn number f.ending)). subst (TellsEnd m0) (sym r.1) (kept_tells f k r.0 f.ending (λ e. place_called f place b r.0 k q c (ap (named_number f.txn) r.1 ∙ e))))
       ((known.repeated.site s x up).finished f k b (kept_has place f.answers b q)))
   reply_justified a h untold (ReplyFrom.ended f number k e c) =
       end_justified _ (fair_more catalogue past (m0 ∷ []) _ ((fair.finished s x f up k).later number (below_of number (length f.answers) e))) untold (kept_tells f k number f.ending (λ refused. called_now catalogue m0 world s x given o is f.txn number c))
@@ -468,15 +593,15 @@ module _ (catalogue : Catalogue) (world : WorldState) (past : List Moment) (m0 :
       last None e a k = absurd (has_none a k)
       last (Some p) e a k = subst (Fair catalogue now) (has_one_is (answer_of t.txn p.number why) a k) (fair_at p.number (λ q g. same_at_most p.number (length t.answers + 1) (number p e)))
 
-      before : (i : ℕ) (a : Answer) (n : ℕ) → slice_get t.answers i ≡ Some a → refused_number t.txn a ≡ Some n → n ≡ i + 1
-      before i a n at e = absurd (report_unrefused t.txn a n (reports a (slice_has t.answers i a at)) e)
+      before : (i : ℕ) (a : Answer) (n : ℕ) → slice_get t.answers i ≡ Some a → named_number t.txn a ≡ Some n → n ≡ i + 1
+      before i a n at e = absurd (report_unnamed t.txn a n (reports a (slice_has t.answers i a at)) e)
 
-      placed : (q : Option Pending) → t.pending ≡ q → (i : ℕ) (a : Answer) (n : ℕ) → slice_get (t.answers ++ option_to_list (option_map (λ p. answer_of t.txn p.number why) q)) i ≡ Some a → refused_number t.txn a ≡ Some n → n ≡ i + 1
+      placed : (q : Option Pending) → t.pending ≡ q → (i : ℕ) (a : Answer) (n : ℕ) → slice_get (t.answers ++ option_to_list (option_map (λ p. answer_of t.txn p.number why) q)) i ≡ Some a → named_number t.txn a ≡ Some n → n ≡ i + 1
       placed None g i a n at e = before i a n (subst (λ (answers : List Answer). slice_get answers i ≡ Some a) (append-nil t.answers) at) e
       placed (Some p) g i a n at e = ⊎_elim (λ old. before i a n old e)
           (λ (new : (i ≡ length t.answers) × (answer_of t.txn p.number why ≡ a)).
-          let own = refused_of t.txn t.txn p.number why n (ap (refused_number t.txn) new.1 ∙ e) in
-          rw new.0 (sym own.1 ∙ number p g))
+          let own = named_of t.txn p.number why n (ap (named_number t.txn) new.1 ∙ e) in
+          rw new.0 (sym own ∙ number p g))
           (last_place t.answers (answer_of t.txn p.number why) i a at)
 
       longer : (k : ℕ) (p : Pending) → t.pending ≡ Some p → length (answers_after t why) ≤ k → length t.answers + 1 ≤ k
@@ -493,13 +618,13 @@ module _ (catalogue : Catalogue) (world : WorldState) (past : List Moment) (m0 :
         numbered = λ i a n at e. absurd (kept_unrefused a n (slice_has (answers_after t Committed) i a at) e);
       }
         where
-          unrefused : (q : Option Pending) (a : Answer) (n : ℕ) → Has (option_to_list (option_map (λ p. answer_of t.txn p.number Committed) q)) a → refused_number t.txn a ≡ Some n → ⊥
+          unrefused : (q : Option Pending) (a : Answer) (n : ℕ) → Has (option_to_list (option_map (λ p. answer_of t.txn p.number Committed) q)) a → named_number t.txn a ≡ Some n → ⊥
           unrefused None a n k e = absurd (has_none a k)
-          unrefused (Some p) a n k e = let same = has_one_is (answer_of t.txn p.number Committed) a k in let z = ap (refused_number t.txn) same in cc
+          unrefused (Some p) a n k e = let same = has_one_is (answer_of t.txn p.number Committed) a k in let z = ap (named_number t.txn) same in cc
 
-          kept_unrefused : (a : Answer) (n : ℕ) → Has (answers_after t Committed) a → refused_number t.txn a ≡ Some n → ⊥
+          kept_unrefused : (a : Answer) (n : ℕ) → Has (answers_after t Committed) a → named_number t.txn a ≡ Some n → ⊥
           kept_unrefused a n h e = ⊎_elim
-              (λ old. report_unrefused t.txn a n ((known.repeated.site s x up).live n0.was n0.live a (rw (ap (λ (t : Live). t.answers) n0.same) at old)) e)
+              (λ old. report_unnamed t.txn a n ((known.repeated.site s x up).live n0.was n0.live a (rw (ap (λ (t : Live). t.answers) n0.same) at old)) e)
               (λ new. unrefused t.pending a n new e) (has_cases t.answers _ a h)
 
           last : (q : Option Pending) → (a : Answer) → Has (option_to_list (option_map (λ p. answer_of t.txn p.number Committed) q)) a → Fair catalogue now a
@@ -535,6 +660,13 @@ module _ (catalogue : Catalogue) (world : WorldState) (past : List Moment) (m0 :
   refused_now to txn number why sent (Refused.held view rec exclusive holder asks e) =
       RefuseFair.blocked view rec exclusive holder to (was_requested to txn view number rec exclusive asks) m0 here
       (λ name found away. blocked_there catalogue m0 world s x given o is to txn view number rec exclusive holder name asks e sent found away)
+  refused_now to txn number why sent (Refused.barred view rec exclusive bar asks held e) =
+      let v = holding x view held in
+      RefuseFair.barred view rec exclusive bar.0 bar.1 to (was_requested to txn view number rec exclusive asks) m0 here
+      (λ name found.
+      let site : site_named m0.before m0.line.event ≡ Some s = rw is.before (named_site m0.line.event world s given is.gives) in
+      let named : is_site (site_named m0.before m0.line.event) s ≡ true = rw site (eq_self s) in
+      all_of_two (was_barred catalogue txn number name bar.0 bar.1 m0) _ (barred_there catalogue m0 world s x given o is to txn view number rec exclusive bar.0 bar.1 name asks (bar_holds rec v.0 bar v.1 e).0 sent found) named)
   refused_now to txn number why sent (Refused.other view asks e) =
       RefuseFair.elsewhere view (held_id x) to (was_asked to txn view number asks) e (record { moment = m0; has = here; passes = other_there catalogue m0 world s x given o is to txn view number asks sent })
 
@@ -550,10 +682,14 @@ module _ (catalogue : Catalogue) (world : WorldState) (past : List Moment) (m0 :
       told_here : (a : Answer) → Has (answers_in m0.line) a → (txn : TxnId) (n : ℕ) → refused_number txn a ≡ Some n → EndedAt new txn
       told_here = ended_told
 
+  barred_now : (m : Moment) → m0 ≡ m → is_delivery m.line.event ≡ true → (a : Answer) → Has (answers_in m.line) a → (txn : TxnId) (n : ℕ) → barred_number txn a ≡ Some n → EndedAt new txn
+  barred_now m same = subst (λ (m : Moment). is_delivery m.line.event ≡ true → (a : Answer) → Has (answers_in m.line) a → (txn : TxnId) (n : ℕ) → barred_number txn a ≡ Some n → EndedAt new txn) same barred_ended
+
   pub step_fair : FairAt catalogue new now
   step_fair = record {
     inv = inv_now;
     told = λ m h a q txn n e. ⊎_elim (λ old. ended_step catalogue w new s x given o known inv_now.known d txn (fair.told m old a q txn n e)) (λ last. told_now m (has_one_is m0 m last) a q txn n e) (has_cases past (m0 ∷ []) m h);
+    barred = λ m h delivery a q txn n e. ⊎_elim (λ old. ended_step catalogue w new s x given o known inv_now.known d txn (fair.barred m old delivery a q txn n e)) (λ last. barred_now m (has_one_is m0 m last) delivery a q txn n e) (has_cases past (m0 ∷ []) m h);
     sent = λ m h. ⊎_elim (λ old. refuse_on catalogue w new past (m0 ∷ []) d.st.moved.sent m.from m.message (fair.sent m old))
         (λ more. sent_ok m.from m.to m.message more ((refusals-step catalogue x given).sent m more)) (d.st.sent m h);
     live = λ k y t h g. live_at y t g (now_is w new s x o d.st k y h);
@@ -577,6 +713,7 @@ pub quiet_fair : (catalogue : Catalogue) (w new : Scene) (past more : List Momen
 quiet_fair catalogue w new past more s q inv silent fair = record {
   inv = inv;
   told = λ m h a k txn n e. ⊎_elim (λ old. ended_quiet catalogue w new s q txn (fair.told m old a k txn n e)) (λ last. absurd (silent m last a k)) (has_cases past more m h);
+  barred = λ m h delivery a k txn n e. ⊎_elim (λ old. ended_quiet catalogue w new s q txn (fair.barred m old delivery a k txn n e)) (λ last. absurd (silent m last a k)) (has_cases past more m h);
   sent = λ m h. refuse_on catalogue w new past more (λ m h. rw q.sent h) m.from m.message (fair.sent m (rw q.sent at h));
   live = λ k y t h g. begun_more past more t.txn t.view (fair.live k y t (live_still catalogue w s k y t g (quiet_is catalogue w new s q k y h)) g);
   finished = λ k y f h g. end_more catalogue past more f (fair.finished k y f (finished_still catalogue w s k y f g (quiet_is catalogue w new s q k y h)) g);
@@ -587,6 +724,7 @@ pub same_fair : (catalogue : Catalogue) (w : Scene) (past more : List Moment) �
 same_fair catalogue w past more silent fair = record {
   inv = fair.inv;
   told = λ m h a k txn n e. ⊎_elim (λ old. fair.told m old a k txn n e) (λ last. absurd (silent m last a k)) (has_cases past more m h);
+  barred = λ m h delivery a k txn n e. ⊎_elim (λ old. fair.barred m old delivery a k txn n e) (λ last. absurd (silent m last a k)) (has_cases past more m h);
   sent = λ m h. refuse_on catalogue w w past more (λ m h. h) m.from m.message (fair.sent m h);
   live = λ k y t h g. begun_more past more t.txn t.view (fair.live k y t h g);
   finished = λ k y f h g. end_more catalogue past more f (fair.finished k y f h g);

@@ -21,7 +21,7 @@ use Rattle.vp_model.specs.World.{WorldState, Moment, site_of}
 use Rattle.vp_model.specs.Answers.{is_live}
 use Rattle.vp_model.specs.Messages.{held_id}
 use Rattle.vp_model.specs.Told.{answers_in, messages_in, is_call, call_in}
-use Rattle.vp_model.specs.Justified.{Request, table_in, call_request, message_request, request_of, site_named, is_step_of, is_request, tested_before, tested_after, blocks, is_named, says_held, gave_held, was_blocked, refuses, is_held_by, is_other_view, is_same_view, handles, held_other, left_then, closed_then, delivered_by, takes_refusal, is_called, is_pending, answers_call}
+use Rattle.vp_model.specs.Justified.{Request, bars, was_barred, is_barred_by, is_delivery, table_in, call_request, message_request, request_of, site_named, is_step_of, is_request, tested_before, tested_after, blocks, is_named, says_held, gave_held, was_blocked, refuses, is_held_by, is_other_view, is_same_view, handles, held_other, left_then, closed_then, delivered_by, takes_refusal, is_called, is_pending, answers_call}
 use Rattle.vp_laws.proofs.Lists.Members.{Has, both_true, any_of}
 use Rattle.vp_laws.proofs.Lists.Changes.{mapped_has}
 use Rattle.vp_model.proofs.SameTxn.{same_txn-is, same_txn-self}
@@ -90,6 +90,18 @@ delivered_is e w s given (Gives.came k m is at to) from words c =
     rw is (at ∙ ap (λ (m : Sent). Some m) (sent_is m from s words sender to same))
 delivered_is e w s given (Gives.ticked is) from words c = cc
 delivered_is e w s given (Gives.probed is) from words c = cc
+
+delivered_event : (e : Event) (w : WorldState) (s : ℕ) (given : Input) → Gives e w s given → (from : ℕ) (words : Message) → Comes given from words → is_delivery e ≡ true
+delivered_event e w s given (Gives.called calls is) from words c = cc
+delivered_event e w s given (Gives.came k m is at to) from words c = rw is refl
+delivered_event e w s given (Gives.ticked is) from words c = cc
+delivered_event e w s given (Gives.probed is) from words c = cc
+
+uncalled_event : (e : Event) (w : WorldState) (s : ℕ) (given : Input) → Gives e w s given → is_delivery e ≡ true → (port : ℕ) (words : Call) → given ≡ input.Call port words → ⊥
+uncalled_event e w s given (Gives.called calls is) delivery port words c = let z = ap is_delivery is in cc
+uncalled_event e w s given (Gives.came k m is at to) delivery port words c = cc
+uncalled_event e w s given (Gives.ticked is) delivery port words c = cc
+uncalled_event e w s given (Gives.probed is) delivery port words c = cc
 
 in_turn : (a b c : Bool) → a ≡ true → b ≡ true → c ≡ true → ((a && b) && c) ≡ true
 in_turn a b c p q r = rw (p, q, r) refl
@@ -164,6 +176,11 @@ module _ (catalogue : Catalogue) (m : Moment) (w : WorldState) (s : ℕ) (x : Si
   sent_now : (to : ℕ) (words : Message) (test : Sent → Bool) → Has o.effects.messages (letter s to words) → test (letter s to words) ≡ true → list_any test (messages_in m.line.shown) ≡ true
   sent_now to words test h e = rw is.shown (any_of test o.effects.messages (letter s to words) h e)
 
+  -- the request for a lock on a copy here
+  asked_for : (from : ℕ) (txn : TxnId) (view : ViewId) (number rec : ℕ) (exclusive : Bool) → Requests given from txn view number rec exclusive → request_of catalogue w m.line.event ≡ Some (record { txn = txn; number = number; lock = Some (rec, exclusive); view = Some view })
+  asked_for from txn view number rec exclusive (Requests.reads c) = message_asks catalogue m.line.event w s given is.gives from (message.ReadRequest txn view number rec) c
+  asked_for from txn view number rec exclusive (Requests.writes c) = message_asks catalogue m.line.event w s given is.gives from (message.WriteRequest txn view number rec) c
+
   -- a lock here forbade a request of another site
   pub blocked_there : (from : ℕ) (txn : TxnId) (view : ViewId) (number rec : ℕ) (exclusive : Bool) (holder : Owner) (name : List ℕ) → Requests given from txn view number rec exclusive → conflict rec exclusive txn x.locks ≡ Some holder → Has o.effects.messages (letter s from (message.Refuse txn number (obstacle.Held holder))) → find_record catalogue name ≡ Some rec → s ≢ txn.site → was_blocked catalogue txn number name s holder m ≡ true
   blocked_there from txn view number rec exclusive holder name asks e sent found away =
@@ -171,12 +188,38 @@ module _ (catalogue : Catalogue) (m : Moment) (w : WorldState) (s : ℕ) (x : Si
       let there : (s == txn.site) ≡ false = eq_not s txn.site away in
       let refused : list_any (refuses txn number (is_held_by holder)) (messages_in m.line.shown) ≡ true = sent_now from (message.Refuse txn number (obstacle.Held holder)) (refuses txn number (is_held_by holder)) sent (rw (same_txn-self txn, eq_self number) (same_owner-self holder)) in
       let gave : gave_held txn number name s holder m ≡ true = rw there refused in
-      handles_now r (λ request. option_map_or (λ lock. is_named catalogue name lock.0 && tested_before s (blocks txn holder lock) m) request.lock false && gave_held txn number name s holder m) (go exclusive asks)
+      handles_now r (λ request. option_map_or (λ lock. is_named catalogue name lock.0 && tested_before s (blocks txn holder lock) m) request.lock false && gave_held txn number name s holder m) (asked_for from txn view number rec exclusive asks)
       (rw (named_here name rec found, blocks_x txn holder rec exclusive e) gave)
-    where
-      go : (exclusive : Bool) → Requests given from txn view number rec exclusive → request_of catalogue w m.line.event ≡ Some (record { txn = txn; number = number; lock = Some (rec, exclusive); view = Some view })
-      go exclusive (Requests.reads c) = message_asks catalogue m.line.event w s given is.gives from (message.ReadRequest txn view number rec) c
-      go exclusive (Requests.writes c) = message_asks catalogue m.line.event w s given is.gives from (message.WriteRequest txn view number rec) c
+
+  -- a bar here forbade a request of another site
+  pub barred_there : (from : ℕ) (txn : TxnId) (view : ViewId) (number rec : ℕ) (exclusive : Bool) (i t : ℕ) (name : List ℕ) → Requests given from txn view number rec exclusive → bars catalogue w.journal rec i t x ≡ true → Has o.effects.messages (letter s from (message.Refuse txn number (obstacle.Barred i t))) → find_record catalogue name ≡ Some rec → was_barred catalogue txn number name i t m ≡ true
+  barred_there from txn view number rec exclusive i t name asks e sent found =
+      let r : Request = record { txn = txn; number = number; lock = Some (rec, exclusive); view = Some view } in
+      let refused : list_any (refuses txn number (is_barred_by i t)) (messages_in m.line.shown) ≡ true = sent_now from (message.Refuse txn number (obstacle.Barred i t)) (refuses txn number (is_barred_by i t)) sent (rw (same_txn-self txn, eq_self number, eq_self i) (eq_self t)) in
+      let barred : tested_before s (bars catalogue m.before.journal rec i t) m ≡ true = subst (λ (v : WorldState). tested_before s (bars catalogue v.journal rec i t) m ≡ true) (sym is.before) (tested_x (bars catalogue w.journal rec i t) e) in
+      let site : site_named m.before m.line.event ≡ Some s = rw is.before (named_site m.line.event w s given is.gives) in
+      let all : handles catalogue s txn number
+      (λ request.
+      option_map_or (λ (lock : ℕ × Bool). is_named catalogue name lock.0 && tested_before s (bars catalogue m.before.journal lock.0 i t) m) request.lock false
+      && list_any (refuses txn number (is_barred_by i t)) (messages_in m.line.shown)) m ≡ true = handles_now r
+      (λ request.
+      option_map_or (λ (lock : ℕ × Bool). is_named catalogue name lock.0 && tested_before s (bars catalogue m.before.journal lock.0 i t) m) request.lock false
+      && list_any (refuses txn number (is_barred_by i t)) (messages_in m.line.shown)) (asked_for from txn view number rec exclusive asks)
+      (rw (named_here name rec found, barred) refused) in
+      subst (λ (o : Option ℕ).
+      option_map_or
+      (λ at. handles catalogue at txn number
+      (λ request.
+      option_map_or (λ (lock : ℕ × Bool). is_named catalogue name lock.0 && tested_before at (bars catalogue m.before.journal lock.0 i t) m) request.lock false
+      && list_any (refuses txn number (is_barred_by i t)) (messages_in m.line.shown)) m) o false ≡ true) (sym site) all
+
+  -- a message is delivered
+  pub delivers : (from : ℕ) (words : Message) → Comes given from words → is_delivery m.line.event ≡ true
+  delivers from words c = delivered_event m.line.event w s given is.gives from words c
+
+  -- and is no call
+  pub delivered_uncalled : is_delivery m.line.event ≡ true → (port : ℕ) (words : Call) → given ≡ input.Call port words → ⊥
+  delivered_uncalled e port words c = uncalled_event m.line.event w s given is.gives e port words c
 
   -- a request of another site named a view that is not held here
   pub other_there : (from : ℕ) (txn : TxnId) (view : ViewId) (number : ℕ) → Asks given from txn view number → Has o.effects.messages (letter s from (message.Refuse txn number (obstacle.OtherView (held_id x)))) → held_other catalogue txn number s view (held_id x) m ≡ true

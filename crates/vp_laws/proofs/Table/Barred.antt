@@ -56,7 +56,7 @@ module _ (catalogue : Catalogue) (x : SiteState) (given : Input) (tidy : Tidy x)
   abbrev P : Stepped → Type 0
   P = Barring catalogue x given
 
-  starts : P (begin_step x)
+  pub starts : P (begin_step x)
   starts = record { base = begun; barred = all }
 
   -- the same bars in the same view: what is under refresh was, each lock on a barred record was there, and its doubt stays

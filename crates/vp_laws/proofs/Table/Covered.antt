@@ -85,6 +85,8 @@ pub record Covers (catalogue : Catalogue) (x : SiteState) (given : Input) (view 
   pub free : (rec : ℕ) → Listed o.site.refresh rec → value_at rec o.site.bars ≡ None
   pub copied : (r : Refreshing) → Has o.site.refresh r → Has (keys x.copies) r.rec
   pub fresh : (r : Refreshing) → Has o.site.refresh r → r.answers ≡ []
+  -- a refresh that has ended left each bar
+  pub barred : (rec : ℕ) (bar : ℕ × ℕ) → value_at rec o.site.bars ≡ Some bar → Ended catalogue x given o rec
   pub covered : (rec : ℕ) → Has (keys x.copies) rec → Listed o.site.refresh rec ⊎ Ended catalogue x given o rec
 
 module _ (catalogue : Catalogue) (x : SiteState) (given : Input) (view : View) (joins : (x.waiting ≡ Some view.id) ⊎ (x.inviting ≡ Some (view.id, view.members))) (unbarred : (rec : ℕ) → value_at rec x.bars ≡ None) where
@@ -97,6 +99,7 @@ module _ (catalogue : Catalogue) (x : SiteState) (given : Input) (view : View) (
     free = λ rec l. subst (λ (y : SiteState). value_at rec y.bars ≡ None) (sym z) (p.free rec (subst (λ (y : SiteState). Listed y.refresh rec) z l));
     copied = λ r h. p.copied r (subst (λ (y : SiteState). Has y.refresh r) z h);
     fresh = λ r h. p.fresh r (subst (λ (y : SiteState). Has y.refresh r) z h);
+    barred = λ rec bar b. ended_on catalogue x given o e rec (ap (λ (y : SiteState). y.id) z) (ap (λ (y : SiteState). y.held) z) (ap (λ (y : SiteState). y.doubts) z) (ap (λ (y : SiteState). value_at rec y.copies) z) (ap (λ (y : SiteState). value_at rec y.bars) z) (p.barred rec bar (subst (λ (y : SiteState). value_at rec y.bars ≡ Some bar) z b));
     covered = λ rec c. ⊎_elim
         (λ l. inl (subst (λ (y : SiteState). Listed y.refresh rec) (sym z) l))
         (λ q. inr (ended_on catalogue x given o e rec (ap (λ (y : SiteState). y.id) z) (ap (λ (y : SiteState). y.held) z) (ap (λ (y : SiteState). y.doubts) z) (ap (λ (y : SiteState). value_at rec y.copies) z) (ap (λ (y : SiteState). value_at rec y.bars) z) q))
@@ -113,17 +116,18 @@ module _ (catalogue : Catalogue) (x : SiteState) (given : Input) (view : View) (
     free = λ k l. t.bars k (λ is. still_listed k is l) ∙ p.free k (was_listed k l);
     copied = λ q h. p.copied q (rw t.refresh at (kept q h));
     fresh = λ q h. p.fresh q (rw t.refresh at (kept q h));
+    barred = λ k bar b. ⊎_elim (λ one. over k one) (λ other. ended_on catalogue x given o _ k t.id t.held t.doubts (t.other k other) (t.bars k other) (p.barred k bar (sym (t.bars k other) ∙ b))) (same_site r.rec k);
     covered = λ k copied. ⊎_elim (λ one. inr (over k one)) (λ other. ⊎_elim (λ l. inl (listed_on k other l)) (λ q. inr (ended_on catalogue x given o _ k t.id t.held t.doubts (t.other k other) (t.bars k other) q)) (p.covered k copied)) (same_site r.rec k);
   }
     where
       n : Stepped
       n = judged catalogue r own o
 
-      t : Took catalogue r own o n
-      t = took catalogue r own o v (p.free r.rec (r, there, refl))
-
       there : Has o.site.refresh r
       there = find_has (λ (q : Refreshing). q.rec == rec) o.site.refresh r e
+
+      t : Took catalogue r own o n
+      t = took catalogue r own o v (p.free r.rec (r, there, refl))
 
       kept : (q : Refreshing) → Has (filter (λ (other : Refreshing). not (other.rec == r.rec)) n.site.refresh) q → Has n.site.refresh q
       kept q h = (filter_has (λ (other : Refreshing). not (other.rec == r.rec)) n.site.refresh q h).0
@@ -176,6 +180,7 @@ module _ (catalogue : Catalogue) (x : SiteState) (given : Input) (view : View) (
             (λ (old : Listed o.site.refresh r.rec). absurd (has_none old.0 (rw none at old.1)))
             (q.only r h);
         fresh = q.fresh;
+        barred = λ rec bar b. absurd (let z = sym b ∙ ap (value_at rec) (q.bars ∙ bs) ∙ unbarred rec in cc);
         covered = λ rec copied. inl (q.listed rec (inl (rw c copied)));
       })
 
@@ -206,30 +211,45 @@ pub data Quits (catalogue : Catalogue) (x : SiteState) (given : Input) (o : Step
   still : IsUnlisted x.refresh rec → o.site.held ≡ x.held → value_at rec o.site.bars ≡ value_at rec x.bars → Quits catalogue x given o rec
   ended : Ended catalogue x given o rec → Quits catalogue x given o rec
 
-pub quits : (catalogue : Catalogue) (x : SiteState) (given : Input) → (x.held ≡ None → x.refresh ≡ []) → AreBarred x → Tidy x → Unlisting catalogue x given (step catalogue x given) → (rec : ℕ) (v : View) → (step catalogue x given).site.held ≡ Some v → Has (keys x.copies) rec → IsUnlisted (step catalogue x given).site.refresh rec → Quits catalogue x given (step catalogue x given) rec
-quits catalogue x given idle bars tidy u rec v held copied unlisted = go (u.unlisted rec v held unlisted)
-  where
-    o : Stepped
-    o = step catalogue x given
+-- where a bar is from
+pub data BarFrom (catalogue : Catalogue) (x : SiteState) (given : Input) (o : Stepped) (rec : ℕ) (bar : ℕ × ℕ) : Type 0 where
+  still : value_at rec x.bars ≡ Some bar → o.site.held ≡ x.held → BarFrom catalogue x given o rec bar
+  ended : Ended catalogue x given o rec → BarFrom catalogue x given o rec bar
 
-    none_held : (view : View) → Joins x given view → x.held ≡ None
-    none_held view (Joins.came from c e) = (tidy.waiting view.id (is_view_is x.waiting view.id (both_true _ _ e).0)).1
-    none_held view (Joins.fixed c e) = (tidy.inviting (view.id, view.members) e).1
+module _ (catalogue : Catalogue) (x : SiteState) (given : Input) (idle : x.held ≡ None → x.refresh ≡ []) (bars : AreBarred x) (tidy : Tidy x) (u : Unlisting catalogue x given (step catalogue x given)) where
+  abbrev o : Stepped
+  o = step catalogue x given
 
-    origin : (view : View) → Joins x given view → (x.waiting ≡ Some view.id) ⊎ (x.inviting ≡ Some (view.id, view.members))
-    origin view (Joins.came from c e) = inl (is_view_is x.waiting view.id (both_true _ _ e).0)
-    origin view (Joins.fixed c e) = inr e
+  none_held : (view : View) → Joins x given view → x.held ≡ None
+  none_held view (Joins.came from c e) = (tidy.waiting view.id (is_view_is x.waiting view.id (both_true _ _ e).0)).1
+  none_held view (Joins.fixed c e) = (tidy.inviting (view.id, view.members) e).1
 
-    free : (view : View) → Joins x given view → (rec : ℕ) → value_at rec x.bars ≡ None
-    free view j rec = found (value_at rec x.bars) refl
-      where
-        found : (bar : Option (ℕ × ℕ)) → value_at rec x.bars ≡ bar → value_at rec x.bars ≡ None
-        found None e = e
-        found (Some bar) e = absurd (no_bars x bars (none_held view j) rec bar e)
+  origin : (view : View) → Joins x given view → (x.waiting ≡ Some view.id) ⊎ (x.inviting ≡ Some (view.id, view.members))
+  origin view (Joins.came from c e) = inl (is_view_is x.waiting view.id (both_true _ _ e).0)
+  origin view (Joins.fixed c e) = inr e
 
-    go : Unlisted catalogue x given o rec → Quits catalogue x given o rec
-    go (Unlisted.still none in_view same) = Quits.still none in_view same
-    go (Unlisted.ended q) = Quits.ended q
-    go (Unlisted.joined view now j) =
-        let c = covers-step catalogue x given view (origin view j) (free view j) (idle (none_held view j)) j in
-        ⊎_elim (λ (l : Listed o.site.refresh rec). absurd (unlisted l.0 l.1 l.2)) (λ q. Quits.ended q) (c.covered rec copied)
+  free : (view : View) → Joins x given view → (rec : ℕ) → value_at rec x.bars ≡ None
+  free view j rec = found (value_at rec x.bars) refl
+    where
+      found : (bar : Option (ℕ × ℕ)) → value_at rec x.bars ≡ bar → value_at rec x.bars ≡ None
+      found None e = e
+      found (Some bar) e = absurd (no_bars x bars (none_held view j) rec bar e)
+
+  joined : (view : View) → Joins x given view → Covers catalogue x given view o
+  joined view j = covers-step catalogue x given view (origin view j) (free view j) (idle (none_held view j)) j
+
+  pub quits : (rec : ℕ) (v : View) → o.site.held ≡ Some v → Has (keys x.copies) rec → IsUnlisted o.site.refresh rec → Quits catalogue x given o rec
+  quits rec v held copied unlisted = go (u.unlisted rec v held unlisted)
+    where
+      go : Unlisted catalogue x given o rec → Quits catalogue x given o rec
+      go (Unlisted.still none in_view same) = Quits.still none in_view same
+      go (Unlisted.ended q) = Quits.ended q
+      go (Unlisted.joined view now j) = ⊎_elim (λ (l : Listed o.site.refresh rec). absurd (unlisted l.0 l.1 l.2)) (λ q. Quits.ended q) ((joined view j).covered rec copied)
+
+  pub bar_from : (rec : ℕ) (v : View) (bar : ℕ × ℕ) → o.site.held ≡ Some v → value_at rec o.site.bars ≡ Some bar → IsUnlisted o.site.refresh rec → BarFrom catalogue x given o rec bar
+  bar_from rec v bar held barred unlisted = go (u.unlisted rec v held unlisted)
+    where
+      go : Unlisted catalogue x given o rec → BarFrom catalogue x given o rec bar
+      go (Unlisted.still none in_view same) = BarFrom.still (sym same ∙ barred) in_view
+      go (Unlisted.ended q) = BarFrom.ended q
+      go (Unlisted.joined view now j) = BarFrom.ended ((joined view j).barred rec bar barred)

@@ -43,7 +43,7 @@ module _ (catalogue : Catalogue) (x : SiteState) (given : Input) (tidy : Tidy x)
   abbrev P : Stepped → Type 0
   P = Listing catalogue x given
 
-  starts : P (begin_step x)
+  pub starts : P (begin_step x)
   starts = record { copied = refl; listed = all; since = λ r h. ListedNow.still r h refl refl }
 
   since_on : (o e : Stepped) (rec : ℕ) → e.site.held ≡ o.site.held → ListedNow x o rec → ListedNow x e rec

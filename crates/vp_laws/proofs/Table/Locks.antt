@@ -75,7 +75,7 @@ module _ (catalogue : Catalogue) (x : SiteState) (given : Input) (tidy : Tidy x)
   abbrev P : Stepped → Type 0
   P = Guards catalogue x given
 
-  starts : P (begin_step x)
+  pub starts : P (begin_step x)
   starts = record { apart = apart; ok = ok; copied = refl; stays = λ rec e txn h. inl h }
 
   gone_on : (o e : Stepped) (txn : TxnId) → e.site.views ≡ o.site.views → ((t : Live) → Has e.site.live t → (u : Live) × Has o.site.live u × (u.txn ≡ t.txn)) → Gone x given o txn → Gone x given e txn

@@ -20,7 +20,7 @@ use Rattle.vp_laws.proofs.Lists.Members.{Has, has_none, has_one, has_one_is, has
 use Rattle.vp_laws.proofs.Lists.Names.{Apart, named, without_gone}
 use Rattle.vp_laws.proofs.Lists.Changes.{without_first_has}
 use Rattle.vp_laws.proofs.Moves.Frames.{close-ends, close-commits, decided-commits, decide-cases, judged, take-cases}
-use Rattle.vp_laws.proofs.Moves.Table.{next_view, lent_at, Handled, Completes, Decides, is_abort, is_end, Replies, Back, Table}
+use Rattle.vp_laws.proofs.Moves.Table.{next_view, lent_at, Handled, IsNext, Completes, Decides, is_abort, is_end, Replies, Answered, Back, Table}
 use Rattle.vp_laws.proofs.Table.Led.{Led}
 use Rattle.vp_laws.proofs.Table.Endings.{NotLive, WasLive}
 use Rattle.vp_laws.proofs.Moves.OnlyCoordinator.{OnCoordinator, only_table, only_begins}
@@ -28,23 +28,25 @@ use Rattle.vp_laws.proofs.Table.Steps.{Steps, completes_effects, locked_effects,
 use Rattle.vp_laws.proofs.Moves.Rows.{step-keeps}
 
 -- why an answer is given
-pub data Said (x : SiteState) (live : List Live) (cs : List Commit) (a : Answer) : Type 0 where
-  nothing : Replies x a → Said x live cs a
-  commits : (e : Commit) (number : ℕ) → Has cs e → answer.Committed e.txn number ≡ a → Said x live cs a
-  ended : (txn : TxnId) (number : ℕ) (why : Ending) → WasLive x txn → NotLive live txn → is_abort why ≡ true → cs ≡ [] → answer_of txn number why ≡ a → Said x live cs a
+pub data Said (x : SiteState) (given : Input) (live : List Live) (cs : List Commit) (a : Answer) : Type 0 where
+  nothing : Replies x a → Said x given live cs a
+  unable : (t : Live) (p : Pending) (name : List ℕ) (inside total : ℕ) → Has x.live t → IsNext given t p → cs ≡ [] → answer.Inaccessible t.txn p.number name inside total ≡ a → Said x given live cs a
+  commits : (e : Commit) (number : ℕ) → Has cs e → answer.Committed e.txn number ≡ a → Said x given live cs a
+  ended : (txn : TxnId) (number : ℕ) (why : Ending) → WasLive x txn → NotLive live txn → is_abort why ≡ true → cs ≡ [] → answer_of txn number why ≡ a → Said x given live cs a
 
 -- an entry is replied
 abbrev pub IsReplied : List Reply → Commit → Type 0
 IsReplied replies e = (r : Reply) × (number : ℕ) × Has replies r × (answer.Committed e.txn number ≡ r.answer)
 
-pub record Replying (x : SiteState) (live : List Live) (cs : List Commit) (replies : List Reply) : Type 0 where
-  pub said : (r : Reply) → Has replies r → Said x live cs r.answer
+pub record Replying (x : SiteState) (given : Input) (live : List Live) (cs : List Commit) (replies : List Reply) : Type 0 where
+  pub said : (r : Reply) → Has replies r → Said x given live cs r.answer
   pub entered : (e : Commit) → Has cs e → IsReplied replies e
 
-said_fewer : (x : SiteState) (live now : List Live) (cs : List Commit) (a : Answer) → ((txn : TxnId) → NotLive live txn → NotLive now txn) → Said x live cs a → Said x now cs a
-said_fewer x live now cs a sub (Said.nothing r) = Said.nothing r
-said_fewer x live now cs a sub (Said.commits e number h is) = Said.commits e number h is
-said_fewer x live now cs a sub (Said.ended txn number why was none abort quiet is) = Said.ended txn number why was (sub txn none) abort quiet is
+said_fewer : (x : SiteState) (given : Input) (live now : List Live) (cs : List Commit) (a : Answer) → ((txn : TxnId) → NotLive live txn → NotLive now txn) → Said x given live cs a → Said x given now cs a
+said_fewer x given live now cs a sub (Said.nothing r) = Said.nothing r
+said_fewer x given live now cs a sub (Said.unable t p name inside total h next quiet is) = Said.unable t p name inside total h next quiet is
+said_fewer x given live now cs a sub (Said.commits e number h is) = Said.commits e number h is
+said_fewer x given live now cs a sub (Said.ended txn number why was none abort quiet is) = Said.ended txn number why was (sub txn none) abort quiet is
 
 -- a transaction that ends with a pending call is told its end
 with_pending : TxnId → Ending → Option Pending → List Reply
@@ -86,9 +88,9 @@ module _ (catalogue : Catalogue) (x : SiteState) (given : Input) (led : Led x) (
 
   pub record P (o : Stepped) : Type 0 where
     pub base : S o
-    pub replying : Replying x o.site.live o.effects.commits o.effects.replies
+    pub replying : Replying x given o.site.live o.effects.commits o.effects.replies
 
-  none_yet : (live : List Live) → Replying x live [] []
+  none_yet : (live : List Live) → Replying x given live [] []
   none_yet live = record { said = λ r h. absurd (has_none r h); entered = λ e h. absurd (has_none e h) }
 
   starts : P (begin_step x)
@@ -102,9 +104,13 @@ module _ (catalogue : Catalogue) (x : SiteState) (given : Input) (led : Led x) (
   quiet : (e : Stepped) → S e → e.effects.commits ≡ [] → e.effects.replies ≡ [] → P e
   quiet e base cs rs = record { base = base; replying = rw (cs, rs) (none_yet e.site.live) }
 
+  said_as : (live : List Live) (words : Answer) → Answered x given words → Said x given live [] words
+  said_as live words (Answered.replies r) = Said.nothing r
+  said_as live words (Answered.unable t p name inside total h next is) = Said.unable t p name inside total h next refl is
+
   -- one reply that changes nothing
-  one : (e : Stepped) (r : Reply) → S e → e.effects.commits ≡ [] → e.effects.replies ≡ r ∷ [] → Replies x r.answer → P e
-  one e r base cs rs why = record { base = base; replying = rw (cs, rs) (record { said = λ q h. Said.nothing (subst (λ (r : Reply). Replies x r.answer) (has_one_is r q h) why); entered = λ c h. absurd (has_none c h) }) }
+  one : (e : Stepped) (r : Reply) → S e → e.effects.commits ≡ [] → e.effects.replies ≡ r ∷ [] → Answered x given r.answer → P e
+  one e r base cs rs why = record { base = base; replying = rw (cs, rs) (record { said = λ q h. said_as e.site.live q.answer (subst (λ (r : Reply). Answered x given r.answer) (has_one_is r q h) why); entered = λ c h. absurd (has_none c h) }) }
 
   abbrev K : Lent → Type 0
   K = Back x P
@@ -118,7 +124,7 @@ module _ (catalogue : Catalogue) (x : SiteState) (given : Input) (led : Led x) (
         base = base;
         replying = rw (same, cs, close_replies x.id t why l) (record {
           said = λ r h. ⊎_elim
-              (λ old. said_fewer x l.live (without_first (named t.txn) l.live) [] r.answer (λ txn gone u k. gone u (without_first_has (named t.txn) l.live u k)) (subst (λ (cs : List Commit). Said x l.live cs r.answer) none (p.replying.said r old)))
+              (λ old. said_fewer x given l.live (without_first (named t.txn) l.live) [] r.answer (λ txn gone u k. gone u (without_first_has (named t.txn) l.live u k)) (subst (λ (cs : List Commit). Said x given l.live cs r.answer) none (p.replying.said r old)))
               (λ new. let q = pending_is t.txn why t.pending r new in
               Said.ended t.txn q.0 why (n.was, n.live, sym (ap (λ (t : Live). t.txn) n.same)) (λ u k. without_gone t.txn l.live p.base.kept.apart u k) abort refl q.1)
               (has_cases l.effects.replies (with_pending t.txn why t.pending) r h);
@@ -134,7 +140,7 @@ module _ (catalogue : Catalogue) (x : SiteState) (given : Input) (led : Led x) (
   unfolding keep_writes with_pending
   decides t d base = record {
     base = base;
-    replying = decide-cases (λ (l : Lent). Replying x l.live l.effects.commits l.effects.replies) catalogue x.id t (lent_at x)
+    replying = decide-cases (λ (l : Lent). Replying x given l.live l.effects.commits l.effects.replies) catalogue x.id t (lent_at x)
         (λ none. entering (lent_at x) (decided x.id t (lent_at x)) (decided-commits x.id t (lent_at x)) (decided_replies x.id t (lent_at x)) refl refl)
         (λ some. entering (keep_writes catalogue x.id t (lent_at x)) (decided x.id t (keep_writes catalogue x.id t (lent_at x))) (decided-commits x.id t (keep_writes catalogue x.id t (lent_at x))) (decided_replies x.id t (keep_writes catalogue x.id t (lent_at x))) refl refl);
   }
@@ -142,7 +148,7 @@ module _ (catalogue : Catalogue) (x : SiteState) (given : Input) (led : Led x) (
       entry : Commit
       entry = entry_of t
 
-      entering : (l now : Lent) → now.effects.commits ≡ l.effects.commits ++ entry ∷ [] → now.effects.replies ≡ l.effects.replies ++ with_pending t.txn Committed t.pending → l.effects.commits ≡ [] → l.effects.replies ≡ [] → Replying x now.live now.effects.commits now.effects.replies
+      entering : (l now : Lent) → now.effects.commits ≡ l.effects.commits ++ entry ∷ [] → now.effects.replies ≡ l.effects.replies ++ with_pending t.txn Committed t.pending → l.effects.commits ≡ [] → l.effects.replies ≡ [] → Replying x given now.live now.effects.commits now.effects.replies
       entering l now cs rs none quiet =
           let q = pending_there t d in
           let r : Reply = record { to = q.0.port; answer = answer.Committed t.txn q.0.number } in
@@ -158,7 +164,7 @@ module _ (catalogue : Catalogue) (x : SiteState) (given : Input) (led : Led x) (
   marks l base p = record {
     base = base;
     replying = record {
-      said = λ r h. said_fewer x l.live (map mark l.live) l.effects.commits r.answer (λ txn gone u k. let q = map_has mark l.live u k in (λ same. gone q.0 q.1 (ap (λ (t : Live). t.txn) q.2 ∙ same))) (p.replying.said r h);
+      said = λ r h. said_fewer x given l.live (map mark l.live) l.effects.commits r.answer (λ txn gone u k. let q = map_has mark l.live u k in (λ same. gone q.0 q.1 (ap (λ (t : Live). t.txn) q.2 ∙ same))) (p.replying.said r h);
       entered = p.replying.entered;
     };
   }
@@ -171,7 +177,7 @@ module _ (catalogue : Catalogue) (x : SiteState) (given : Input) (led : Led x) (
   completes t p deed l base g =
       let e = completes_effects catalogue x given t p deed l g in
       let words = deed_answer t.txn p.number deed in
-      one _ (record { to = p.port; answer = words }) base (ap (λ (e : Effects). e.commits) e) (ap (λ (e : Effects). e.replies ++ (record { to = p.port; answer = words }) ∷ []) e) (Replies.other (completed_words t p deed l g))
+      one _ (record { to = p.port; answer = words }) base (ap (λ (e : Effects). e.commits) e) (ap (λ (e : Effects). e.replies ++ (record { to = p.port; answer = words }) ∷ []) e) (Answered.replies (Replies.other (completed_words t p deed l g)))
 
   -- a refresh ends: the same replies
   same_taken : (r : Refreshing) (own : Stored) (o : Stepped) → ((judged catalogue r own o).site.coordinator ≡ o.site.coordinator) × ((judged catalogue r own o).effects.commits ≡ o.effects.commits) × ((judged catalogue r own o).effects.replies ≡ o.effects.replies)
@@ -225,7 +231,7 @@ module _ (catalogue : Catalogue) (x : SiteState) (given : Input) (led : Led x) (
     vote_writing = λ from txn view number reads writes part c e n d f v a w. quiet _ (b.vote_writing from txn view number reads writes part c e n d f v a w) refl refl;
     end_here = λ from txn commit c. ends_here from txn commit (doubt_of txn x.doubts) (b.end_here from txn commit c);
     coordinator = let m = b.coordinator in record {
-      begin = λ port view e g u. one _ _ (m.begin port view e g u) refl refl (Replies.other refl);
+      begin = λ port view e g u. one _ _ (m.begin port view e g u) refl refl (Answered.replies (Replies.other refl));
       answers = λ words port why y. one _ _ (m.answers words port why y) refl refl why;
       take_lock = λ t rec exclusive stored h i a v c. quiet _ (m.take_lock t rec exclusive stored h i a v c) refl refl;
       complete = λ t p deed l h g y e q. completes t p deed l (m.complete t p deed l h g y e q.base) g;
@@ -241,5 +247,5 @@ module _ (catalogue : Catalogue) (x : SiteState) (given : Input) (led : Led x) (
     resend_one = λ d o c h p. silent o _ (b.resend_one d o c h p.base) refl refl refl p;
   }
 
-pub replies-step : (catalogue : Catalogue) (x : SiteState) (given : Input) → Led x → Apart x.live → Replying x (step catalogue x given).site.live (step catalogue x given).effects.commits (step catalogue x given).effects.replies
+pub replies-step : (catalogue : Catalogue) (x : SiteState) (given : Input) → Led x → Apart x.live → Replying x given (step catalogue x given).site.live (step catalogue x given).effects.commits (step catalogue x given).effects.replies
 replies-step catalogue x given led apart = (step-keeps catalogue x given (P catalogue x given led apart) (table catalogue x given led apart) (starts catalogue x given led apart)).replying

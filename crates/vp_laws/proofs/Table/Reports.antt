@@ -1,5 +1,5 @@
 -- Why a reply of a step reports an operation: the site kept it, or the step does that operation.
-use Rattle.std.proofs.Common.{◌≡◌, subst, ℕ, false, List, [], ◌∷◌, ◌++◌, refl, ⊎_elim}
+use Rattle.std.proofs.Common.{◌≡◌, subst, ℕ, false, List, [], ◌∷◌, ◌++◌, refl, ⊎_elim, inl}
 use Rattle.std.specs.Prelude.{None}
 use Rattle.vp_model.specs.Types.{TxnId, Answer, Reply, Input, Pending, Live}
 use Rattle.vp_base.specs.declared.site.Ending.TheVariants.{Committed}
@@ -48,7 +48,7 @@ module _ (catalogue : Catalogue) (x : SiteState) (given : Input) where
       wider : {a : Answer} → Cause catalogue x given rs a → Cause catalogue x given (rs ++ extra) a
       wider (Cause.nothing e) = Cause.nothing e
       wider (Cause.kept k) = Cause.kept k
-      wider (Cause.done t p operation l k d c late) = Cause.done t p operation l k d c (late_more catalogue x given rs extra s (λ bar. completes_no_bar catalogue x given t p operation l d bar) late)
+      wider (Cause.done t p operation l k d c late) = Cause.done t p operation l k d c (late_more catalogue x given rs extra s (λ bar. completes_no_bar catalogue x given t p operation l c bar) late)
 
   inviting_silent : (port : ℕ) → IsSilent given (told_to port (answer.Inviting (next_view x)) ∷ [])
   inviting_silent port = record {

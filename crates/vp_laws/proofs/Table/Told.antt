@@ -284,7 +284,7 @@ module _ (catalogue : Catalogue) (x : SiteState) (given : Input) where
 
     commits : (t : Live) (c : CoordinatorState) (cs : List Commit) → c.live ≡ x.live → G (with_finished t Committed c) (last_reply t Committed) cs
     commits t c cs stays =
-        let quiet = last_silent t Committed refl in
+        let quiet = last_silent t Committed (inl refl) in
         record {
           live = λ a k. as_was _ a (rw stays at (without_first_has (named t.txn) c.live a k)) (λ r q. inl (quiet.reports a.txn r q));
           others = λ u n r q. inl (quiet.reports u r q);

@@ -4,26 +4,29 @@ use Rattle.std.proofs.Common.{◌≡◌, ◌≢◌, ◌⊎◌, ◌∙◌, ap, sy
 use Rattle.std.specs.Prelude.{Option, Some, None, filter, find, option_map, not, ◌==◌, ◌&&◌, nat_lt}
 use Rattle.std.proofs.lemmas.Bool.{eqb-true}
 use Rattle.std.proofs.lemmas.Bool.Decides.{nat_tests}
-use Rattle.vp_model.specs.Types.{TxnId, View, Input, Stored, Refreshing, Doubt}
+use Rattle.vp_model.specs.Types.{TxnId, View, Input, Stored, Live, Ending, Refreshing, Doubt}
+use Rattle.vp_base.specs.declared.site.Ending.TheVariants.{Committed}
+use Rattle.vp_model.specs.Transactions.{keep_writes, complete, decide}
+use Rattle.vp_model.specs.Calls.{start_txn, take_lock, read_at, write_at, prepare_parts}
 use Rattle.vp_model.specs.Types.log_record
 use Rattle.vp_model.specs.Types.input
 use Rattle.vp_model.specs.Types.message
 use Rattle.vp_model.specs.Words.{keys, put, put_at, view_before, replace_at, value_at, is_empty, is_view, has}
 use Rattle.vp_model.specs.Catalogue.{Catalogue, Table as Weights, table_or, accessible_by, weight_inside, weight_total}
 use Rattle.vp_model.specs.Locks.{without_guard}
-use Rattle.vp_model.specs.Site.{SiteState, Stepped, begin_step, put_back, force, change_copies, change_bars}
+use Rattle.vp_model.specs.Site.{Here, SiteState, Lent, Stepped, begin_step, put_back, force, change_copies, change_bars}
 use Rattle.vp_model.specs.Refresh.{members, newest, take_newer, with_bar, unlist, end_refresh, start_refresh, refreshing_of, unanswered, is_doubtful}
 use Rattle.vp_model.specs.Views.{drop_view, start_inviting, hold}
 use Rattle.vp_model.specs.Durable.{doubt_of}
 use Rattle.vp_model.specs.Messages.{with_answer, accept, on_accept, on_stale, grant, end_here}
-use Rattle.vp_model.specs.Step.{fix, ask_again, resend_one, inquire, step}
+use Rattle.vp_model.specs.Step.{fix, mark_calls, ask_again, resend_one, inquire, step}
 use Rattle.vp_laws.proofs.Lists.Members.{Has, filter_keeps, find_has}
 use Rattle.vp_laws.proofs.Lists.Changes.{mapped_has, put_new, put_old}
 use Rattle.vp_laws.proofs.Lists.Views.{Precedes, from_before, not_both, same_site}
 use Rattle.vp_laws.proofs.Journal.Order.{Precedes-trans}
 use Rattle.vp_laws.proofs.Journal.Play.{value_put}
-use Rattle.vp_laws.proofs.Moves.Frames.{judging, judged}
-use Rattle.vp_laws.proofs.Moves.Table.{Comes, Left, Table}
+use Rattle.vp_laws.proofs.Moves.Frames.{Ends, close-ends, decided-ends, decide-cases, judging, judged}
+use Rattle.vp_laws.proofs.Moves.Table.{Comes, Left, lent_at, Back, Table}
 use Rattle.vp_laws.proofs.Table.Copies.{AnswerNow}
 use Rattle.vp_laws.proofs.Table.CopyAt.{CopiesAt}
 use Rattle.vp_laws.proofs.Table.Listed.{IsUnlisted, ListedNow, Listing}
@@ -96,14 +99,14 @@ value_replaced_here n v w (p ∷ pairs) e = go (p.0 == n) refl e (λ q. value_re
 -- the newest copy is the own one, or has a later date
 newest_later : (own : Stored) (answers : List (ℕ × Stored)) → (newest own answers ≡ own) ⊎ Precedes own.date (newest own answers).date
 newest_later own [] = inl refl
-newest_later own (a ∷ answers) = go (view_before own.date a.1.date) refl
+newest_later own (a ∷ answers) = go (view_before own.date a.1.date) refl (newest_later own answers) (newest_later a.1 answers)
   where
-    go : (b : Bool) → view_before own.date a.1.date ≡ b → (newest (cond b a.1 own) answers ≡ own) ⊎ Precedes own.date (newest (cond b a.1 own) answers).date
-    go false e = newest_later own answers
-    go true e = ⊎_elim
+    go : (b : Bool) → view_before own.date a.1.date ≡ b → (newest own answers ≡ own) ⊎ Precedes own.date (newest own answers).date → (newest a.1 answers ≡ a.1) ⊎ Precedes a.1.date (newest a.1 answers).date → (newest (cond b a.1 own) answers ≡ own) ⊎ Precedes own.date (newest (cond b a.1 own) answers).date
+    go false e rest its = rest
+    go true e rest its = ⊎_elim
         (λ (same : newest a.1 answers ≡ a.1). inr (subst (λ (c : Stored). Precedes own.date c.date) (sym same) (from_before own.date a.1.date e)))
         (λ (later : Precedes a.1.date (newest a.1 answers).date). inr (Precedes-trans own.date a.1.date (newest a.1 answers).date (from_before own.date a.1.date e) later))
-        (newest_later a.1 answers)
+        its
 
 -- where it isn't later it is the own one
 newest_is_own : (own : Stored) (answers : List (ℕ × Stored)) → view_before own.date (newest own answers).date ≡ false → newest own answers ≡ own
@@ -184,11 +187,11 @@ module _ (catalogue : Catalogue) (x : SiteState) (given : Input) (b : Table cata
   P = Unlisting catalogue x given
 
   -- in the view of the start, with all that was under refresh then
-  first : (e : Stepped) → e.site.held ≡ x.held → e.site.bars ≡ x.bars → ((r : Refreshing) → Has x.refresh r → (q : Refreshing) × Has e.site.refresh q × (q.rec ≡ r.rec)) → Base catalogue x given e → P e
-  first e v bs sub base = record { base = base; unlisted = λ rec u h none. Unlisted.still (λ r g is. let q = sub r g in none q.0 q.1 (q.2 ∙ is)) v (ap (value_at rec) bs) }
+  first : (e : Stepped) → Base catalogue x given e → e.site.held ≡ x.held → e.site.bars ≡ x.bars → ((r : Refreshing) → Has x.refresh r → (q : Refreshing) × Has e.site.refresh q × (q.rec ≡ r.rec)) → P e
+  first e base v bs sub = record { base = base; unlisted = λ rec u h none. Unlisted.still (λ r g is. let q = sub r g in none q.0 q.1 (q.2 ∙ is)) v (ap (value_at rec) bs) }
 
-  stays : (e : Stepped) → e.site.held ≡ x.held → e.site.bars ≡ x.bars → e.site.refresh ≡ x.refresh → Base catalogue x given e → P e
-  stays e v bs r base = first e v bs (λ q h. (q, rw r h, refl)) base
+  stays : (e : Stepped) → Base catalogue x given e → e.site.held ≡ x.held → e.site.bars ≡ x.bars → e.site.refresh ≡ x.refresh → P e
+  stays e base v bs r = first e base v bs (λ q h. (q, rw r h, refl))
 
   gone : (e : Stepped) → e.site.held ≡ None → Base catalogue x given e → P e
   gone e v base = record { base = base; unlisted = λ rec u h none. absurd (let z = v in cc) }
@@ -254,10 +257,10 @@ module _ (catalogue : Catalogue) (x : SiteState) (given : Input) (b : Table cata
 
   ends_here : (from : ℕ) (txn : TxnId) (commit : Bool) (doubt : Option Doubt) → Base catalogue x given (end_here from txn commit doubt (begin_step x)) → P (end_here from txn commit doubt (begin_step x))
   unfolding end_here
-  ends_here from txn true None base = stays _ refl refl refl base
-  ends_here from txn false None base = stays _ refl refl refl base
-  ends_here from txn false (Some d) base = stays _ refl refl refl base
-  ends_here from txn true (Some d) base = stays _ refl refl refl base
+  ends_here from txn true None base = stays _ base refl refl refl
+  ends_here from txn false None base = stays _ base refl refl refl
+  ends_here from txn false (Some d) base = stays _ base refl refl refl
+  ends_here from txn true (Some d) base = stays _ base refl refl refl
 
   rec_same : (rec from : ℕ) (stored : Stored) (r : Refreshing) → (with_answer rec from stored r).rec ≡ r.rec
   rec_same rec from stored r = go (r.rec == rec)
@@ -269,49 +272,71 @@ module _ (catalogue : Catalogue) (x : SiteState) (given : Input) (b : Table cata
   each : (rs : List Refreshing) (r : Refreshing) → Has rs r → (q : Refreshing) × Has rs q × (q.rec ≡ r.rec)
   each rs r h = (r, h, refl)
 
+  starts : P (begin_step x)
+  starts = stays (begin_step x) begun refl refl refl
+
+  abbrev K : Lent → Type 0
+  K = Back x P
+
+  abbrev G : Lent → Type 0
+  G = Back x (Base catalogue x given)
+
+  quiet : (l now : Lent) → G now → now.here.bars ≡ l.here.bars → now.copies ≡ l.copies → K l → K now
+  quiet l now base bs c g = same (put_back (begin_step x) l) (put_back (begin_step x) now) refl refl refl c bs (λ r h. each _ r h) base g
+
+  ends_one : (t : Live) (why : Ending) (commit : Bool) (l now : Lent) → G now → Ends x.id t why commit l now → K l → K now
+  ends_one t why commit l now base e g = quiet l now base (ap (λ (h : Here). h.bars) e.here) (ap (λ (h : Here). h.copies) e.here) g
+
+  decides : (t : Live) → G (decide catalogue x.id t (lent_at x)) → K (decide catalogue x.id t (lent_at x))
+  unfolding keep_writes
+  decides t base = decide-cases (λ (l : Lent). G l → K l) catalogue x.id t (lent_at x)
+      (λ e g. ended (lent_at x) _ refl g (decided-ends x.id t (lent_at x)))
+      (λ e g. ended (keep_writes catalogue x.id t (lent_at x)) _ refl g (decided-ends x.id t (keep_writes catalogue x.id t (lent_at x))))
+      base
+    where
+      ended : (l now : Lent) → l.here.bars ≡ x.bars → G now → Ends x.id t Committed true l now → K now
+      ended l now bs g e = stays (put_back (begin_step x) now) g refl (ap (λ (h : Here). h.bars) e.here ∙ bs) refl
+
   pub table : Table catalogue x given P
-  unfolding drop_view on_stale on_accept hold fix ask_again start_inviting accept grant resend_one inquire
+  unfolding drop_view on_stale on_accept hold fix ask_again start_inviting accept grant start_txn take_lock complete read_at write_at prepare_parts mark_calls resend_one inquire
   table = record {
-    sends_back = λ from m t. stays _ refl refl refl (b.sends_back from m t);
+    sends_back = λ from m t. stays _ (b.sends_back from m t) refl refl refl;
     asks_again = λ o ms all p. same o _ refl refl refl refl refl (λ q g. each _ q g) (b.asks_again o ms all p.base) p;
     drop_view = λ l e z p. gone (drop_view (put_back (begin_step x) l)) refl (b.drop_view l e z p.base);
     start_inviting = λ o s l p. gone _ (left_none o l) (b.start_inviting o s l p.base);
     accept = λ from id o c e l p. gone _ (left_none o l) (b.accept from id o c e l p.base);
-    accepted = λ from id c. stays _ refl refl refl (b.accepted from id c);
-    seen = λ from id promise c. stays _ refl refl refl (b.seen from id promise c);
+    accepted = λ from id c. stays _ (b.accepted from id c) refl refl refl;
+    seen = λ from id promise c. stays _ (b.seen from id promise c) refl refl refl;
     hold = λ from id members c e. record { base = b.hold from id members c e; unlisted = λ k u h none. Unlisted.joined (record { id = id; members = members }) refl (Joins.came from c e) };
-    heard = λ from view c e. stays _ refl refl refl (b.heard from view c e);
+    heard = λ from view c e. stays _ (b.heard from view c e) refl refl refl;
     fix = λ view c e. record { base = b.fix view c e; unlisted = λ k u h none. Unlisted.joined view refl (Joins.fixed c e) };
-    without_wait = λ id c i w. stays _ refl refl refl (b.without_wait id c i w);
-    probe = λ view c e. stays _ refl refl refl (b.probe view c e);
+    without_wait = λ id c i w. stays _ (b.without_wait id c i w) refl refl refl;
+    probe = λ view c e. stays _ (b.probe view c e) refl refl refl;
     answers_inviting = λ port c s p. same _ _ refl refl refl refl refl (λ r h. each _ r h) (b.answers_inviting port c s p.base) p;
     start_refresh = λ view rec o e h p. refreshes view rec o (b.start_refresh view rec o e h p.base) p;
     end_refresh = λ rec r own o e a d v p. finishes rec r own o e a d v (b.end_refresh rec r own o e a d v p.base) p;
-    keep_answer = λ from view rec stored r c e f g. first _ refl refl (λ q h. (with_answer rec from stored q, mapped_has (with_answer rec from stored) x.refresh q h, rec_same rec from stored q)) (b.keep_answer from view rec stored r c e f g);
-    grant_read = λ from txn view number rec stored c e n v f u. stays _ refl refl refl (b.grant_read from txn view number rec stored c e n v f u);
-    grant_write = λ from txn view number rec stored c e n v f u. stays _ refl refl refl (b.grant_write from txn view number rec stored c e n v f u);
-    vote_reading = λ from txn view number reads writes part c e n d f v a w. stays _ refl refl refl (b.vote_reading from txn view number reads writes part c e n d f v a w);
-    vote_writing = λ from txn view number reads writes part c e n d f v a w. stays _ refl refl refl (b.vote_writing from txn view number reads writes part c e n d f v a w);
+    keep_answer = λ from view rec stored r c e f g. first _ (b.keep_answer from view rec stored r c e f g) refl refl (λ q h. (with_answer rec from stored q, mapped_has (with_answer rec from stored) x.refresh q h, rec_same rec from stored q));
+    grant_read = λ from txn view number rec stored c e n v f u. stays _ (b.grant_read from txn view number rec stored c e n v f u) refl refl refl;
+    grant_write = λ from txn view number rec stored c e n v f u. stays _ (b.grant_write from txn view number rec stored c e n v f u) refl refl refl;
+    vote_reading = λ from txn view number reads writes part c e n d f v a w. stays _ (b.vote_reading from txn view number reads writes part c e n d f v a w) refl refl refl;
+    vote_writing = λ from txn view number reads writes part c e n d f v a w. stays _ (b.vote_writing from txn view number reads writes part c e n d f v a w) refl refl refl;
     end_here = λ from txn commit c. ends_here from txn commit (doubt_of txn x.doubts) (b.end_here from txn commit c);
     coordinator = record {
-      begin = λ port view e g u. stays _ refl refl refl (b.coordinator.begin port view e g u);
-      answers = λ words port why y. stays _ refl refl refl (b.coordinator.answers words port why y);
-      take_lock = λ t rec exclusive stored h i a v c. stays _ refl refl refl (b.coordinator.take_lock t rec exclusive stored h i a v c);
-      complete = λ t p deed l h g y e q. stays _ refl refl refl (b.coordinator.complete t p deed l h g y e q.base);
-      read_at = λ t p rec q h n r a w c o y. stays _ refl refl refl (b.coordinator.read_at t p rec q h n r a w c o y);
-      write_at = λ t p rec value l h n w a e o d y v q. stays _ refl refl refl (b.coordinator.write_at t p rec value l h n w a e o d y v q.base);
-      prepare_parts = λ t p h i g e. stays _ refl refl refl (b.coordinator.prepare_parts t p h i g e);
-      still_waits = λ t p from h e m f c. stays _ refl refl refl (b.coordinator.still_waits t p from h e m f c);
-      decide = λ t n d. stays _ refl refl refl (b.coordinator.decide t n d);
-      close = λ t why l n a z y q. stays _ refl refl refl (b.coordinator.close t why l n a z y q.base);
-      mark_calls = λ l c z q. stays _ refl refl refl (b.coordinator.mark_calls l c z q.base);
-      acknowledge = λ from txn c w. stays _ refl refl refl (b.coordinator.acknowledge from txn c w);
+      begin = λ port view e g u. quiet (lent_at x) _ (b.coordinator.begin port view e g u) refl refl starts;
+      answers = λ words port why y. quiet (lent_at x) _ (b.coordinator.answers words port why y) refl refl starts;
+      take_lock = λ t rec exclusive stored h i a v c. quiet (lent_at x) _ (b.coordinator.take_lock t rec exclusive stored h i a v c) refl refl starts;
+      complete = λ t p deed l h g y e q. quiet l _ (b.coordinator.complete t p deed l h g y e q.base) refl refl q;
+      read_at = λ t p rec q h n r a w c o y. quiet (lent_at x) _ (b.coordinator.read_at t p rec q h n r a w c o y) refl refl starts;
+      write_at = λ t p rec value l h n w a e o d y v q. quiet l _ (b.coordinator.write_at t p rec value l h n w a e o d y v q.base) refl refl q;
+      prepare_parts = λ t p h i g e. quiet (lent_at x) _ (b.coordinator.prepare_parts t p h i g e) refl refl starts;
+      still_waits = λ t p from h e m f c. quiet (lent_at x) _ (b.coordinator.still_waits t p from h e m f c) refl refl starts;
+      decide = λ t n d. decides t (b.coordinator.decide t n d);
+      close = λ t why l n a z y q. ends_one t why false l _ (b.coordinator.close t why l n a z y q.base) (close-ends x.id t why l) q;
+      mark_calls = λ l c z q. quiet l _ (b.coordinator.mark_calls l c z q.base) refl refl q;
+      acknowledge = λ from txn c w. quiet (lent_at x) _ (b.coordinator.acknowledge from txn c w) refl refl starts;
     };
     resend_one = λ d o c h p. same o _ refl refl refl refl refl (λ q g. each _ q g) (b.resend_one d o c h p.base) p;
   }
-
-  starts : P (begin_step x)
-  starts = stays (begin_step x) refl refl refl begun
 
 pub unlisting-step : (catalogue : Catalogue) (x : SiteState) (given : Input) → Table catalogue x given (Base catalogue x given) → Base catalogue x given (begin_step x) → Unlisting catalogue x given (step catalogue x given)
 unlisting-step catalogue x given b begun = step-keeps catalogue x given (Unlisting catalogue x given) (table catalogue x given b begun) (starts catalogue x given b begun)

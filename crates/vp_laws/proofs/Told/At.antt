@@ -19,7 +19,7 @@ use Rattle.vp_laws.proofs.Table.ToldLines.{Report, IsReported, Tells, IsUnheard}
 use Rattle.vp_laws.proofs.Lists.Members.{Has, has_none, has_first, has_more, filter_keeps, both_true, any_false, has_test}
 use Rattle.vp_model.proofs.SameTxn.{same_txn-is}
 use Rattle.vp_laws.proofs.Worlds.Scenes.{Scene, plain_at}
-use Rattle.vp_laws.proofs.Keeping.Stopping.{in_force_holder}
+use Rattle.vp_laws.proofs.Keeping.Holders.{holder_elsewhere}
 use Rattle.vp_laws.proofs.Invariant.Held.{holds_copy}
 use Rattle.vp_laws.proofs.Invariant.Names.{UsedTxn}
 use Rattle.vp_laws.proofs.Table.Calls.{IsCallOf, HasHolders}
@@ -126,11 +126,4 @@ first_of_some (x ∷ xs) q h = (x, refl)
 
 -- a record that may be used has a holder among the members
 pub has_holders : (catalogue : Catalogue) (w : Scene) (s : ℕ) (x : SiteState) → plain_at w s ≡ Some x → Known catalogue w → HasHolders catalogue x
-has_holders catalogue w s x up k rec usable none =
-    let members = members_in x.held in
-    let q = in_force_holder catalogue rec members usable in
-    let other : q.0 ≢ x.id = (λ z. not_copied rec x.copies none (holds_copy catalogue w s x up (k.views.site s x up).kept k.held rec (subst (Has (holders catalogue rec)) (z ∙ (k.views.site s x up).id) q.1))) in
-    first_of_some (other_holders catalogue x rec) q.0 (filter_keeps _ (holders catalogue rec) q.0 q.1 (both (has_test members q.0 q.2) (eq_not q.0 x.id other)))
-  where
-    both : {a b : Bool} → a ≡ true → b ≡ false → (a && not b) ≡ true
-    both e f = rw (e, f) refl
+has_holders catalogue w s x up k rec deed enough none = let q = holder_elsewhere catalogue w s x up k rec deed enough none in first_of_some (other_holders catalogue x rec) q.0 q.1

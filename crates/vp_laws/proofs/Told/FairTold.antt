@@ -22,7 +22,8 @@ use Rattle.vp_laws.proofs.Replies.FairAt.{FairAt}
 use Rattle.vp_laws.proofs.Replies.FairMoves.{Silent, step_fair, replies_justified, quiet_fair, same_fair}
 use Rattle.std.proofs.lemmas.Bool.{and_parts}
 use Rattle.std.specs.List.{list_all}
-use Rattle.vp_laws.proofs.Order.Invariant.{invariant_last}
+use Rattle.vp_laws.proofs.Order.Invariant.{invariant_last, invariant_crashes, invariant_restarts}
+use Rattle.vp_laws.specs.Catalogues.{IsWhole}
 use Rattle.vp_laws.proofs.Table.ToldLines.{lines_in, lines_last}
 use Rattle.vp_laws.proofs.Told.At.{ToldAt}
 use Rattle.vp_laws.proofs.Told.Runs.{RunTold, start_told, one_step-told, is_step_of}
@@ -81,13 +82,13 @@ justifies catalogue past number e w m told untold fair (Occurs.crashes s same no
     let q = crash_quiet catalogue (scene_of w) s in
     let down = crashed (scene_of w) s in
     subst (Justifies catalogue past m0) (sym same)
-    (silent catalogue past m0 down none (quiet_untold catalogue (scene_of w) down (lines_in past) s q untold) (quiet_fair catalogue (scene_of w) down past (m0 ∷ []) s q ((invariant_last catalogue).crashes (scene_of w) s fair.inv) (none_in m0 none) fair))
+    (silent catalogue past m0 down none (quiet_untold catalogue (scene_of w) down (lines_in past) s q untold) (quiet_fair catalogue (scene_of w) down past (m0 ∷ []) s q (invariant_crashes catalogue (scene_of w) s fair.inv) (none_in m0 none) fair))
 justifies catalogue past number e w m told untold fair (Occurs.restarts s place at down id same none) =
     let m0 = moment number w e m in
     let q = restart_quiet catalogue (scene_of w) s place at id in
     let up = restarted catalogue (scene_of w) s in
     subst (Justifies catalogue past m0) (sym same)
-    (silent catalogue past m0 up none (quiet_untold catalogue (scene_of w) up (lines_in past) s q untold) (quiet_fair catalogue (scene_of w) up past (m0 ∷ []) s q ((invariant_last catalogue).restarts (scene_of w) s place at down id fair.inv) (none_in m0 none) fair))
+    (silent catalogue past m0 up none (quiet_untold catalogue (scene_of w) up (lines_in past) s q untold) (quiet_fair catalogue (scene_of w) up past (m0 ∷ []) s q (invariant_restarts catalogue (scene_of w) s place at down id fair.inv) (none_in m0 none) fair))
 justifies catalogue past number e w m told untold fair (Occurs.acts s x given v same up arrives gives is) =
     subst (λ (m : Moved). Justifies catalogue past (moment number w e m) (scene_of m.world)) (sym is) (stepped catalogue past number e w v s x given same up arrives gives told untold fair)
 
@@ -111,10 +112,11 @@ one_step-fair catalogue number e run h =
       justified = all_justified-last catalogue [] run.moments m0 h.justified (all_from (justified catalogue (run.moments ++ m0 ∷ []) m0) (answers_in m0.line) j.answers);
     }
 
-start_fair : (catalogue : Catalogue) → FairAt catalogue (scene_of (start_world catalogue)) []
-start_fair catalogue = record {
-  inv = (invariant_last catalogue).starts;
+start_fair : (catalogue : Catalogue) → IsWhole catalogue → FairAt catalogue (scene_of (start_world catalogue)) []
+start_fair catalogue whole = record {
+  inv = (invariant_last catalogue whole).starts;
   told = λ m h. absurd (has_none m h);
+  barred = λ m h. absurd (has_none m h);
   sent = λ m h. absurd (start_sent catalogue m h);
   live = λ s x t h k. absurd (started_idle catalogue s x t h k);
   finished = λ s x f h k. absurd (no_finished catalogue s (empty_durable (start_copies catalogue s)) f (subst (λ (x : SiteState). Has x.finished f) (sym (started catalogue s x h)) k));
@@ -123,10 +125,10 @@ start_fair catalogue = record {
 start_untold : (catalogue : Catalogue) → UntoldAt (scene_of (start_world catalogue)) []
 start_untold catalogue s x f h k = absurd (no_finished catalogue s (empty_durable (start_copies catalogue s)) f (subst (λ (x : SiteState). Has x.finished f) (sym (started catalogue s x h)) k))
 
-pub refusals_justified : (s : Schedule) → RefusalsAreJustified s
-refusals_justified s = (run-keeps s.catalogue (FairHold s.catalogue) (record {
+pub refusals_justified : (s : Schedule) → IsWhole s.catalogue → RefusalsAreJustified s
+refusals_justified s whole = (run-keeps s.catalogue (FairHold s.catalogue) (record {
   starts = record {
-    at = start_fair s.catalogue;
+    at = start_fair s.catalogue whole;
     told = start_told s.catalogue;
     untold = start_untold s.catalogue;
     justified = refl;

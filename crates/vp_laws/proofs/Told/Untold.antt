@@ -236,6 +236,7 @@ module _ (catalogue : Catalogue) (world : WorldState) (lines : List Line) (m0 : 
   closed_untold t why n (Why.held_there p from name exclusive holder a q op) above = tt
   closed_untold t why n (Why.other_view p from now a came) above =
       beyond t n a.live (above a.live) (no_operation (λ v q deed l live completes. completes_unrefused catalogue x given v q deed l from t.txn p.number _ completes came) t.txn)
+  closed_untold t why n (Why.barred_there p from name exclusive inside total a came op) above = tt
   closed_untold t why n (Why.left live gone) above =
       beyond t n live (above live) (no_operation (λ v q deed l there completes. left_holds t live gone (completes_holds catalogue x given v q deed l completes)) t.txn)
   closed_untold t why n (Why.timed_out missing live) above = tt

@@ -1,17 +1,19 @@
 -- What the copies of a majority say of the one copy.
-use Rattle.std.proofs.Common.{◌≡◌, ◌∙◌, ap, sym, subst, ℕ, true, List, refl}
+use Rattle.std.proofs.Common.{◌≡◌, ◌∙◌, ap, sym, subst, ℕ, suc, Bool, true, List, refl, arith}
 use Rattle.std.specs.Prelude.{Option, Some, None, option_map, slice_get}
 use Rattle.std.specs.List.{Contains}
 use Rattle.vp_model.specs.Types.{View, Commit, Stored, Doubt}
-use Rattle.vp_model.specs.Words.{keys, value_at, opening}
-use Rattle.vp_model.specs.Catalogue.{Catalogue, holders, accessible, start_values, start_copies}
+use Rattle.vp_model.specs.Words.{keys, value_at, has, opening}
+use Rattle.vp_model.specs.Transactions.{last_changes}
+use Rattle.vp_model.specs.Catalogue.{Catalogue, holders, table_or, accessible_by, start_values, start_copies}
 use Rattle.vp_model.specs.Headline.{has_value}
 use Rattle.vp_model.specs.OneCopy.{Values, serial, order}
 use Rattle.vp_model.specs.World.{Place, WorldState, Moment, Schedule, place_of, run_of, moments_of}
+use Rattle.vp_laws.specs.Catalogues.{IsWhole}
 use Rattle.vp_laws.specs.Audits.{HoldersHaveCopies, MajoritiesTell}
 use Rattle.vp_laws.specs.Entries.{doubts_in}
 use Rattle.vp_laws.specs.Sites.{copies_in}
-use Rattle.vp_laws.proofs.Lists.Members.{Has, has_of, contains}
+use Rattle.vp_laws.proofs.Lists.Members.{Has, has_of, has_test, has_from_test, contains}
 use Rattle.vp_laws.proofs.Lists.Numbers.{from_first}
 use Rattle.vp_laws.proofs.Lists.Pairs.{not_copied}
 use Rattle.vp_laws.proofs.Lists.StartCopies.{places}
@@ -26,10 +28,16 @@ use Rattle.vp_laws.proofs.Journal.Order.{order_has}
 use Rattle.vp_laws.proofs.Journal.Play.{same_content-self}
 use Rattle.vp_laws.proofs.Journal.Playing.{serial_value}
 use Rattle.vp_laws.proofs.Journal.UpTo.{up_to_from}
-use Rattle.vp_laws.proofs.Journal.ValuesAfter.{Content, content_of, started, Wrote, writes_over, value_in, value_up_to, leaves_value}
-use Rattle.vp_laws.proofs.Keeping.Stopping.{shared_holder}
+use Rattle.vp_laws.proofs.Journal.ValuesAfter.{Content, content_of, started, Wrote, writes_over, value_in, value_after, value_up_to, leaves_value}
+use Rattle.vp_laws.proofs.Copies.Force.{none_between}
+use Rattle.vp_laws.proofs.Copies.Weights.{weighed_wrote, known_weighed, changed_usable}
+use Rattle.vp_laws.proofs.Journal.TablesAfter.{Table, given_by}
+use Rattle.vp_laws.proofs.Journal.TableContents.{content_table}
+use Rattle.vp_laws.proofs.Invariant.Entered.{AgreedAs}
+use Rattle.vp_laws.proofs.Invariant.Known.{Known}
+use Rattle.vp_laws.proofs.Keeping.Known.{known_last}
 use Rattle.vp_laws.proofs.Copies.Brought.{doubt_on}
-use Rattle.vp_laws.proofs.Copies.Facts.{entry_closes, still_below}
+use Rattle.vp_laws.proofs.Copies.Facts.{still_below}
 use Rattle.vp_laws.proofs.Order.Invariant.{invariant_last}
 
 -- a site of the world has a copy of what it holds
@@ -51,21 +59,40 @@ member_place catalogue w views q v agreed member above = at_place (place_of q w.
     at_place None e = absurd (not_both opening v.id above (subst (λ (o : Option Place). AtMost v.id (kept_in o).promise) e ((views.view v agreed).members q member)))
     at_place (Some p) e = (p, e)
 
-module _ (catalogue : Catalogue) (w : Scene) (inv : Invariant catalogue w) (sites : List ℕ) (rec s : ℕ) (copy : Stored) (majority : accessible catalogue rec sites ≡ true) (certain : (q : ℕ) (u : Doubt) → Has sites q → Has (kept_at w q).doubts u → Has (keys u.writes) rec → ⊥) (here : Has sites s) (is : value_at rec (kept_at w s).copies ≡ Some copy) (newest : (q : ℕ) (c : Stored) → Has sites q → value_at rec (kept_at w q).copies ≡ Some c → AtMost c.date copy.date) where
+module _ (catalogue : Catalogue) (w : Scene) (inv : Invariant catalogue w) (sites : List ℕ) (rec s : ℕ) (copy : Stored) (majority : accessible_by (table_or catalogue rec copy.table) sites ≡ true) (certain : (q : ℕ) (u : Doubt) → Has sites q → Has (kept_at w q).doubts u → Has (keys u.writes) rec → ⊥) (here : Has sites s) (is : value_at rec (kept_at w s).copies ≡ Some copy) (newest : (q : ℕ) (c : Stored) → Has sites q → value_at rec (kept_at w q).copies ≡ Some c → AtMost c.date copy.date) where
   -- an entry of a later view would be in doubt at a site that is in its view and among these
+  missed : (e : Commit) (v : View) (q : ℕ) → Has w.journal e → Wrote e rec → AgreedAs w e.view v → Precedes copy.date e.view → Has (holders catalogue rec) q → Has v.members q → Has sites q → ⊥
+  missed e v q h wrote agreed above holder member among =
+      let p = member_place catalogue w inv.known.views q v agreed.0 member (subst (Precedes opening) (sym agreed.1) (still_below opening copy.date e.view (opening_least copy.date) above)) in
+      let c = held_copy catalogue w inv.known.held q rec p.0 p.1 holder in
+      let u = inv.copies.above q rec c.0 e v c.1 h wrote (still_below c.0.date copy.date e.view (newest q c.0 among c.1) above) agreed member in
+      certain q u.0 among u.1 (doubt_on catalogue w inv.known.shares e q rec u.0 h wrote holder u.1 u.2)
+
+  value_then : value_after catalogue w.journal copy.date rec ≡ Some (content_of copy)
+  value_then = inv.copies.value s rec copy is (λ d on. certain s d here on.0 on.1)
+
+  abbrev did : Commit → Bool
+  did e = has (keys (last_changes e)) rec
+
+  -- above all entries these sites would be a view with more than half by the table that the date of the copy leaves
   none_above : (e : Commit) → Has w.journal e → Precedes copy.date e.view → Wrote e rec → ⊥
   none_above e h above wrote =
-      let v = inv.known.led.entry e h in
-      let opened = entry_closes catalogue w inv.known inv.refresh e rec v.0 h wrote (v.1, v.2) in
-      let q = shared_holder catalogue rec sites v.0.members majority opened.usable in
-      let p = member_place catalogue w inv.known.views q.0 v.0 v.1 q.3 (subst (Precedes opening) (sym v.2) (still_below opening copy.date e.view (opening_least copy.date) above)) in
-      let c = held_copy catalogue w inv.known.held q.0 rec p.0 p.1 q.1 in
-      let u = inv.copies.above q.0 rec c.0 e v.0 c.1 h wrote (still_below c.0.date copy.date e.view (newest q.0 c.0 q.2 c.1) above) (v.1, v.2) q.3 in
-      certain q.0 u.0 q.2 u.1 (doubt_on catalogue w inv.known.shares e q.0 rec u.0 h wrote q.1 u.1 u.2)
+      none_between given_by rec catalogue w (known_weighed catalogue w inv.known inv.refresh rec) did
+      (λ f gave. has_test (keys (last_changes f)) rec (weighed_wrote rec f gave))
+      (λ f v there was agreed. changed_usable catalogue w inv.known.led inv.refresh.entry inv.refresh.weighed rec f v there (has_from_test (keys (last_changes f)) rec was) agreed)
+      copy.date all (subst (λ (t : Table). accessible_by t sites ≡ true) (content_table catalogue rec w.journal copy.date (content_of copy) value_then) majority)
+      (λ f v q there was agreed later low holder member among. missed f v q there (has_from_test (keys (last_changes f)) rec was) agreed later holder member among)
+      e h (has_test (keys (last_changes e)) rec wrote) above higher
+    where
+      all : View
+      all = record { id = record e.view { number = suc e.view.number }; members = sites }
+
+      higher : Precedes e.view all.id
+      higher = omega arith
 
   -- so the content of the copy's date is the last one
   value_last : option_map (λ start. value_in rec (started start) (order w.journal)) (slice_get (start_values catalogue) rec) ≡ Some (content_of copy)
-  value_last = at_start (slice_get (start_values catalogue) rec) ∙ inv.copies.value s rec copy is (λ d on. certain s d here on.0 on.1)
+  value_last = at_start (slice_get (start_values catalogue) rec) ∙ value_then
     where
       at_start : (o : Option (Option (List ℕ))) → option_map (λ start. value_in rec (started start) (order w.journal)) o ≡ option_map (λ start. value_up_to rec (started start) w.journal copy.date) o
       at_start None = refl
@@ -102,20 +129,20 @@ world_told catalogue w inv sites rec s copy majority certain here is newest =
     (subst (λ (cs : List (ℕ × Stored)). value_at rec cs ≡ Some copy) (copies_same (place_of s w.places)) is)
     (λ q c there e. up_to_from copy.date c.date (newest q c (contains sites q there) (subst (λ (cs : List (ℕ × Stored)). value_at rec cs ≡ Some c) (sym (copies_same (place_of q w.places))) e)))
 
-pub told_last : (s : Schedule) → MajoritiesTell s.catalogue (run_of s).world
-told_last s = world_told s.catalogue (run_of s).world (in_last s.catalogue (Invariant s.catalogue) (invariant_last s.catalogue) s.events)
+pub told_last : (s : Schedule) → IsWhole s.catalogue → MajoritiesTell s.catalogue (run_of s).world
+told_last s whole = world_told s.catalogue (run_of s).world (in_last s.catalogue (Invariant s.catalogue) (invariant_last s.catalogue whole) s.events)
 
-pub told_each : (s : Schedule) (m : Moment) → Contains (moments_of s) m → MajoritiesTell s.catalogue m.before × MajoritiesTell s.catalogue m.after
-told_each s m h =
-    let both = in_each s.catalogue (Invariant s.catalogue) (invariant_last s.catalogue) s.events m (has_of (moments_of s) m h) in
+pub told_each : (s : Schedule) → IsWhole s.catalogue → (m : Moment) → Contains (moments_of s) m → MajoritiesTell s.catalogue m.before × MajoritiesTell s.catalogue m.after
+told_each s whole m h =
+    let both = in_each s.catalogue (Invariant s.catalogue) (invariant_last s.catalogue whole) s.events m (has_of (moments_of s) m h) in
     (world_told s.catalogue m.before both.0, world_told s.catalogue m.after both.1)
 
-world_copied : (catalogue : Catalogue) (w : WorldState) → Invariant catalogue (scene_of w) → HoldersHaveCopies catalogue w
-world_copied catalogue w inv s rec place e h =
-    let c = held_copy catalogue (scene_of w) inv.known.held s rec place e (has_of _ s h) in
+world_copied : (catalogue : Catalogue) (w : WorldState) → Known catalogue (scene_of w) → HoldersHaveCopies catalogue w
+world_copied catalogue w k s rec place e h =
+    let c = held_copy catalogue (scene_of w) k.held s rec place e (has_of _ s h) in
     (c.0, subst (λ (o : Option Place). value_at rec (kept_in o).copies ≡ Some c.0) e c.1)
 
 pub copied_each : (s : Schedule) (m : Moment) → Contains (moments_of s) m → HoldersHaveCopies s.catalogue m.before × HoldersHaveCopies s.catalogue m.after
 copied_each s m h =
-    let both = in_each s.catalogue (Invariant s.catalogue) (invariant_last s.catalogue) s.events m (has_of (moments_of s) m h) in
+    let both = in_each s.catalogue (Known s.catalogue) (known_last s.catalogue) s.events m (has_of (moments_of s) m h) in
     (world_copied s.catalogue m.before both.0, world_copied s.catalogue m.after both.1)

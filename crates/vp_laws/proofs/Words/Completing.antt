@@ -4,7 +4,7 @@ use Rattle.std.specs.Prelude.{Option, Some, None, ◌==◌, ◌&&◌, not, nat_l
 use Rattle.std.specs.List.{list_any}
 use Rattle.std.proofs.lemmas.Bool.Decides.{nat_tests}
 use Rattle.std.proofs.lemmas.Bool.{eq-eqb}
-use Rattle.vp_model.specs.Types.{TxnId, Call, Stored, Owner, Lock, Effects, Pending, Live}
+use Rattle.vp_model.specs.Types.{TxnId, View, Call, Stored, Owner, Lock, Effects, Pending, Live}
 use Rattle.vp_base.specs.declared.site.Ending.TheVariants.{Committed}
 use Rattle.vp_model.specs.Types.answer
 use Rattle.vp_model.specs.Types.call
@@ -12,11 +12,11 @@ use Rattle.vp_model.specs.Types.input
 use Rattle.vp_model.specs.Types.op
 use Rattle.vp_model.specs.Types.owner
 use Rattle.vp_model.specs.Words.{same_txn, same_owner, has, is_empty, value_at, keys}
-use Rattle.vp_model.specs.Catalogue.{Catalogue}
+use Rattle.vp_model.specs.Catalogue.{Catalogue, holders}
 use Rattle.vp_model.specs.Locks.{conflicting, conflict, least_owner}
 use Rattle.vp_model.specs.Site.{SiteState, Lent}
 use Rattle.vp_model.specs.Transactions.{entry_of, deed_answer, Deed, live_of, last_writes, with_pending_reply, finish, keep_writes, decided, decide, complete}
-use Rattle.vp_model.specs.Refresh.{is_open}
+use Rattle.vp_model.specs.Refresh.{is_open, members_in}
 use Rattle.vp_model.specs.Calls.{take_lock, lock_here, with_record, read, new_call, live_call, on_txn_call, own_call, on_call}
 use Rattle.vp_model.specs.Answers.{with_missing, voted, on_vote, on_answer}
 use Rattle.vp_model.specs.Messages.{on_message}
@@ -26,16 +26,18 @@ use Rattle.vp_model.specs.World.{Schedule, run_of}
 use Rattle.vp_laws.specs.Votes.{is_commit}
 use Rattle.vp_laws.specs.Completeness.{LastVotesCommit, IsNextOperation, ReadableCopiesAreRead}
 use Rattle.vp_laws.proofs.Journal.Changed.{operation_changed}
-use Rattle.vp_laws.proofs.Lists.Members.{Has, has_of, contains, has_none, has_first, has_more, has_cons, any_false, either_false, both_true, not_true, has_test}
+use Rattle.vp_laws.proofs.Lists.Members.{Has, has_of, contains, has_none, has_first, has_more, has_cons, any_false, any_of, either_false, both_true, not_true, has_test}
 use Rattle.vp_model.proofs.SameTxn.{same_txn-is, same_txn-self}
 use Rattle.vp_laws.proofs.Lists.Names.{Apart}
 use Rattle.vp_laws.proofs.Lists.Changes.{mapped_has}
 use Rattle.vp_laws.proofs.Lists.LockTables.{HasLock}
 use Rattle.vp_laws.proofs.Moves.Frames.{decided-commits, decide-cases}
+use Rattle.vp_laws.proofs.Moves.Coordinator.{unbarred}
 use Rattle.vp_laws.proofs.Moves.Table.{lent_at}
 use Rattle.vp_laws.proofs.Table.Copies.{value_pair}
 use Rattle.vp_laws.proofs.Worlds.Scenes.{scene_of}
 use Rattle.vp_laws.proofs.Worlds.Events.{in_last}
+use Rattle.vp_laws.proofs.Invariant.Held.{copy_held}
 use Rattle.vp_laws.proofs.Invariant.Known.{Known}
 use Rattle.vp_laws.proofs.Lists.Pairs.{last_written, value_key}
 use Rattle.vp_laws.proofs.Keeping.Known.{known_last}
@@ -124,16 +126,29 @@ module _ (catalogue : Catalogue) (x : SiteState) (t : Live) (port number rec : �
   many : nat_le 64 (length t.answers) ≡ false
   many = let e = next.few in grind (arith, nat_tests, e)
 
-  read_answers : is_open catalogue x rec ≡ true → value_at rec (last_writes t.ops) ≡ None → value_at rec x.copies ≡ Some copy → conflict rec false t.txn x.locks ≡ None → (step catalogue x (input.Call port (call.Read t.txn number name))).effects.replies ≡ (record { to = port; answer = deed_answer t.txn number (Deed.operates (op.Read rec copy.value)) }) ∷ []
+  read_answers : value_at rec x.bars ≡ None → list_any (has (members_in x.held)) (holders catalogue rec) ≡ true → value_at rec (last_writes t.ops) ≡ None → value_at rec x.copies ≡ Some copy → conflict rec false t.txn x.locks ≡ None → (step catalogue x (input.Call port (call.Read t.txn number name))).effects.replies ≡ (record { to = port; answer = deed_answer t.txn number (Deed.operates (op.Read rec copy.value)) }) ∷ []
   unfolding step on_input on_call own_call on_txn_call live_call new_call with_record read lock_here take_lock complete
-  read_answers usable unwritten copied free = rw (live, old, skips, next.idle, next.found, many, usable, unwritten, copied, free) refl
+  read_answers open_bar held unwritten copied free = rw (live, old, skips, next.idle, next.found, many, open_bar, held, unwritten, copied, free) refl
 
 pub readable_copies_are_read : (s : Schedule) → ReadableCopiesAreRead s.catalogue (run_of s).world
 readable_copies_are_read s site port number rec name x t copy up there next copied readable =
-    read_answers s.catalogue x t port number rec name copy (live_found x.live ((known_now s).votes.site site x up) t (has_of x.live t there)) next parts.0 unwritten copied (ap least_owner (nothing_conflicts rec (owner.Txn t.txn) x.locks parts.1))
+    read_answers s.catalogue x t port number rec name copy (live_found x.live ((known_now s).votes.site site x up) t (has_of x.live t there)) next (unbarred x rec parts.0) a_holder unwritten copied (ap least_owner (nothing_conflicts rec (owner.Txn t.txn) x.locks parts.1))
   where
-    parts : (is_open s.catalogue x rec ≡ true) × (list_any (is_locked rec) x.locks ≡ false)
-    parts = let q = both_true (is_open s.catalogue x rec) (not (list_any (is_locked rec) x.locks)) readable in (q.0, not_true (list_any (is_locked rec) x.locks) q.1)
+    parts : (is_open x rec ≡ true) × (list_any (is_locked rec) x.locks ≡ false)
+    parts = let q = both_true (is_open x rec) (not (list_any (is_locked rec) x.locks)) readable in (q.0, not_true (list_any (is_locked rec) x.locks) q.1)
+
+    live : Has x.live t
+    live = has_of x.live t there
+
+    -- the site itself is a holder in the view
+    a_holder : list_any (has (members_in x.held)) (holders s.catalogue rec) ≡ true
+    a_holder =
+        let k = known_now s in
+        let of = (k.led.site site x up).live t live in
+        let own = k.views.site site x up in
+        let member = subst (Has of.0.members) own.id (own.tidy.held of.0 of.1).3 in
+        any_of (has (members_in x.held)) (holders s.catalogue rec) site (copy_held s.catalogue (scene_of (run_of s).world) site x up own.kept k.held rec (copied_key rec x.copies copy copied))
+        (subst (λ (held : Option View). has (members_in held) site ≡ true) (sym of.1) (has_test of.0.members site member))
 
     locked : HasLock rec true (owner.Txn t.txn) x.locks → ⊥
     locked l = shut rec l.lock l.on (l.strong refl) (any_false (is_locked rec) x.locks parts.1 l.lock l.has)

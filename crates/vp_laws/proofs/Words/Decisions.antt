@@ -10,6 +10,7 @@ use Rattle.vp_model.specs.Site.{SiteState}
 use Rattle.vp_model.specs.Step.{step}
 use Rattle.vp_model.specs.World.{WorldState, Schedule, Moment, site_of, moments_of, journal_of}
 use Rattle.vp_model.specs.Headline.{has_entry}
+use Rattle.vp_laws.specs.Catalogues.{IsWhole}
 use Rattle.vp_laws.specs.Decisions.{MayCome, Forces, DecisionsAgree}
 use Rattle.vp_laws.proofs.Lists.Members.{Has, has_of, contains}
 use Rattle.vp_laws.proofs.Moves.LocalViews.{letter}
@@ -52,10 +53,10 @@ doubts_end catalogue x given d h = ⊎_elim
     (λ (ends : IsForced (step catalogue x given) d.txn). inr (ends.0, contains _ _ ends.1))
     (doubts-step catalogue x given d (has_of _ d h))
 
-pub decisions_agreed : (s : Schedule) (m : Moment) → Contains (moments_of s) m → DecisionsAgree s.catalogue (journal_of s) m.before
-decisions_agreed s m there site x given up may =
+pub decisions_agreed : (s : Schedule) → IsWhole s.catalogue → (m : Moment) → Contains (moments_of s) m → DecisionsAgree s.catalogue (journal_of s) m.before
+decisions_agreed s whole m there site x given up may =
     let h = has_of (moments_of s) m there in
-    let good = in_each s.catalogue (Invariant s.catalogue) (invariant_last s.catalogue) s.events m h in
+    let good = in_each s.catalogue (Invariant s.catalogue) (invariant_last s.catalogue whole) s.events m h in
     let k = good.0.known in
     record {
       ends = doubts_end s.catalogue x given;
@@ -63,7 +64,7 @@ decisions_agreed s m there site x given up may =
           (once_each s.catalogue (scene_of m.before) site x given (k.views.site site x up).kept k.ends k.shares (λ from letter comes. sent_to m.before site given from letter may comes));
       commits = λ txn forced. commit_entered s.catalogue m.before k site x given txn up may forced;
       aborts = λ txn forced.
-          let is = moment_of s.catalogue (Invariant s.catalogue) (invariant_last s.catalogue) (λ w. EndedAt w txn) (ended_keeps s.catalogue txn) s.events m h in
+          let is = moment_of s.catalogue (Invariant s.catalogue) (invariant_last s.catalogue whole) (λ w. EndedAt w txn) (ended_keeps s.catalogue txn) s.events m h in
           let ended = ended_keeps s.catalogue txn (scene_of m.before) m.line.shown (scene_of m.after) is good.0 good.1 (abort_ended s.catalogue m.before k site x given txn up may forced) in
-          entry_none (journal_of s) txn (later_on s.catalogue (Invariant s.catalogue) (invariant_last s.catalogue) (λ w. EndedAt w txn) (ended_keeps s.catalogue txn) s.events m h ended).none;
+          entry_none (journal_of s) txn (later_on s.catalogue (Invariant s.catalogue) (invariant_last s.catalogue whole) (λ w. EndedAt w txn) (ended_keeps s.catalogue txn) s.events m h ended).none;
     }

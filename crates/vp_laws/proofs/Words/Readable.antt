@@ -1,7 +1,7 @@
 -- The laws on one copy in the words of the contracts: the entries are a serial run, and each copy that may be read has its content.
 use Rattle.std.proofs.Common.{◌≡◌, ◌∙◌, ap, sym, subst, ℕ, Bool, true, false, cond, List, [], ◌∷◌, map, refl, ⊎_elim}
 use Rattle.std.specs.Prelude.{option_map, Option, Some, None, IsSome, IsTrue, find, option_and_then, slice_get, ◌==◌, not}
-use Rattle.std.specs.List.{list_any}
+use Rattle.std.specs.List.{list_any, list_all}
 use Rattle.std.specs.Option.{option_map_or}
 use Rattle.std.proofs.lemmas.Bool.{eq-eqb, eqb-true}
 use Rattle.std.proofs.lemmas.Slice.Eq.{bytes_eq-Decides}
@@ -16,7 +16,7 @@ use Rattle.vp_model.specs.Site.{SiteState}
 use Rattle.vp_model.specs.Step.{durable_of}
 use Rattle.vp_model.specs.World.{Place, WorldState, Moment, Schedule, place_of, start_place, start_world, moments_of, run_of}
 use Rattle.vp_model.specs.Headline.{IsSerial, is_locked, is_readable, has_value, copies_true_in, copies_true_at, copies_true, CopiesAreTrue}
-use Rattle.vp_laws.specs.Catalogues.{AreApart}
+use Rattle.vp_laws.specs.Catalogues.{AreApart, IsWhole}
 use Rattle.vp_laws.proofs.Lists.Members.{Has, contains, has_none, has_cons, any_false, both_true, not_true}
 use Rattle.vp_laws.proofs.Lists.Changes.{mapped_has, all_from}
 use Rattle.vp_laws.proofs.Lists.Views.{AtMost-along}
@@ -34,8 +34,8 @@ use Rattle.vp_laws.proofs.Order.Invariant.{invariant_last}
 use Rattle.vp_laws.proofs.Lists.Pairs.{Differ}
 use Rattle.vp_laws.proofs.Lists.Numbers.{unequal}
 
-pub serial_played : (s : Schedule) → IsSerial s
-serial_played s = let q = (in_last s.catalogue (Invariant s.catalogue) (invariant_last s.catalogue) s.events).order.serial in is_there (serial (start_values s.catalogue) (order (run_of s).world.journal)) q.0 q.1
+pub serial_played : (s : Schedule) → IsWhole s.catalogue → IsSerial s
+serial_played s whole = let q = (in_last s.catalogue (Invariant s.catalogue) (invariant_last s.catalogue whole) s.events).order.serial in is_there (serial (start_values s.catalogue) (order (run_of s).world.journal)) q.0 q.1
   where
     is_there : (o : Option Values) (m : Values) → o ≡ Some m → IsSome o
     is_there o m e = rw e refl
@@ -57,7 +57,7 @@ module _ (catalogue : Catalogue) (w : WorldState) (inv : Invariant catalogue (sc
       let z : is_locked rec a ≡ true = rw (e, strong) refl in cc
 
   -- it has the content that the entries of the held view and all lower ones leave
-  pub readable_content : (rec : ℕ) (stored : Stored) → Has x.copies (rec, stored) → is_open catalogue x rec ≡ true → list_any (is_locked rec) x.locks ≡ false → value_after catalogue w.journal v.id rec ≡ Some (content_of stored)
+  pub readable_content : (rec : ℕ) (stored : Stored) → Has x.copies (rec, stored) → is_open x rec ≡ true → list_any (is_locked rec) x.locks ≡ false → value_after catalogue w.journal v.id rec ≡ Some (content_of stored)
   readable_content rec stored h usable none =
       usable_value catalogue (scene_of w) k.shares inv.copies s rec x v stored up kept held usable (unlisted_none rec x.refresh unlisted)
       (copy_value catalogue (scene_of w) s x up kept k.held rec stored h) ((k.views.site s x up).held v held) (subst (Has v.members) (k.views.site s x up).id ((k.views.site s x up).tidy.held v held).3)
@@ -76,17 +76,17 @@ module _ (catalogue : Catalogue) (w : WorldState) (inv : Invariant catalogue (sc
           let lock = (k.guards.site s x up).doubted u rec (subst (λ (d : DurableState). Has d.doubts u) (sym (k.views.site s x up).kept) there) on in
           unlocked rec lock.lock none lock.has lock.on (lock.strong refl)
 
-  readable_value : (rec : ℕ) (stored : Stored) → Has x.copies (rec, stored) → is_open catalogue x rec ≡ true → list_any (is_locked rec) x.locks ≡ false → slice_get one_copy.0 rec ≡ Some stored.value
+  readable_value : (rec : ℕ) (stored : Stored) → Has x.copies (rec, stored) → is_open x rec ≡ true → list_any (is_locked rec) x.locks ≡ false → slice_get one_copy.0 rec ≡ Some stored.value
   readable_value rec stored h usable none = content_value catalogue w.journal v.id one_copy.0 rec one_copy.1 ∙ ap (option_map (λ (c : Content). c.value)) (readable_content rec stored h usable none)
 
   same_bytes : (value : Option (List ℕ)) → same_content value value ≡ true
   same_bytes None = refl
   same_bytes (Some value) = (bytes_eq-Decides value value).1 refl
 
-  copy_true : (copy : ℕ × Stored) → Has x.copies copy → (if_readable : Bool) → is_readable catalogue x copy.0 ≡ if_readable → cond if_readable (has_value (content (start_values catalogue) w.journal v.id) copy.0 copy.1.value) true ≡ true
+  copy_true : (copy : ℕ × Stored) → Has x.copies copy → (if_readable : Bool) → is_readable x copy.0 ≡ if_readable → cond if_readable (has_value (content (start_values catalogue) w.journal v.id) copy.0 copy.1.value) true ≡ true
   copy_true copy h false e = refl
   copy_true copy h true e =
-      let t = both_true (is_open catalogue x copy.0) (not (list_any (is_locked copy.0) x.locks)) e in
+      let t = both_true (is_open x copy.0) (not (list_any (is_locked copy.0) x.locks)) e in
       let value = readable_value copy.0 copy.1 h t.0 (not_true (list_any (is_locked copy.0) x.locks) t.1) in
       has_it (content (start_values catalogue) w.journal v.id) one_copy.0 copy.0 copy.1.value one_copy.1 value
     where
@@ -94,7 +94,7 @@ module _ (catalogue : Catalogue) (w : WorldState) (inv : Invariant catalogue (sc
       has_it o m rec value e f = rw (e, f) (same_bytes value)
 
   copies_true_here : copies_true_in catalogue w.journal x v ≡ true
-  copies_true_here = all_from _ x.copies (λ copy h. copy_true copy h (is_readable catalogue x copy.0) refl)
+  copies_true_here = all_from _ x.copies (λ copy h. copy_true copy h (is_readable x copy.0) refl)
 
 site_true : (catalogue : Catalogue) (w : WorldState) → Invariant catalogue (scene_of w) → (s : ℕ) (x : SiteState) → plain_at (scene_of w) s ≡ Some x → copies_true_at catalogue w.journal x ≡ true
 site_true catalogue w inv s x up = go x.held refl
@@ -104,7 +104,7 @@ site_true catalogue w inv s x up = go x.held refl
     go (Some v) e = copies_true_here catalogue w inv s x up v e
 
 -- the places of a world are those of the catalogue's sites
-abbrev Places : Catalogue → Scene → Type 0
+abbrev pub Places : Catalogue → Scene → Type 0
 Places catalogue w = map (λ (p : Place). p.id) w.places ≡ sites_of catalogue
 
 ids_changed : (test : Place → Bool) (f : Place → Place) (places : List Place) → ((p : Place) → (f p).id ≡ p.id) → map (λ (p : Place). p.id) (change_first test f places) ≡ map (λ (p : Place). p.id) places
@@ -119,7 +119,7 @@ start_ids : (catalogue : Catalogue) (sites : List ℕ) → map (λ (p : Place). 
 start_ids catalogue [] = refl
 start_ids catalogue (n ∷ sites) = ap (λ (ns : List ℕ). n ∷ ns) (start_ids catalogue sites)
 
-places_last : (catalogue : Catalogue) → Lasts catalogue (Places catalogue)
+pub places_last : (catalogue : Catalogue) → Lasts catalogue (Places catalogue)
 unfolding start_world
 places_last catalogue = record {
   starts = start_ids catalogue (sites_of catalogue);
@@ -147,22 +147,26 @@ apart_differ : (ns : List ℕ) → AreApart ns → Differ ns
 apart_differ [] a = tt
 apart_differ (n ∷ ns) a = ((λ h. a.0 (contains ns n h)), apart_differ ns a.1)
 
-world_true : (catalogue : Catalogue) (w : WorldState) → AreApart (sites_of catalogue) → Invariant catalogue (scene_of w) → Places catalogue (scene_of w) → copies_true catalogue w ≡ true
-world_true catalogue w apart inv places = all_from _ w.places each
+-- a test that each site that is up passes
+pub each_site : (catalogue : Catalogue) (w : WorldState) → AreApart (sites_of catalogue) → Places catalogue (scene_of w) → (test : SiteState → Bool) → ((s : ℕ) (x : SiteState) → plain_at (scene_of w) s ≡ Some x → test x ≡ true) → list_all (λ (p : Place). option_map_or test p.up true) w.places ≡ true
+each_site catalogue w apart places test passes = all_from _ w.places each
   where
-    each : (p : Place) → Has w.places p → option_map_or (copies_true_at catalogue w.journal) p.up true ≡ true
+    each : (p : Place) → Has w.places p → option_map_or test p.up true ≡ true
     each p h = go p.up refl
       where
         found : place_of p.id w.places ≡ Some p
         found = place_found w.places p (subst Differ (sym places) (apart_differ (sites_of catalogue) apart)) h
 
-        go : (up : Option SiteState) → p.up ≡ up → option_map_or (copies_true_at catalogue w.journal) up true ≡ true
+        go : (up : Option SiteState) → p.up ≡ up → option_map_or test up true ≡ true
         go None e = refl
-        go (Some x) e = site_true catalogue w inv p.id x (ap (option_and_then (λ (p : Place). p.up)) found ∙ e)
+        go (Some x) e = passes p.id x (ap (option_and_then (λ (p : Place). p.up)) found ∙ e)
 
-pub copies_read : (s : Schedule) → AreApart (sites_of s.catalogue) → CopiesAreTrue s
-copies_read s apart = true_is _ (all_from (λ (m : Moment). copies_true s.catalogue m.after) (moments_of s) (λ m h.
-    world_true s.catalogue m.after apart (in_each s.catalogue (Invariant s.catalogue) (invariant_last s.catalogue) s.events m h).1 (in_each s.catalogue (Places s.catalogue) (places_last s.catalogue) s.events m h).1))
+world_true : (catalogue : Catalogue) (w : WorldState) → AreApart (sites_of catalogue) → Invariant catalogue (scene_of w) → Places catalogue (scene_of w) → copies_true catalogue w ≡ true
+world_true catalogue w apart inv places = each_site catalogue w apart places (copies_true_at catalogue w.journal) (site_true catalogue w inv)
+
+pub copies_read : (s : Schedule) → IsWhole s.catalogue → CopiesAreTrue s
+copies_read s whole = true_is _ (all_from (λ (m : Moment). copies_true s.catalogue m.after) (moments_of s) (λ m h.
+    world_true s.catalogue m.after whole.apart (in_each s.catalogue (Invariant s.catalogue) (invariant_last s.catalogue whole) s.events m h).1 (in_each s.catalogue (Places s.catalogue) (places_last s.catalogue) s.events m h).1))
   where
     true_is : (b : Bool) → b ≡ true → IsTrue b
     true_is b e = e

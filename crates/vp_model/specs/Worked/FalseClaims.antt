@@ -286,3 +286,46 @@ told_the_weights = record unknown_without_weight {
   given = answer.Inaccessible (txn 1 1 1) 1 (codes "x") 1 3;
   claimed = answer.Inaccessible (txn 1 1 1) 2 (codes "x") 1 3;
 }
+
+-- site 1 holds a view without the others, in which the bar of x is 1 of 5
+abbrev heavy_third : Catalogue
+heavy_third = record {
+  sites = ((1, 7001) ∷ (2, 7002) ∷ (3, 7003) ∷ []);
+  records = (stored (codes "x") (codes "10") ((1, 1) ∷ (2, 1) ∷ (3, 3) ∷ []) ∷ []);
+}
+
+abbrev alone : List Event
+alone = event.Call 1 call.Regroup ∷ event.Tick 1 ∷ event.Call 1 call.Begin ∷ []
+
+-- the sums over the members of another view
+abbrev pub bar_of_another_view : FalseClaim
+bar_of_another_view = record {
+  schedule = record { catalogue = heavy_third; events = alone };
+  site = 1;
+  words = read_x (txn 1 1 1) 1;
+  given = answer.Inaccessible (txn 1 1 1) 1 (codes "x") 1 5;
+  claimed = answer.Inaccessible (txn 1 1 1) 1 (codes "x") 2 5;
+}
+
+-- the sums by a table that a transaction gave x, which has not been committed
+abbrev pub bar_by_a_lost_table : FalseClaim
+bar_by_a_lost_table = record {
+  schedule = record {
+    catalogue = heavy_third;
+    events = event.Call 1 call.Begin ∷ event.Call 1 (call.Weigh (txn 1 1 1) 1 (codes "x") ((1, 1) ∷ (2, 1) ∷ (3, 1) ∷ [])) ∷ alone;
+  };
+  site = 1;
+  words = read_x (txn 1 1 2) 1;
+  given = answer.Inaccessible (txn 1 1 2) 1 (codes "x") 1 5;
+  claimed = answer.Inaccessible (txn 1 1 2) 1 (codes "x") 1 3;
+}
+
+-- the sums over the members of a view that the site has left
+abbrev pub bar_after_leaving : FalseClaim
+bar_after_leaving = record {
+  schedule = record { catalogue = heavy_third; events = alone ++ event.Call 1 call.Regroup ∷ [] };
+  site = 1;
+  words = read_x (txn 1 1 1) 1;
+  given = answer.ViewChanged (txn 1 1 1) 1 1 (view 1 1) None;
+  claimed = answer.Inaccessible (txn 1 1 1) 1 (codes "x") 1 5;
+}
