@@ -6,8 +6,8 @@ use Rattle.vp_catalog.specs.Document.{IsCatalogue}
 use Rattle.vp_model.specs.Catalogue.{Catalogue, sites_of}
 use Rattle.vp_model.specs.World.{Place, start_world, start_place, run_of, run_from}
 use Rattle.vp_runs.specs.Keeping.{durable_in}
-use Rattle.vp_laws.specs.Catalogues.{AreApart}
-use Rattle.vp_laws.proofs.Lists.Catalogues.{catalogue_apart}
+use Rattle.vp_laws.specs.Catalogues.{IsWhole}
+use Rattle.vp_laws.proofs.Lists.Catalogues.{whole_catalogue}
 use Rattle.vp_laws.proofs.Lists.Members.{Has, has_none, has_first, has_more, has_of}
 use Rattle.vp_laws.proofs.Told.OneCopy.{one_copy_told}
 use Rattle.vp_runs.proofs.Through.{starts_at}
@@ -81,4 +81,4 @@ clusters_are_schedules catalogue happenings k may =
 pub clusters_are_one_copy : ClustersAreOneCopy
 clusters_are_one_copy catalogue happenings k may =
     let s = clusters_are_schedules catalogue happenings k may in
-    (s.0, s.1, one_copy_told s.0 (subst (λ (c : Catalogue). AreApart (sites_of c)) (sym s.1.over) (catalogue_apart catalogue k.so_far)))
+    (s.0, s.1, one_copy_told s.0 (subst IsWhole (sym s.1.over) (whole_catalogue catalogue k.so_far)))

@@ -9,7 +9,7 @@ use Rattle.vp_model.specs.Generated.{generated_catalogue, made}
 use Rattle.vp_model.specs.Texts.Trace.{printed_lines}
 use Rattle.vp_onecopy.specs.Playing.{CommitsWithin}
 use Rattle.vp_laws.proofs.Told.OneCopy.{one_copy_told}
-use Rattle.vp_laws.proofs.Lists.Catalogues.{catalogue_apart}
+use Rattle.vp_laws.proofs.Lists.Catalogues.{whole_catalogue}
 use Rattle.vp_world.specs.Known.{Known}
 use Rattle.vp_replay.specs.Summary.{replies_of, summary_lines}
 use Rattle.vp_replay.specs.Generated.{Makes, IsSoaked}
@@ -32,7 +32,7 @@ module _ (seed count : ℕ) (known : Known) (m : GeneratedRun) (makes : Makes se
       (subst (λ c. CommitsWithin (length (start_values c)) (order (journal_of (made seed count)))) catalogue_is (commits_within (made seed count)))
 
   serial_made : IsSome (serial (start_values generated_catalogue) (order (journal_of (made seed count))))
-  serial_made = (one_copy_told (made seed count) (catalogue_apart generated_catalogue generated_is.so_far)).serial
+  serial_made = (one_copy_told (made seed count) (whole_catalogue generated_catalogue generated_is.so_far)).serial
 
   pub soak_serial : IsSome (serial (start_values known.catalogue) (order known.world.journal))
   soak_serial =
