@@ -7,13 +7,13 @@ use Rattle.vp_base.specs.declared.site.Ending.TheVariants.{Committed}
 use Rattle.vp_model.specs.Types.log_record
 use Rattle.vp_model.specs.Types.message
 use Rattle.vp_model.specs.Types.owner
-use Rattle.vp_model.specs.Words.{has, is_view, same_owner, same_txn, txn_before, view_before}
+use Rattle.vp_model.specs.Words.{has, is_view, same_owner, same_txn, txn_before}
 use Rattle.vp_model.specs.Catalogue.{Catalogue}
 use Rattle.vp_model.specs.Durable.{doubt_of, put_doubt}
 use Rattle.vp_model.specs.Locks.{holds, raised, with_lock, without_guard}
 use Rattle.vp_model.specs.Site.{ViewState, ParticipantState, CoordinatorState, Here, SiteState, Lent, Stepped, begin_step, put_back, send, force, change_participant}
 use Rattle.vp_model.specs.Transactions.{keep_writes, decide, close, complete}
-use Rattle.vp_model.specs.Refresh.{newest, take_newer, unlist, end_refresh, start_refresh}
+use Rattle.vp_model.specs.Refresh.{unlist, end_refresh, start_refresh}
 use Rattle.vp_model.specs.Views.{has_doubt, outlasts_for, outlasts, drop_view, start_inviting, hold}
 use Rattle.vp_model.specs.Calls.{start_txn, take_lock, read_at, write_at, prepare_parts}
 use Rattle.vp_model.specs.Messages.{holds_view, with_new_doubt, accept, on_accept, on_stale, grant, end_here}
@@ -25,7 +25,7 @@ use Rattle.vp_laws.proofs.Lists.Keeps.{by_test}
 use Rattle.vp_laws.proofs.Lists.Views.{is_view_is, same_is}
 use Rattle.vp_laws.proofs.Lists.LockTables.{HasLock, same_owner_is, lock_origin}
 use Rattle.vp_laws.proofs.Moves.LocalViews.{Tidy}
-use Rattle.vp_laws.proofs.Moves.Frames.{Ends, close-ends, decided-ends, decide-cases}
+use Rattle.vp_laws.proofs.Moves.Frames.{Ends, close-ends, decided-ends, decide-cases, take-cases}
 use Rattle.vp_laws.proofs.Moves.Parts.{part_there, with_part_doubts}
 use Rattle.vp_laws.proofs.Moves.Table.{Comes, Table, OfCoordinator, Back, lent_at}
 use Rattle.vp_laws.proofs.Moves.Rows.{step-keeps}
@@ -201,8 +201,8 @@ module _ (catalogue : Catalogue) (x : SiteState) (given : Input) (tidy : Tidy x)
   }
 
   ends_locks : (r : Refreshing) (own : Stored) (o : Stepped) → (end_refresh catalogue r own o).site.locks ≡ without_guard r.rec o.site.locks
-  unfolding end_refresh take_newer unlist
-  ends_locks r own o = by_test (λ (e : Stepped). (unlist r.rec e).site.locks ≡ without_guard r.rec o.site.locks) (view_before own.date (newest own r.answers).date) _ _ (λ t. refl) (λ f. refl)
+  unfolding end_refresh unlist
+  ends_locks r own o = take-cases (λ (e : Stepped). (unlist r.rec e).site.locks ≡ without_guard r.rec o.site.locks) catalogue r own o refl refl refl
 
   finishes : (r : Refreshing) (own : Stored) (o : Stepped) → P o → P (end_refresh catalogue r own o)
   finishes r own o p =

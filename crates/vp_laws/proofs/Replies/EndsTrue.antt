@@ -271,7 +271,7 @@ module _ (catalogue : Catalogue) where
       let at : plain_at (scene_of m.after) s ≡ Some o.site = subst (λ (w : Scene). plain_at w s ≡ Some o.site) (sym e) d.st.now in
       let rs : replies_in m.line.shown ≡ o.effects.replies = ap replies_in is in
       let cs : commits_in m.line.shown ≡ o.effects.commits = ap commits_in is in
-      both (list_all (agrees_with m.after.journal last) (answers_in m.line)) _
+      both (list_all (agrees_with m.after last) (answers_in m.line)) _
       (ap (λ (rs : List Reply). list_all (agrees_with m.after last) (map (λ (r : Reply). r.answer) rs)) rs
       ∙ all_from (agrees_with m.after last) (map (λ (r : Reply). r.answer) o.effects.replies) (λ a h. let q = map_has (λ (r : Reply). r.answer) o.effects.replies a h in subst (λ (a : Answer). agrees_with m.after last a ≡ true) q.2 (said_agrees w new s x given o k n d inv.own_ends m.after journal at last later_new q.0.answer (d.replying.said q.0 q.1))))
       (ap (λ (cs : List Commit). list_all (λ (commit : Commit). list_any (is_committed commit.txn) (answers_in m.line)) cs) cs
