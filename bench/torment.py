@@ -6,7 +6,7 @@ usage: torment.py PROGRAM [SEED [COUNT [REFERENCE]]]
 PROGRAM has the commands `node`, `merge`, `replay` and `check`; REFERENCE is the folder of the reference implementation. Transactions are begun
 until there are COUNT of them, in rounds of 150. The round of a seed draws three to five sites and 24 accounts, each with copies at
 three sites or more, and starts a process for each site, with its log in a temporary folder (TMPDIR says where). Four clients on ports
-of their own do transfers at any site: read two accounts, write two, commit. All the while nodes are ticked and probed; after each 20 to
+of their own do transfers at any site: read two accounts, write two, one time in eight weigh one anew, commit. All the while nodes are ticked and probed; after each 20 to
 80 transactions one is killed (kill -9), and started again up to half a second later; and a proxy between the nodes drops one datagram
 in a hundred and repeats three. Then all are started and joined in one view, and stopped. These are checked:
 
