@@ -1,16 +1,17 @@
 #!/usr/bin/env python3
-"""Compares `vpdb check` with another program on random histories, and on mutated ones.
+"""Compares `vpdb check` with the reference implementation on random histories, and on mutated ones.
 
-usage: compare_check.py PROGRAM OTHER [SEED [COUNT]]
+usage: compare_check.py PROGRAM [SEED [COUNT [REFERENCE]]]
 
-PROGRAM is the built vpdb, OTHER the path of the reference program with the words for its version, as in
-"../shared/oracle/vporacle --version 2 --stage e1". Both are called with the word `check`. A history has up to six records and thirty
+PROGRAM is the built vpdb, REFERENCE the folder of the reference implementation. A history has up to six records and thirty
 transactions of rising views, which read, write and delete; its reads are right but for one in fifty. Two in three are mutated:
 cut anywhere, a byte changed or put in, two lines swapped, a line twice, lines before it. Bytes and statuses have to agree.
 """
+import random
+import subprocess
 import sys
 
-from comparison import MOST_BYTES, MOST_BYTES_OF_OLD, compare, with_byte_changed, with_lines_moved
+from comparison import MOST_BYTES, MOST_BYTES_OF_OLD, arguments, compare_seeds, modules, with_byte_changed, with_lines_moved
 
 NAMES = [b"x", b"y", b"ab", b"abcd", b"r0", b"r1", b"a_long_name_of16"]
 
@@ -57,10 +58,37 @@ def mutated(draw, text):
     return draw.choice([b"\n", b"1 call 1 begin\n reply begun 1.1.1 0@0\n", b"histor\n", b"history \n"]) + text
 
 
-def drawn(draw):
+def drawn(seed):
+    """The input of a seed."""
+    draw = random.Random(seed)
     text = made(draw)
     return mutated(draw, text) if draw.randrange(3) else text
 
 
+def right(text):
+    """The status and the bytes that the reference gives."""
+    try:
+        history = onecopy.read_history(text)
+        left = onecopy.check(history.start, history.commits)
+        lines = [f"serial {len(history.commits)}", *(name if value is None else f"{name} {value}" for name, value in zip(history.names, left))]
+        status = 0
+    except onecopy.Differs as fault:
+        status, lines = 10, [onecopy.differs_text(history.names[fault.rec], fault)]
+    except base.End as end:
+        status, lines = end.status, [end.line]
+    return status, "".join(line + "\n" for line in lines).encode()
+
+
+def differs(seed):
+    """What the program and the reference say of the input of a seed, where they differ; and the program's status, with the transactions."""
+    text = drawn(seed)
+    done = subprocess.run([PROGRAM, "check"], input=text, capture_output=True, timeout=600)
+    mine, wanted = (done.returncode, done.stdout), right(text)
+    return (seed, text, mine, wanted) if mine != wanted else (seed, mine[0], text.count(b"\ncommit "))
+
+
+PROGRAM, SEED, COUNT, FOLDER = arguments(1000)
+base, onecopy = modules(FOLDER, "base", "onecopy")
+
 if __name__ == "__main__":
-    sys.exit(compare("check", drawn))
+    sys.exit(compare_seeds(differs, SEED, COUNT, "histories", "transactions", 20))

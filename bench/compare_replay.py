@@ -23,18 +23,21 @@ class Busy:
         self.sites = sorted(draw.sample(range(1, 17), draw.choice([2, 3, 3, 4, 5])))
         self.names = ["x%d" % k for k in range(draw.choice([1, 2, 4]))]
         self.lines = ["site %d %d" % (site, 7000 + site) for site in self.sites]
+        self.holders = {}
         for name in self.names:
-            holders = sorted(draw.sample(self.sites, draw.randint(max(1, len(self.sites) - 2), len(self.sites))))
-            self.lines.append("record %s 0 %s" % (name, " ".join("%d:1" % site for site in holders)))
+            self.holders[name] = sorted(draw.sample(self.sites, draw.randint(max(1, len(self.sites) - 2), len(self.sites))))
+            self.lines.append("record %s 0 %s" % (name, " ".join("%d:1" % site for site in self.holders[name])))
         self.lines.append("events")
         self.seq = {site: [1, 0] for site in self.sites}
 
     def deed(self, name):
-        kind = self.draw.randrange(20)
+        kind = self.draw.randrange(22)
         if kind < 10:
             return "read %s" % name
         if kind < 13:
             return "delete %s" % name
+        if kind > 19:
+            return "weigh %s %s" % (name, " ".join("%d:%d" % (site, self.draw.choice([1, 1, 2, 3, 5])) for site in self.holders[name]))
         value = "%d" % self.draw.randrange(100)
         return "write %s %s" % (name, value if kind < 18 else value * self.draw.choice([20, 512]))
 

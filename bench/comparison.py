@@ -3,8 +3,6 @@ import importlib
 import multiprocessing
 import os
 import pathlib
-import random
-import shlex
 import subprocess
 import sys
 
@@ -13,7 +11,7 @@ REFERENCE = pathlib.Path(__file__).resolve().parent.parent.parent / "shared/orac
 
 
 # what the reference implementation speaks, if nothing else is said: its version and its stage
-SPOKEN = (2, "e1")
+SPOKEN = (2, None)
 # the most bytes of a value, and of one in the frames and the log records of the first version
 MOST_BYTES, MOST_BYTES_OF_OLD = 1024, 64
 
@@ -42,15 +40,9 @@ def reference_in(folder):
 
 
 def modules(folder, *names):
-    """Modules of the reference implementation, which speak the version that the command line says.
-
-    At the stage `e1` it answers a `weigh` by a status of its own. The program has no such line so far, and at that stage the grammar here has none.
-    """
+    """Modules of the reference implementation, which speak the version that the command line says."""
     sys.path.insert(0, str(reference_in(folder)))
-    spoken = without_version(sys.argv[1:])[1]
-    importlib.import_module("version").choose(*spoken)
-    if spoken[1] == "e1":
-        importlib.import_module("schedule").table = lambda sites: importlib.import_module("grammar").NONE
+    importlib.import_module("version").choose(*without_version(sys.argv[1:])[1])
     return [importlib.import_module(name) for name in names]
 
 
@@ -102,36 +94,6 @@ def compare_pieces(program, rounds, right, what, head=()):
         count += len(inputs)
     refused = sum(places.values())
     print(f"{count} inputs agree: {count - refused} are {what}; {refused} are refused, at {len(places)} different places")
-    return 0
-
-
-def run(program, command, text):
-    """The exit status and the standard output of one run of a program, which may have words before its command."""
-    done = subprocess.run([*shlex.split(program), command], input=text, capture_output=True, timeout=600)
-    return done.returncode, done.stdout
-
-
-def compare(command, made, wanted=lambda text, answer: answer):
-    """Compares the programs of the command line on `made(draw)` for each seed, and tells the statuses that were met.
-
-    `wanted` gives what the first program has to answer to an input, from the second program's answer. The answer is the
-    exit status of the comparison: 1 where an input tells them apart.
-    """
-    program, other = sys.argv[1:3]
-    seed = int(sys.argv[3]) if len(sys.argv) > 3 else 1
-    count = int(sys.argv[4]) if len(sys.argv) > 4 else 1000
-    ends = {}
-    for k in range(seed, seed + count):
-        text = made(random.Random(k))
-        mine = run(program, command, text)
-        other_answer = wanted(text, run(other, command, text))
-        ends[mine[0]] = ends.get(mine[0], 0) + 1
-        if mine != other_answer:
-            print("differs at seed", k)
-            sys.stdout.buffer.write(text + b"\n----\n" + mine[1] + b"----\n" + other_answer[1])
-            print(mine[0], other_answer[0])
-            return 1
-    print(f"{count} inputs from seed {seed} agree; by status: {dict(sorted(ends.items()))}")
     return 0
 
 

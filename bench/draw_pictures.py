@@ -7,6 +7,7 @@ usage: draw_pictures.py [--check]
 - log-halves.svg: the two halves of a log through an append and a checkpoint, with the batches of site 2 of docs/life-of-a-write.md.
 - view-states.svg: the states of a view at a site, by the table of docs/PROTOCOL.md, whose rows have to be definitions of vp_model.
 - shared-holder.svg: the views of docs/examples/banks.schedule and the holders that two of them share, by its trace in banks.printed.
+- changed-weights.svg: the views of docs/examples/weights.schedule, each with the weight inside it by the table in force, by its trace in weights.printed.
 
 With --check nothing is written: it ends with status 1 where a picture is another than what this script makes.
 """
@@ -452,7 +453,86 @@ def draw_answers(picture, run, x_of, y_of, low, high, shared):
         picture.text(x_of(event), y_of[site] + 60, value, 11, STRONG[1], "middle", "bold")
 
 
-PICTURES = {"layers": layers, "log-halves": log_halves, "view-states": view_states, "shared-holder": shared_holder}
+# The walk through views that change a table
+
+class Tables:
+    """The tables of the record by which each view of a run judges, and those that its transactions made."""
+
+    def __init__(self, name, run):
+        calls = re.findall(rf"^\d+ call \d+ (\S+) \d+ weigh {run.record} (.*)$", page(f"docs/examples/{name}.printed"), re.M)
+        tables = {txn: {int(site): int(weight) for site, weight in re.findall(r"(\d+):(\d+)", words)} for txn, words in calls}
+        self.run, self.made = run, [(order(view), view, tables[txn]) for _, txn, view in run.writes if txn in tables]
+
+    def judges(self, view):
+        """The table that the entries of lower views leave, else the catalogue's."""
+        return max((made for made in self.made if made[0] < order(view)), key=lambda made: made[0], default=(None, None, self.run.weights))[2]
+
+    def makes(self, view):
+        return next((table for _, made, table in self.made if made == view), None)
+
+    def said(self, view, table):
+        return f"{sum(table.get(site, 0) for site in self.run.members[view])} of {sum(table.values())}"
+
+    def is_open(self, view):
+        table = self.judges(view)
+        return 2 * sum(table.get(site, 0) for site in self.run.members[view]) > sum(table.values())
+
+
+def words_of(table):
+    return " ".join(f"{site}:{weight}" for site, weight in table.items())
+
+
+def changed_weights():
+    run = Run("weights")
+    tables = Tables("weights", run)
+    views = sorted((view for view in run.members if any(view == held for held_views in run.holds.values() for _, held in held_views)), key=order)
+    changing = next(view for view in views if tables.makes(view))
+    low = next(view for view in reversed(views) if order(view) < order(changing))
+    high = next(view for view in views if order(view) > order(changing) and not set(run.members[view]) & set(run.members[low]))
+    barred = next(view for view in views if not tables.is_open(view))
+    assert tables.is_open(low) and tables.is_open(changing) and tables.is_open(high)
+    picture = Picture(1240, 470, "The views of a schedule that changes the weights of a record")
+    left, unit, top, tall = 130, 1070 / (run.event + 1), 120, 80
+    x_of = lambda event: left + (event - 0.5) * unit if event else left
+    picture.text(20, 28, f"How two majorities by different tables meet: through the views that changed the table ({run.record} of docs/examples/weights.schedule)", 15, weight="bold")
+    picture.text(20, 48, "A site is a lane and a bar the view that it holds, from event to event; white is no view. In a bar is the weight inside by the table that the view goes by.", 12, PALE)
+    for number, site in enumerate(run.sites):
+        draw_judged(picture, run, tables, site, top + tall * number, x_of, views)
+    for event, txn, view in run.writes:
+        if tables.makes(view) and event:
+            picture.text(x_of(event), top - 12, f"{txn} weighs {run.record} {words_of(tables.makes(view))}", 11, STRONG[0], "middle")
+            for site in run.members[view]:
+                picture.add(f'<circle cx="{x_of(event):g}" cy="{top + tall * run.sites.index(site) + 30:g}" r="5" fill="{STRONG[0]}"/>')
+    shared = lambda a, b: " and ".join(str(site) for site in run.members[a] if site in run.members[b])
+    y = top + tall * len(run.sites) + 14
+    for number, words in enumerate((
+        f"{low} has {tables.said(low, tables.judges(low))} by the table of the catalogue, {words_of(run.weights)}. {changing} has {tables.said(changing, tables.judges(changing))} by it too: two majorities by one table share a holder, site {shared(low, changing)}.",
+        f"{changing} makes the table {words_of(tables.makes(changing))}, and has {tables.said(changing, tables.makes(changing))} by that as well; else its weigh would be refused.",
+        f"{high} has {tables.said(high, tables.judges(high))} by the new table: it shares site {shared(changing, high)} with {changing}, from which it has the new table, and what was written below. With {low} it shares no site.",
+        f"{barred} finds the new table at site {shared(changing, barred)}, and has {tables.said(barred, tables.judges(barred))} by it: {run.record} is barred there.",
+    )):
+        picture.text(20, y + 19 * number, words, 12.5)
+    return picture
+
+
+def draw_judged(picture, run, tables, site, y, x_of, views):
+    picture.text(20, y + 20, f"site {site}", 13, INK, weight="bold")
+    picture.text(20, y + 37, f"weight {run.weights[site]}, then {tables.made[-1][2][site]}", 11, PALE)
+    ends = [event for event, _ in run.holds[site][1:]] + [run.event + 1]
+    for (event, view), end in zip(run.holds[site], ends):
+        if view is not None:
+            x, wide = x_of(event), x_of(end) - x_of(event)
+            is_open, makes = tables.is_open(view), tables.makes(view)
+            picture.box(x, y, wide, 44, COLOURS[views.index(view)] if is_open else "#ffffff", INK if is_open else STRONG[1], 3, "" if is_open else "4 3")
+            picture.text(x + 5, y + 14, view, 11, INK, weight="bold", font=MONO)
+            said = tables.said(view, tables.judges(view)) if is_open else f"{tables.said(view, tables.judges(view))}, barred"
+            picture.text(x + 5, y + 40, said + (f", {tables.said(view, makes)}" if makes else ""), 10.5, INK if is_open else STRONG[1])
+    for event, where, value in run.reads:
+        if where == site:
+            picture.text(x_of(event), y + 60, value, 11, STRONG[1], "middle", "bold")
+
+
+PICTURES = {"layers": layers, "log-halves": log_halves, "view-states": view_states, "shared-holder": shared_holder, "changed-weights": changed_weights}
 
 
 def main():

@@ -17,6 +17,7 @@ where the processor's counters are closed; memory is the most of one run.
     left            the same parts, whose site leaves its view
     doubts          256 transactions in doubt at one site, as many as its records; their prepares come again and again
     finished        calls on the oldest of 1,024 transactions that have ended
+    long_values     commits of two sites, each of 15 values of 1,024 bytes, near the most bytes of an input: for the memory by its bytes
 """
 import subprocess
 import sys
@@ -127,7 +128,17 @@ def finished(share):
     return lines + ["call 1 1.1.%d 1 commit" % (k % 256 + 1) for k in range(int(97900 * share))]
 
 
-KINDS = (flows, deliveries, views, unacknowledged, acknowledged, ended, parts, left, doubts, finished)
+def long_values(share):
+    lines = pair(*(f"record x{k} 10 1:1 2:1" for k in range(15)))
+    for k in range(1, int(1038 * share) + 1):
+        lines.append("call 1 begin")
+        for n in range(1, 16):
+            lines += [f"call 1 1.1.{k} {n} write x{n - 1} " + f"{k}.{n}.".ljust(1024, "v"), "flow 2"]
+        lines += [f"call 1 1.1.{k} 16 commit", "flow 4"]
+    return lines
+
+
+KINDS = (flows, deliveries, views, unacknowledged, acknowledged, ended, parts, left, doubts, finished, long_values)
 
 
 def memory_of(command, path):

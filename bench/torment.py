@@ -6,7 +6,7 @@ usage: torment.py PROGRAM [SEED [COUNT [REFERENCE]]]
 PROGRAM has the commands `node`, `merge`, `replay` and `check`; REFERENCE is the folder of the reference implementation. Transactions are begun
 until there are COUNT of them, in rounds of 150. The round of a seed draws three to five sites and 24 accounts, each with copies at
 three sites or more, and starts a process for each site, with its log in a temporary folder (TMPDIR says where). Four clients on ports
-of their own do transfers at any site: read two accounts, write two, commit. All the while nodes are ticked and probed; after each 20 to
+of their own do transfers at any site: read two accounts, write two, one time in eight weigh one anew, commit. All the while nodes are ticked and probed; after each 20 to
 80 transactions one is killed (kill -9), and started again up to half a second later; and a proxy between the nodes drops one datagram
 in a hundred and repeats three. Then all are started and joined in one view, and stopped. These are checked:
 
@@ -43,8 +43,8 @@ MODULES = ("answers", "base", "catalog", "client", "log", "messages", "node", "w
 DIFFERS = 15  # the status of a merge
 
 
-def transfer(call_of, names, draw):
-    """The calls of a transfer, each of which is given its answer or None. One in twenty is aborted by its client.
+def transfer(call_of, holders, draw):
+    """The calls of a transfer, each of which is given its answer or None. One in twenty is aborted by its client, and one in eight weighs an account anew.
 
     After a refusal or no answer at all the transaction is left as it is: what still has locks ends with its view.
     """
@@ -52,7 +52,7 @@ def transfer(call_of, names, draw):
     if type(begun).__name__ != "Begun":
         return
     txn, numbers = begun.txn, itertools.count(1)
-    accounts, balances = draw.sample(names, 2), []
+    accounts, balances = draw.sample(sorted(holders), 2), []
     for account in accounts:
         answer = yield call_of("read", txn, next(numbers), account)
         if type(answer).__name__ != "Value":
@@ -66,6 +66,11 @@ def transfer(call_of, names, draw):
         answer = yield call_of("write", txn, next(numbers), account, str(balance))
         if type(answer).__name__ != "Written":
             return
+    if draw.randrange(8) == 0:
+        table = tuple((site, draw.choice([1, 1, 2])) for site in holders[accounts[0]])
+        answer = yield call_of("weigh", txn, next(numbers), accounts[0], table=table)
+        if type(answer).__name__ != "Weighed":
+            return
     yield call_of("commit", txn, next(numbers))
 
 
@@ -77,6 +82,7 @@ class Torment:
         self.draw = random.Random(seed)
         self.sites = list(range(1, self.draw.choice([3, 4, 5]) + 1))
         self.names = [f"account{k}" for k in range(ACCOUNTS)]
+        self.holders = {name: sorted(self.draw.sample(self.sites, self.draw.randint(3, len(self.sites)))) for name in self.names}
         self.counts = collections.Counter()
         self.told = set()  # the transactions of which a client was told that they are committed
         self.over, self.idle = False, 0
@@ -94,8 +100,7 @@ class Torment:
         self.nodes = Nodes(self.program, catalogues, tempfile.mkdtemp(prefix="torment."))
 
     def _record(self, name):
-        holders = sorted(self.draw.sample(self.sites, self.draw.randint(3, len(self.sites))))
-        return f"record {name} {BALANCE} " + " ".join(f"{site}:1" for site in holders)
+        return f"record {name} {BALANCE} " + " ".join(f"{site}:1" for site in self.holders[name])
 
     # What goes on.
 
@@ -146,7 +151,7 @@ class Torment:
         if self.counts["Begun"] >= self.next_kill:
             self.next_kill += self.draw.randint(20, 80)
             self.loop.at(0.1 * self.draw.random(), self._kill)
-        talk = transfer(self.reference.base.Call, self.names, self.draw)
+        talk = transfer(self.reference.base.Call, self.holders, self.draw)
         self._go_on(client, self.draw.choice(self.sites), talk, None)
 
     def _go_on(self, client, site, talk, answer):

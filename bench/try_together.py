@@ -5,13 +5,15 @@ usage: try_together.py [FOLDER] CRATE | CRATE/EDIT ..
 
 It copies the repository FOLDER (the one of this script, if none is named), with its built libraries, into a new folder, which is removed in the
 end. There it puts edits of different functions of a crate into its files and runs `rt check --allow-holes` with an `--only` for each of these
-functions; an edit of specs/ is tried alone, with the functions that edits/ASKED.csv names for it. The libraries below have to be built.
+functions; an edit of specs/ is tried alone, with the functions that edits/ASKED.csv names for it. The libraries below have to be built. JOBS in the
+environment says how many jobs a check has.
 
 An edit that leaves goals of its function open has a line for edits/TRIED.csv on the standard output. Of any other the output names what the check
 said: it may not compile, be refused elsewhere, or not be refused. The status is 1 where there is such an edit.
 """
 import csv
 import datetime
+import os
 import pathlib
 import re
 import shutil
@@ -98,8 +100,10 @@ def check(crate, texts, functions):
     try:
         for file, text in texts.items():
             (crate / file).write_text(text, encoding="utf-8")
-        only = [word for it in sorted(functions) for word in ("--only", it)]
-        return subprocess.run(["rt", "check", "--allow-holes", *only], cwd=crate, capture_output=True, text=True).stdout
+        words = [word for it in sorted(functions) for word in ("--only", it)]
+        if "JOBS" in os.environ:
+            words += ["--jobs", os.environ["JOBS"]]
+        return subprocess.run(["rt", "check", "--allow-holes", *words], cwd=crate, capture_output=True, text=True).stdout
     finally:
         for file, text in kept.items():
             (crate / file).write_text(text, encoding="utf-8")

@@ -1,24 +1,25 @@
 -- A report on stopped sites is true of every schedule that left them like this.
 use Rattle.std.proofs.Common.{◌≡◌, ◌∙◌, ap, sym, subst, ℕ, ◌*◌, Bool, true, false, cond, List, [], ◌∷◌, refl, arith}
-use Rattle.std.specs.Prelude.{Option, Some, None, filter, map, nat_le, nat_lt, length, option_to_list, slice_get, ◌||◌}
+use Rattle.std.specs.Prelude.{Option, Some, None, option_and_then, filter, map, nat_le, nat_lt, length, option_to_list, slice_get, ◌||◌}
 use Rattle.std.specs.List.{Contains, list_any, range_with_len}
 use Rattle.std.proofs.lemmas.Bool.Decides.{nat_tests}
 use Rattle.vp_model.specs.Types.{Stored, Doubt}
-use Rattle.vp_model.specs.Words.{keys, value_at, view_before}
-use Rattle.vp_model.specs.Catalogue.{Catalogue, holders, accessible, inside, total, start_values}
+use Rattle.vp_model.specs.Words.{first_some, keys, value_at, view_before}
+use Rattle.vp_model.specs.Catalogue.{Catalogue, table_or, holders, accessible_by, weight_inside, weight_total, start_values}
 use Rattle.vp_model.specs.Durable.{DurableState}
 use Rattle.vp_model.specs.Headline.{has_value}
 use Rattle.vp_model.specs.OneCopy.{serial, order}
 use Rattle.vp_model.specs.World.{Place, WorldState, Moment, Schedule, place_of, moments_of}
 use Rattle.vp_laws.specs.Audits.{HoldersHaveCopies, MajoritiesTell}
+use Rattle.vp_laws.specs.Catalogues.{IsWhole}
 use Rattle.vp_laws.specs.Entries.{doubts_in, doubts_of}
 use Rattle.vp_laws.specs.Sites.{copies_in}
-use Rattle.vp_laws.proofs.Lists.Members.{Has, contains, has_of, has_none, has_one, has_one_is, has_test, filter_keeps, map_has}
+use Rattle.vp_laws.proofs.Lists.Members.{Has, has_first, has_more, contains, has_of, has_none, has_one, has_one_is, has_test, filter_keeps, map_has}
 use Rattle.vp_laws.proofs.Lists.Changes.{mapped_has}
 use Rattle.vp_laws.proofs.Lists.Views.{not_before}
 use Rattle.vp_laws.proofs.Journal.Order.{flat_has, has_flat}
 use Rattle.vp_laws.proofs.Keeping.Stopping.{in_force_holder}
-use Rattle.vp_audit.specs.Audited.{Parts, audit_of, can_of, finding_of, newest_of, rows_on, settled_at, settled_copy, settled_on, waits, writes_to}
+use Rattle.vp_audit.specs.Audited.{Parts, audit_of, can_of, copies_on, finding_of, newest_of, rows_on, settled_at, settled_copy, settled_on, table_on, waits, writes_to}
 use Rattle.vp_audit.specs.declared.found.DoubtAt.{DoubtAt}
 use Rattle.vp_audit.specs.True.{AreDown, IsTrueReport}
 use Rattle.vp_audit.specs.declared.found.Can.TheVariants as can
@@ -55,6 +56,11 @@ certain_copy rec d e = ap (λ (b : Bool). cond b None (value_at rec d.copies)) (
 copy_there : (rec : ℕ) (parts : Parts) (p : ℕ × DurableState) (c : Stored) → Has parts p → settled_copy rec p.1 ≡ Some c → Has (settled_on rec parts) (p.0, c)
 copy_there rec parts p c h e = has_flat (settled_at rec) parts p (p.0, c) h (rw e (has_one (p.0, c)))
 
+copies_settled : (rec : ℕ) (parts : Parts) → ((p : ℕ × DurableState) → Has parts p → settled_copy rec p.1 ≡ value_at rec p.1.copies) → copies_on rec parts ≡ settled_on rec parts
+copies_settled rec [] all = refl
+copies_settled rec (p ∷ parts) all =
+    rw (all p (has_first p parts), copies_settled rec parts (λ q h. all q (has_more p parts q h))) refl
+
 copy_from : (rec : ℕ) (parts : Parts) (a : ℕ × Stored) → Has (settled_on rec parts) a → (p : ℕ × DurableState) × Has parts p × (p.0 ≡ a.0) × (settled_copy rec p.1 ≡ Some a.1)
 copy_from rec parts a h =
     let r = flat_has (settled_at rec) parts a h in
@@ -68,11 +74,8 @@ copy_from rec parts a h =
 -- ---- the report
 
 module _ (catalogue : Catalogue) (parts : Parts) (w : WorldState) (down : AreDown w parts) (law : MajoritiesTell catalogue w) (held : HoldersHaveCopies catalogue w) (rec : ℕ) (sure : (finding_of catalogue parts rec).can ≡ can.Yes) where
-  said : (nat_lt (total catalogue rec) (2 * inside catalogue rec (keys parts)) ≡ true) × (rows_on rec parts ≡ [])
-  said = yes_says (inside catalogue rec (keys parts)) (total catalogue rec) (rows_on rec parts) sure
-
-  majority : accessible catalogue rec (keys parts) ≡ true
-  majority = said.0
+  said : (accessible_by (table_on catalogue rec parts) (keys parts) ≡ true) × (rows_on rec parts ≡ [])
+  said = let t = table_on catalogue rec parts in yes_says (weight_inside (keys parts) t) (weight_total t) (rows_on rec parts) sure
 
   certain : (p : ℕ × DurableState) → Has parts p → filter (writes_to rec) p.1.doubts ≡ []
   certain = no_rows rec parts said.1
@@ -87,26 +90,37 @@ module _ (catalogue : Catalogue) (parts : Parts) (w : WorldState) (down : AreDow
       subst (λ (n : ℕ). (d : DurableState) × Has parts (n, d) × (place_of n w.places ≡ Some (record { id = n; durable = d; up = None }))) p.2
       (p.0.1, p.1, down p.0 (contains parts p.0 p.1))
 
-  some_copy : (a : ℕ × Stored) × Has (settled_on rec parts) a
-  some_copy =
-      let q = in_force_holder catalogue rec (keys parts) majority in
+  -- with no settled copy there is none, and the table is the catalogue's
+  judging : (best : Option Stored) → newest_of (settled_on rec parts) ≡ best → newest_of (copies_on rec parts) ≡ best → accessible_by (table_or catalogue rec (option_and_then (λ (copy : Stored). copy.table) best)) (keys parts) ≡ true
+  judging best settled any = go best (rw (settled, any) at said.0)
+    where
+      go : (best : Option Stored) → accessible_by (table_or catalogue rec (option_and_then (λ (copy : Stored). copy.table) (first_some best best))) (keys parts) ≡ true → accessible_by (table_or catalogue rec (option_and_then (λ (copy : Stored). copy.table) best)) (keys parts) ≡ true
+      go None e = e
+      go (Some copy) e = e
+
+  judged : (best : Option Stored) → newest_of (settled_on rec parts) ≡ best → accessible_by (table_or catalogue rec (option_and_then (λ (copy : Stored). copy.table) best)) (keys parts) ≡ true
+  judged best e = judging best e (ap newest_of (copies_settled rec parts all_settled) ∙ e)
+
+  some_copy : settled_on rec parts ≡ [] → (a : ℕ × Stored) × Has (settled_on rec parts) a
+  some_copy none =
+      let q = in_force_holder catalogue rec (keys parts) (judged None (ap newest_of none)) in
       let p = part_of q.0 q.2 in
       let c = held q.0 rec (record { id = q.0; durable = p.0; up = None }) p.2 (contains (holders catalogue rec) q.0 q.1) in
       ((q.0, c.0), copy_there rec parts (q.0, p.0) c.0 p.1 (all_settled (q.0, p.0) p.1 ∙ c.1))
 
   newest : (n : Stored) × (newest_of (settled_on rec parts) ≡ Some n) × IsTop (settled_on rec parts) n
-  newest = go (settled_on rec parts) some_copy.1
+  newest = go (settled_on rec parts) refl
     where
-      go : (copies : List (ℕ × Stored)) → Has copies some_copy.0 → (n : Stored) × (newest_of copies ≡ Some n) × IsTop copies n
-      go [] h = absurd (has_none some_copy.0 h)
-      go (c ∷ copies) h = newest_there c copies
+      go : (copies : List (ℕ × Stored)) → settled_on rec parts ≡ copies → (n : Stored) × (newest_of copies ≡ Some n) × IsTop copies n
+      go [] none = let a = some_copy none in absurd (has_none a.0 (subst (λ (copies : List (ℕ × Stored)). Has copies a.0) none a.1))
+      go (c ∷ copies) is = newest_there c copies
 
   true_there : has_value (serial (start_values catalogue) (order w.journal)) rec newest.0.value ≡ true
   true_there =
       let top = newest.2 in
       let from = copy_from rec parts (top.site, newest.0) top.there in
       let named : Has (keys parts) top.site = subst (Has (keys parts)) from.2 (mapped_has (λ (p : ℕ × DurableState). p.0) parts from.0 from.1) in
-      law (keys parts) rec top.site newest.0 majority no_doubt (contains (keys parts) top.site named)
+      law (keys parts) rec top.site newest.0 (judged (Some newest.0) newest.1) no_doubt (contains (keys parts) top.site named)
       (let p = down from.0 (contains parts from.0 from.1) in rw (← from.2, p) (sym (all_settled from.0 from.1) ∙ from.3))
       none_newer
     where
@@ -124,8 +138,8 @@ module _ (catalogue : Catalogue) (parts : Parts) (w : WorldState) (down : AreDow
   pub told : (copy : Stored) × ((finding_of catalogue parts rec).newest ≡ Some copy) × (has_value (serial (start_values catalogue) (order w.journal)) rec copy.value ≡ true)
   told = (newest.0, newest.1, true_there)
 
-pub report_told : ((s : Schedule) (m : Moment) → Contains (moments_of s) m → MajoritiesTell s.catalogue m.before × MajoritiesTell s.catalogue m.after) → ((s : Schedule) (m : Moment) → Contains (moments_of s) m → HoldersHaveCopies s.catalogue m.before × HoldersHaveCopies s.catalogue m.after) → (catalogue : Catalogue) (parts : Parts) → IsTrueReport catalogue parts (audit_of catalogue parts)
-report_told law held catalogue parts s m same h down f there sure =
+pub report_told : ((s : Schedule) → IsWhole s.catalogue → (m : Moment) → Contains (moments_of s) m → MajoritiesTell s.catalogue m.before × MajoritiesTell s.catalogue m.after) → ((s : Schedule) (m : Moment) → Contains (moments_of s) m → HoldersHaveCopies s.catalogue m.before × HoldersHaveCopies s.catalogue m.after) → (catalogue : Catalogue) → IsWhole catalogue → (parts : Parts) → IsTrueReport catalogue parts (audit_of catalogue parts)
+report_told law held catalogue whole parts s m same h down f there sure =
     let r = map_has (finding_of catalogue parts) (range_with_len 0 (length catalogue.records)) f (has_of (audit_of catalogue parts) f there) in
     subst (λ (f : Found). (copy : Stored) × (f.newest ≡ Some copy) × (has_value (serial (start_values catalogue) (order m.after.journal)) f.rec copy.value ≡ true)) r.2
-    (told catalogue parts m.after down (subst (λ (c : Catalogue). MajoritiesTell c m.after) same (law s m h).1) (subst (λ (c : Catalogue). HoldersHaveCopies c m.after) same (held s m h).1) r.0 (subst (λ (f : Found). f.can ≡ can.Yes) (sym r.2) sure))
+    (told catalogue parts m.after down (subst (λ (c : Catalogue). MajoritiesTell c m.after) same (law s (subst IsWhole (sym same) whole) m h).1) (subst (λ (c : Catalogue). HoldersHaveCopies c m.after) same (held s m h).1) r.0 (subst (λ (f : Found). f.can ≡ can.Yes) (sym r.2) sure))

@@ -2,38 +2,53 @@
 use Rattle.std.proofs.Common.{◌≡◌, ◌∙◌, sym, ℕ, ◌+◌, Bool, true, false, cond, List, [], ◌∷◌, ◌++◌, fold, refl, append_assoc, arith}
 use Rattle.std.proofs.lemmas.List.{append-nil}
 use Rattle.std.proofs.lemmas.List.FromFn.{map-range_with_len_more}
-use Rattle.std.specs.Prelude.{Option, Some, None, filter, map, option_to_list}
+use Rattle.std.specs.Prelude.{Option, Some, None, filter, flat_map, map, option_to_list}
 use Rattle.std.specs.List.{range_with_len}
 use Rattle.vp_model.specs.Types.{Stored, Doubt}
-use Rattle.vp_model.specs.Words.{keys, put}
+use Rattle.vp_model.specs.Words.{keys, put, value_at}
 use Rattle.vp_model.specs.Catalogue.{Catalogue}
 use Rattle.vp_model.specs.Durable.{DurableState}
 use Rattle.vp_model.specs.Refresh.{newest}
 use Rattle.vp_audit.specs.declared.found.DoubtAt.{DoubtAt}
-use Rattle.vp_audit.specs.Audited.{Parts, finding_of, is_dated, newest_of, row_before, rows_of, same_row, settled_copy, settled_on, sites_dated, with_copy, writes_to}
-
--- the newest so far, or the settled copy of one more site
-abbrev pub newest_step : ℕ → Option Stored → ℕ × DurableState → Option Stored
-newest_step rec best part = with_copy best (settled_copy rec part.1)
+use Rattle.vp_audit.specs.Audited.{Parts, copies_on, finding_of, is_dated, newest_of, row_before, rows_of, same_row, settled_copy, settled_on, sites_dated, with_copy, writes_to}
 
 -- the newest of this one and some copies
 abbrev newest_with : Option Stored → List (ℕ × Stored) → Option Stored
 newest_with None copies = newest_of copies
 newest_with (Some best) copies = Some (newest best copies)
 
-newest_from : (rec : ℕ) (best : Option Stored) (parts : Parts) → fold (newest_step rec) best parts ≡ newest_with best (settled_on rec parts)
-newest_from rec None [] = refl
-newest_from rec (Some best) [] = refl
-newest_from rec best (p ∷ parts) = go best (settled_copy rec p.1) (λ b. newest_from rec b parts)
-  where
-    go : (best : Option Stored) (o : Option Stored) → ((b : Option Stored) → fold (newest_step rec) b parts ≡ newest_with b (settled_on rec parts)) → fold (newest_step rec) (with_copy best o) parts ≡ newest_with best (map (λ copy. (p.0, copy)) (option_to_list o) ++ settled_on rec parts)
-    go None None rest = rest None
-    go (Some best) None rest = rest (Some best)
-    go None (Some copy) rest = rest (Some copy)
-    go (Some best) (Some copy) rest = rest (with_copy (Some best) (Some copy))
+-- what is chosen of each site: the newest so far, or that of one more site
+module _ (chosen : DurableState → Option Stored) where
+  abbrev newest_next : Option Stored → ℕ × DurableState → Option Stored
+  newest_next best part = with_copy best (chosen part.1)
+
+  abbrev chosen_at : ℕ × DurableState → List (ℕ × Stored)
+  chosen_at part = map (λ copy. (part.0, copy)) (option_to_list (chosen part.1))
+
+  newest_from : (best : Option Stored) (parts : Parts) → fold newest_next best parts ≡ newest_with best (flat_map chosen_at parts)
+  newest_from None [] = refl
+  newest_from (Some best) [] = refl
+  newest_from best (p ∷ parts) = go best (chosen p.1) (λ b. newest_from b parts)
+    where
+      go : (best : Option Stored) (o : Option Stored) → ((b : Option Stored) → fold newest_next b parts ≡ newest_with b (flat_map chosen_at parts)) → fold newest_next (with_copy best o) parts ≡ newest_with best (map (λ copy. (p.0, copy)) (option_to_list o) ++ flat_map chosen_at parts)
+      go None None rest = rest None
+      go (Some best) None rest = rest (Some best)
+      go None (Some copy) rest = rest (Some copy)
+      go (Some best) (Some copy) rest = rest (with_copy (Some best) (Some copy))
+
+-- the newest so far, or the settled copy of one more site
+abbrev pub newest_step : ℕ → Option Stored → ℕ × DurableState → Option Stored
+newest_step rec best part = with_copy best (settled_copy rec part.1)
 
 pub newest_walked : (rec : ℕ) (parts : Parts) → fold (newest_step rec) None parts ≡ newest_of (settled_on rec parts)
-newest_walked rec parts = newest_from rec None parts
+newest_walked rec parts = newest_from (settled_copy rec) None parts
+
+-- or its copy, settled or not
+abbrev pub any_step : ℕ → Option Stored → ℕ × DurableState → Option Stored
+any_step rec best part = with_copy best (value_at rec part.1.copies)
+
+pub any_walked : (rec : ℕ) (parts : Parts) → fold (any_step rec) None parts ≡ newest_of (copies_on rec parts)
+any_walked rec parts = newest_from (λ d. value_at rec d.copies) None parts
 
 -- a fold over what passes a test
 fold_passing : {A B : Type 0} (test : A → Bool) (f : B → A → B) (b : B) (xs : List A) → fold (λ b x. cond (test x) (f b x) b) b xs ≡ fold f b (filter test xs)

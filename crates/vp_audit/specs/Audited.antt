@@ -1,9 +1,9 @@
 -- What the durable parts of some sites hold of each record.
-use Rattle.std.specs.Prelude.{ℕ, ◌*◌, Bool, nat_lt, ◌==◌, ◌&&◌, ◌||◌, nat_le, if◌then◌else◌, false, List, [], ◌∷◌, length, map, filter, flat_map, slice_get, Option, Some, None, option_to_list}
+use Rattle.std.specs.Prelude.{ℕ, ◌*◌, Bool, nat_lt, ◌==◌, ◌&&◌, ◌||◌, nat_le, if◌then◌else◌, false, List, [], ◌∷◌, length, map, filter, flat_map, slice_get, Option, Some, None, option_and_then, option_to_list}
 use Rattle.std.specs.List.{list_any, range_with_len}
 use Rattle.vp_model.specs.Types.{Stored, Doubt}
-use Rattle.vp_model.specs.Words.{same_view, same_txn, txn_before, has, keys, put, value_at, for_each}
-use Rattle.vp_model.specs.Catalogue.{Catalogue, inside, total}
+use Rattle.vp_model.specs.Words.{first_some, same_view, same_txn, txn_before, has, keys, put, value_at, for_each}
+use Rattle.vp_model.specs.Catalogue.{Catalogue, Table, table_or, weight_inside, weight_total}
 use Rattle.vp_model.specs.Durable.{DurableState}
 use Rattle.vp_model.specs.Refresh.{newer, newest}
 use Rattle.vp_audit.specs.declared.found.Can.{Can}
@@ -34,6 +34,13 @@ settled_at rec part = map (λ copy. (part.0, copy)) (option_to_list (settled_cop
 -- the settled copies of the record, by site
 abbrev pub settled_on : ℕ → Parts → List (ℕ × Stored)
 settled_on rec parts = flat_map (settled_at rec) parts
+
+-- its copies, settled or not, by site
+abbrev pub copy_at : ℕ → ℕ × DurableState → List (ℕ × Stored)
+copy_at rec part = map (λ copy. (part.0, copy)) (option_to_list (value_at rec part.1.copies))
+
+abbrev pub copies_on : ℕ → Parts → List (ℕ × Stored)
+copies_on rec parts = flat_map (copy_at rec) parts
 
 -- the newest one, of the least site where several have its date
 abbrev pub newest_of : List (ℕ × Stored) → Option Stored
@@ -75,6 +82,13 @@ rows_on rec parts = for_each parts (rows_at rec) []
 
 -- ---- whether a value is sure
 
+-- The table by which it is judged: that of the newest settled copy or, where none is settled, of the newest copy.
+abbrev pub judging_copy : ℕ → Parts → Option Stored
+judging_copy rec parts = first_some (newest_of (settled_on rec parts)) (newest_of (copies_on rec parts))
+
+abbrev pub table_on : Catalogue → ℕ → Parts → Table
+table_on catalogue rec parts = table_or catalogue rec (option_and_then (λ (copy : Stored). copy.table) (judging_copy rec parts))
+
 -- With no more than half of the weight it isn't. Else a transaction in doubt has to end before, the least one first.
 abbrev pub waits : Option DoubtAt → Can
 waits None = can.Yes
@@ -89,12 +103,13 @@ abbrev pub finding_of : Catalogue → Parts → ℕ → Found
 finding_of catalogue parts rec =
     let best = newest_of (settled_on rec parts) in
     let rows = rows_on rec parts in
+    let t = table_on catalogue rec parts in
     record {
       rec = rec;
       newest = best;
       sites = sites_dated best rec parts;
       doubts = rows;
-      can = can_of (inside catalogue rec (keys parts)) (total catalogue rec) rows;
+      can = can_of (weight_inside (keys parts) t) (weight_total t) rows;
     }
 
 -- what is found of each record, in catalogue order

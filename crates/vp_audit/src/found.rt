@@ -3,7 +3,8 @@
 ghost use Rattle.std.specs.Prelude.{◌≡◌, IfOk, OnOk, filter, option_copied};
 ghost use Rattle.std.specs.List.{list_any};
 ghost use Rattle.vp_model.specs.Words.{keys};
-ghost use Rattle.vp_audit.specs.Audited.{can_of, finding_of, is_dated, newest_of, rows_of, rows_on, settled_copy, settled_on, sites_dated, with_copy, writes_to};
+ghost use Rattle.vp_model.specs.Catalogue.{weight_inside, weight_total};
+ghost use Rattle.vp_audit.specs.Audited.{can_of, copies_on, finding_of, is_dated, judging_copy, newest_of, rows_of, rows_on, settled_copy, settled_on, sites_dated, table_on, with_copy, writes_to};
 
 use vp_base::{CopyOf, Doubt, NoMemory, RecId, Seq, SiteId, Sites, Stored, TxnId, ViewId};
 use vp_catalog::Catalog;
@@ -81,7 +82,7 @@ impl Found {
         let newest = newest_on(parts, rec)?;
         let dated = sites_dated(parts, rec, &newest)?;
         let doubts = doubts_on(parts, rec)?;
-        let can = can_of(catalog.inside(rec, sites), catalog.total(rec), &doubts);
+        let can = can_of(sums_on(catalog, parts, sites, rec, &newest)?, &doubts);
         Ok(Found {
             rec,
             newest,
@@ -143,6 +144,50 @@ fn newest_on(parts: &Parts, rec: RecId) -> Result<Option<Stored>, NoMemory>
     Ok(newest)
 }
 
+/// The newest copy, settled or not, of the least site where several have its date; none where the sites have none.
+fn newest_copy(parts: &Parts, rec: RecId) -> Result<Option<Stored>, NoMemory>
+    ensures { IfOk result (λ newest. newest ≡ newest_of (copies_on rec parts.now)) }
+{
+    let mut newest = None;
+    for part in parts.as_slice() {
+        newest = with_copy(newest, part.1.stored(rec))?;
+    }
+    Ok(newest)
+}
+
+/// The copy by whose table the weights are added up: the newest settled one, else the newest one.
+fn judging_copy(
+    parts: &Parts,
+    rec: RecId,
+    newest: &Option<Stored>,
+) -> Result<Option<Stored>, NoMemory>
+    requires { newest.now ≡ newest_of (settled_on rec parts.now) }
+    ensures { IfOk result (λ copy. copy ≡ judging_copy rec parts.now) }
+{
+    match newest {
+        Some(copy) => Ok(Some(copy.copy_of()?)),
+        None => newest_copy(parts, rec),
+    }
+}
+
+/// The weight of the record's copies at the sites, and of all of them, by its newest table there.
+fn sums_on(
+    catalog: &Catalog,
+    parts: &Parts,
+    sites: &Sites,
+    rec: RecId,
+    newest: &Option<Stored>,
+) -> Result<(u32, u32), NoMemory>
+    requires { newest.now ≡ newest_of (settled_on rec parts.now) }
+    ensures { IfOk result (λ sums. sums ≡
+        (let t = table_on catalog.now rec parts.now in (weight_inside sites.now t, weight_total t))) }
+{
+    match judging_copy(parts, rec, newest)? {
+        None => Ok(catalog.sums(rec, None, sites)),
+        Some(copy) => Ok(catalog.sums(rec, copy.table.as_ref(), sites)),
+    }
+}
+
 fn is_dated(newest: &Option<Stored>, copy: Option<&Stored>) -> bool
     ensures { result ≡ is_dated newest.now (option_copied copy.entry) }
 {
@@ -195,9 +240,10 @@ fn add_doubts(rows: &mut Doubts, site: SiteId, doubts: &[Doubt], rec: RecId) -> 
 
 /// Says whether the value is sure, by the weights and the doubts: it needs more than half of the weight (Bernstein, Hadzilacos and Goodman
 /// 1987, chapter 8), and no transaction in doubt.
-fn can_of(inside: u32, total: u32, doubts: &Doubts) -> Can
-    ensures { result ≡ can_of inside total doubts.now }
+fn can_of(sums: (u32, u32), doubts: &Doubts) -> Can
+    ensures { result ≡ can_of sums.0 sums.1 doubts.now }
 {
+    let (inside, total) = sums;
     if 2 * u64::from(inside) <= u64::from(total) {
         return Can::No { inside, total };
     }

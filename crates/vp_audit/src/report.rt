@@ -18,7 +18,7 @@ pub fn audit(catalog: &Catalog, parts: &Parts) -> Result<Report, NoMemory>
 {
     reports_are_true();
     let sites = sites_of(parts)?;
-    let mut report = Report::new(parts.allocator());
+    let mut report = Report::new(catalog.sites().allocator());
     for place in 0..catalog.count() {
         let rec = RecId::new(place as u8);
         report.push(Found::of(catalog, parts, &sites, rec)?)?;

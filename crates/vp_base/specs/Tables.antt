@@ -1,5 +1,6 @@
 -- Tables of weights.
-use Rattle.std.specs.Prelude.{⊤, ℕ, ◌<◌, ◌≤◌, List, [], ◌∷◌, length}
+use Rattle.std.specs.Prelude.{⊤, ℕ, Bool, ◌==◌, ◌<◌, ◌≤◌, List, [], ◌∷◌, filter, length, sum_by}
+use Rattle.std.specs.List.{list_any}
 
 -- the weight of the copy at a site above the given one
 pub record IsShare (above : ℕ) (share : ℕ × ℕ) : Type 0 where
@@ -17,3 +18,15 @@ pub record IsTable (table : List (ℕ × ℕ)) : Type 0 where
   pub held : 1 ≤ length table
   pub few : length table ≤ 16
   pub shares_are : AreShares 0 table
+
+-- the weight of all copies
+abbrev pub weight_total : List (ℕ × ℕ) → ℕ
+weight_total table = sum_by (λ share. share.1) table
+
+-- the number is in the list
+abbrev pub has : List ℕ → ℕ → Bool
+has numbers n = list_any (λ m. m == n) numbers
+
+-- the weight of the copies at the members
+abbrev pub weight_inside : List ℕ → List (ℕ × ℕ) → ℕ
+weight_inside members table = sum_by (λ share. share.1) (filter (λ share. has members share.0) table)

@@ -6,10 +6,11 @@ ghost use Rattle.vp_base.specs.Effects.{with_entry, with_commit, with_reply, wit
 use crate::answer::{Answer, Reply};
 use crate::entry::{Commit, LogRecord};
 use crate::ids::{CallNo, SiteId, TxnId};
-use crate::lists::{Batch, Commits, Messages, Replies, Table};
+use crate::lists::{Batch, Commits, Messages, Replies};
 use crate::memory::NoMemory;
 use crate::message::{Message, Sent};
 use crate::seq::CopyOf;
+use crate::table::Table;
 use crate::text::Name;
 use crate::value::Value;
 use std::alloc::Global;

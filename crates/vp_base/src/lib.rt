@@ -19,6 +19,7 @@ mod numbers;
 mod places;
 mod seq;
 mod site;
+mod table;
 mod text;
 mod txn_text;
 mod value;
@@ -36,7 +37,7 @@ pub use limits::{
 };
 pub use lists::{
     Bars, Batch, Batches, Commits, Copies, Decisions, Events, InDoubt, Messages, Names, Ops, Recs,
-    Replies, Sites, Table, Tables, Txns, Word, Writes,
+    Replies, Sites, Tables, Txns, Word, Writes,
 };
 pub use memory::NoMemory;
 pub use message::{Message, Obstacle, Sent};
@@ -44,5 +45,6 @@ pub use numbers::only_its_own_bytes_read_as_a_number;
 pub use places::{parse_place, place};
 pub use seq::{CopyOf, Seq};
 pub use site::{Ending, Finished, Live, Lock, Newest, Part, Pending, Refreshing};
+pub use table::{Table, has_site, weight_inside, weight_total};
 pub use text::Name;
 pub use value::Value;

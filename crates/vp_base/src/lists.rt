@@ -6,6 +6,7 @@ use crate::event::Event;
 use crate::ids::{RecId, SiteId, TxnId};
 use crate::message::Sent;
 use crate::seq::Seq;
+use crate::table::Table;
 use crate::text::Name;
 
 /// Sites, ascending.
@@ -28,8 +29,6 @@ pub type Names = Seq<Name>;
 pub type Txns = Seq<TxnId>;
 /// Records, ascending; 64 at most.
 pub type Recs = Seq<RecId>;
-/// A weight for each holder of a record, ascending by site.
-pub type Table = Seq<(SiteId, u16)>;
 /// Records with the tables that a transaction gave them, ascending by record; 64 at most.
 pub type Tables = Seq<(RecId, Table)>;
 /// Records that may not be used in the held view, with the weight inside it and the whole weight, ascending by record.

@@ -6,7 +6,9 @@ use vp_base::{
     Change, Copies, CopyOf, Decisions, InDoubt, LogRecord, Put, RecId, SiteId, Sites, Stored,
     Table, TxnId, Value, ViewId, Writes,
 };
+use vp_contents::read_table;
 use vp_records::{DecisionTable, Durable};
+use vp_text::Cursor;
 
 pub(crate) fn txn(seq: u32) -> TxnId {
     TxnId {
@@ -251,9 +253,11 @@ fn a_copy_has_the_doubts_too(rt: HostRuntime) {
 }
 
 fn a_table(rt: &impl Abort, alloc: Global) -> Table {
-    let mut table = Table::new(alloc);
-    table.push((SiteId::of(1), 2)).expect(rt, "memory");
-    table
+    let mut cursor = Cursor::new(&[1, 1, 2, 0]);
+    match read_table(alloc, &mut cursor) {
+        Ok(table) => table,
+        Err(_fault) => panic!(rt; "these bytes are a table"),
+    }
 }
 
 /// The durable part after a commit of this change of record 0, in view 4.

@@ -1,23 +1,24 @@
 //! The catalogue and its look-ups.
 
-ghost use Rattle.std.specs.Prelude.{◌≡◌, ◌≤◌, ◌<◌, ◌++◌, ◌∷◌, [], length, map, slice_get, option_map, option_copied, if◌then◌else◌, is_ok, nat_lt, false, IsTrue, Some, None, OnOk, IfOk};
+ghost use Rattle.std.specs.Prelude.{◌≡◌, ◌≤◌, ◌<◌, ◌++◌, ◌∷◌, [], length, map, slice_get, option_map, option_copied, if◌then◌else◌, is_ok, nat_lt, false, IsTrue, Some, None, OnOk, IfOk, IfSome};
+ghost use Rattle.std.specs.List.{list_any};
 ghost use Rattle.vp_model.specs.Words.{first, keys, value_at, has};
 ghost use Rattle.vp_model.specs.Refresh.{members_in, other_holders_in};
 ghost use Rattle.vp_catalog.specs.Entries.{IsSite, IsRecord, last_site, has_port, has_name};
 ghost use Rattle.vp_catalog.specs.Adding.{IsAllowed, Adds};
 ghost use Rattle.vp_catalog.specs.Document.{IsCatalogueSoFar};
-ghost use Rattle.vp_model.specs.Catalogue.{sites_of, find_record, weights_of, holders, has_holders, inside, total, accessible, weight, start_copies, copies_from};
+ghost use Rattle.vp_model.specs.Catalogue.{sites_of, find_record, weights_of, holders, has_holders, inside, total, accessible, table_or, weight, weight_inside, weight_total, start_copies, copies_from};
 
 use crate::entry::Entry;
 use crate::fault::CatalogFault;
 use crate::others::{least_other, others_in};
-use crate::placed::{CatalogRecord, has_site, number_of};
+use crate::placed::{CatalogRecord, has_common, number_of};
 use indexmap::IndexSet;
 use std::alloc::Global;
 use std::marker::Model;
 use vp_base::{
-    Copies, CopyOf, MOST_RECORDS, Name, Names, NoMemory, RecId, SiteId, Sites, Stored, Value, View,
-    ViewId,
+    Copies, CopyOf, MOST_RECORDS, Name, Names, NoMemory, RecId, SiteId, Sites, Stored, Table,
+    Value, View, ViewId, has_site,
 };
 
 /// Sites with their ports, ascending by site, and at most 256 records, known by their places. The bytes of the records' names are
@@ -262,12 +263,11 @@ impl Catalog {
     }
 
     /// Whether the table has a weight for each holder of the record, and for no other site.
-    pub fn has_holders(&self, rec: RecId, table: &[(SiteId, u16)]) -> Result<bool, NoMemory>
-        ensures same { IfOk result (λ same. same ≡ has_holders self.now rec table.now) }
-        ensures few { IfOk result (λ same. IsTrue same → length table.now ≤ 16) }
+    pub fn has_holders(&self, rec: RecId, table: &Table) -> Result<bool, NoMemory>
+        ensures { IfOk result (λ same. same ≡ has_holders self.now rec table.now) }
     {
         match self.placed(rec) {
-            None => Ok(table.is_empty()),
+            None => Ok(false),
             Some(placed) => placed.has_holders(table),
         }
     }
@@ -338,6 +338,27 @@ impl Catalog {
         ensures { result ≡ accessible self.now rec members.now }
     {
         u64::from(self.total(rec)) < 2 * u64::from(self.inside(rec, members))
+    }
+
+    /// Whether one of the members has a copy of the record.
+    pub fn is_held_by_some(&self, rec: RecId, members: &Sites) -> bool
+        ensures { result ≡ list_any (has members.now) (holders self.now rec) }
+    {
+        match self.holders(rec) {
+            Some(sites) => has_common(sites.as_slice(), members.as_slice()),
+            None => false,
+        }
+    }
+
+    /// The weight of the record's copies at the members, and of all of them, by this table or, where none is given, the catalogue's.
+    pub fn sums(&self, rec: RecId, table: Option<&Table>, members: &Sites) -> (u32, u32)
+        ensures { let t = table_or self.now rec (option_copied table.entry) in
+            result ≡ (weight_inside members.now t, weight_total t) }
+    {
+        match table {
+            None => (self.inside(rec, members), self.total(rec)),
+            Some(table) => (table.inside(members), table.total()),
+        }
     }
 
     /// Copies the names of the records, in their order.

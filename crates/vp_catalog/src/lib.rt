@@ -18,7 +18,7 @@ pub use entry::Entry;
 pub use fault::CatalogFault;
 pub use majority::majorities_share_a_holder;
 pub use others::{alone, others_of};
-pub use placed::{CatalogRecord, has_site, weight_inside, weight_total};
+pub use placed::CatalogRecord;
 pub use printing::print_weights;
 pub use reading::parse_entry;
 pub use site::parse_site;

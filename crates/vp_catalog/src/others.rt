@@ -3,9 +3,8 @@
 ghost use Rattle.std.specs.Prelude.{◌≡◌, ◌≤◌, ◌∷◌, [], ℕ, false, not, ◌==◌, ◌&&◌, get_or, filter, find, length, IfOk};
 ghost use Rattle.vp_model.specs.Words.{has};
 
-use crate::placed::has_site;
 use std::alloc::Global;
-use vp_base::{NoMemory, SiteId, Sites};
+use vp_base::{NoMemory, SiteId, Sites, has_site};
 
 /// Makes a list of this site only.
 pub fn alone(alloc: Global, site: SiteId) -> Result<Sites, NoMemory>

@@ -2,13 +2,16 @@
 
 ghost use Rattle.std.specs.Prelude.{◌≡◌, ◌≤◌, ◌<◌, ◌^◌, length, filter, sum_by, IfOk, IsTrue};
 ghost use Rattle.std.specs.Str.{bytes_eq};
+ghost use Rattle.std.specs.List.{list_any};
 ghost use Rattle.std.specs.Option.{option_map_or};
 ghost use Rattle.vp_model.specs.Words.{has, keys, value_at};
 ghost use Rattle.vp_model.specs.Catalogue.{weight_inside, weight_total};
 
 use std::alloc::Global;
 use std::marker::Model;
-use vp_base::{CopyOf, Name, NoMemory, SiteId, Sites, Value};
+use vp_base::{
+    CopyOf, Name, NoMemory, SiteId, Sites, Table, Value, has_site, weight_inside, weight_total,
+};
 
 /// A record: its name, the value that each copy starts with, and the weights of its copies, ascending by holder.
 pub struct CatalogRecord {
@@ -119,11 +122,10 @@ impl CatalogRecord {
     }
 
     /// Whether the table has a weight for each holder, and for no other site.
-    pub fn has_holders(&self, table: &[(SiteId, u16)]) -> Result<bool, NoMemory>
-        ensures same { IfOk result (λ same. same ≡ bytes_eq (keys table.now) (keys self.now.weights)) }
-        ensures few { IfOk result (λ same. IsTrue same → length table.now ≤ 16) }
+    pub fn has_holders(&self, table: &Table) -> Result<bool, NoMemory>
+        ensures { IfOk result (λ same. same ≡ bytes_eq (keys table.now) (keys self.now.weights)) }
     {
-        let sites = holders_of(*self.weights.allocator(), table)?;
+        let sites = holders_of(*self.weights.allocator(), table.as_slice())?;
         Ok(sites.as_slice() == self.holders.as_slice())
     }
 
@@ -136,7 +138,7 @@ impl CatalogRecord {
 
     /// The weight of all copies.
     pub fn total(&self) -> u32
-        ensures { result ≡ sum_by (λ w. w.1) self.now.weights }
+        ensures { result ≡ weight_total self.now.weights }
     {
         weight_total(&self.weights)
     }
@@ -164,35 +166,9 @@ pub(crate) fn number_of(numbers: &[(SiteId, u16)], site: SiteId) -> Option<u16>
     None
 }
 
-/// Whether the site is in the list.
-pub fn has_site(sites: &[SiteId], site: SiteId) -> bool
-    ensures { result ≡ has sites.now site }
+/// Whether some site is in both lists.
+pub(crate) fn has_common(sites: &[SiteId], others: &[SiteId]) -> bool
+    ensures { result ≡ list_any (has others.now) sites.now }
 {
-    sites.contains(&site)
-}
-
-/// The weight, by a table, of the copies at the members.
-pub fn weight_inside(weights: &[(SiteId, u16)], members: &[SiteId]) -> u32
-    requires { length weights.now ≤ 16 }
-    ensures { result ≡ weight_inside members.now weights.now }
-{
-    let mut inside = 0;
-    for weight in weights {
-        if has_site(members, weight.0) {
-            inside += u32::from(weight.1);
-        }
-    }
-    inside
-}
-
-/// The weight, by a table, of all copies.
-pub fn weight_total(weights: &[(SiteId, u16)]) -> u32
-    requires { length weights.now ≤ 16 }
-    ensures { result ≡ weight_total weights.now }
-{
-    let mut total = 0;
-    for weight in weights {
-        total += u32::from(weight.1);
-    }
-    total
+    sites.iter().any(|site| has_site(others, *site))
 }

@@ -2,8 +2,8 @@
 
 use crate::datagram;
 use std::alloc::{AllocError, Global};
-use vp_base::{SiteId, Word};
-use vp_catalog::{Catalog, has_site};
+use vp_base::{SiteId, Word, has_site};
+use vp_catalog::Catalog;
 use vp_disks::MemDisk;
 use vp_outside::{Datagram, MemLink, OutFault, TextSink};
 use vp_status::Status;

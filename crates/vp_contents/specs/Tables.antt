@@ -1,6 +1,7 @@
 -- Tables of weights: a weight for each of 1 to 16 sites, ascending. Where a table may be left out, the first version has no byte for it.
-use Rattle.std.specs.Prelude.{ℕ, suc, ◌≤◌, List, [], ◌∷◌, ◌++◌, length, flat_map, cond, ◌==◌, Option, Some, None, Result, Ok}
+use Rattle.std.specs.Prelude.{ℕ, List, [], ◌∷◌, ◌++◌, length, flat_map, cond, ◌==◌, Option, Some, None, Result, Ok}
 use Rattle.vp_text.specs.Reading.{◌>>=◌}
+use Rattle.vp_base.specs.Tables.{IsTable}
 use Rattle.vp_bytes.specs.Fields.{Spelled, number_bytes}
 use Rattle.vp_bytes.specs.Ranges.{number_within_at}
 use Rattle.vp_bytes.specs.Reading.{byte_at, within, ascending_at, counted_at}
@@ -16,15 +17,6 @@ weight_bytes weight = weight.0 ∷ number_bytes 2 weight.1
 
 abbrev pub table_bytes : List (ℕ × ℕ) → List ℕ
 table_bytes table = length table ∷ flat_map weight_bytes table
-
--- weights of sites, each above the one before it
-abbrev pub IsAscendingTable : ℕ → List (ℕ × ℕ) → Type 0
-IsAscendingTable least [] = Unit {0}
-IsAscendingTable least (weight ∷ table) = (least ≤ weight.0) × (weight.0 ≤ 16) × ((1 ≤ weight.1) × (weight.1 ≤ 65535)) × IsAscendingTable (suc weight.0) table
-
--- 1 to 16 weights of sites, ascending
-abbrev pub IsTable : List (ℕ × ℕ) → Type 0
-IsTable table = (1 ≤ length table) × (length table ≤ 16) × IsAscendingTable 1 table
 
 abbrev pub IsTableBytes : List (ℕ × ℕ) → List ℕ → Type 0
 IsTableBytes = Spelled table_bytes IsTable

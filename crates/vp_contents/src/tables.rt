@@ -17,31 +17,44 @@ use vp_base::{LAST_SITE, LineFault, NoMemory, SiteId, Table};
 use vp_bytes::{put_byte, read_byte, read_u16_within};
 use vp_text::{Cursor, Unexpected};
 
-/// Reads a count from 1 to 16 and then as many weights of sites, ascending.
-#[tactic(auto, unfolding(crate::specs::Tables::table_at, vp_bytes::specs::Reading::counted_at))]
+/// Reads a table: a count from 1 to 16 and then as many weights of sites, ascending.
+#[tactic(auto, using(crate::proofs::TablesExact::table_read))]
 pub fn read_table(alloc: Global, cursor: &mut Cursor) -> Result<Table, LineFault>
     ensures { Tries (λ t. t) line_left result cursor.new (table_at cursor.old) }
+{
+    let shares = read_shares(alloc, cursor)?;
+    Ok(Table::of(shares))
+}
+
+/// Reads a count from 1 to 16 and then as many weights of sites, ascending.
+#[tactic(auto, unfolding(crate::specs::Tables::table_at, vp_bytes::specs::Reading::counted_at))]
+fn read_shares(alloc: Global, cursor: &mut Cursor) -> Result<Vec<(SiteId, u16)>, LineFault>
+    ensures { Tries (λ t. t.items) line_left result cursor.new (table_at cursor.old) }
 {
     let count = read_byte(cursor, 1, LAST_SITE)?;
     read_some_weights(alloc, cursor, count)
 }
 
 /// Reads `count` weights of sites, ascending.
-fn read_some_weights(alloc: Global, cursor: &mut Cursor, count: u8) -> Result<Table, LineFault>
+fn read_some_weights(
+    alloc: Global,
+    cursor: &mut Cursor,
+    count: u8,
+) -> Result<Vec<(SiteId, u16)>, LineFault>
     requires { count ≤ 16 }
-    ensures { Tries (λ t. t) line_left result cursor.new
+    ensures { Tries (λ t. t.items) line_left result cursor.new
         (run_at (λ weight. weight.0) weight_at count 1 cursor.old) }
 {
-    let mut table = Table::new(alloc);
+    let mut shares = Vec::new(alloc);
     let mut left = count;
     let mut least = 1;
     while left > 0 {
         left -= 1;
         let weight = read_weight(cursor, least, left)?;
         least = weight.0.get() + 1;
-        table.push(weight)?;
+        shares.push(weight)?;
     }
-    Ok(table)
+    Ok(shares)
 }
 
 /// Reads a site from `least` on that leaves room for the others after it, and its weight.
@@ -87,12 +100,12 @@ fn read_marked_table(alloc: Global, cursor: &mut Cursor) -> Result<Option<Table>
 
 /// Appends the count of the weights and then the weights.
 #[tactic(auto, using(vp_bytes::proofs::Writing::writing))]
-pub fn put_table<B: BufMut>(out: &mut B, table: &[(SiteId, u16)]) -> Result<(), NoMemory>
-    requires { length table.now ≤ 16 }
+pub fn put_table<B: BufMut>(out: &mut B, table: &Table) -> Result<(), NoMemory>
     ensures { Appends result (B.written out.old) (table_bytes table.now) (B.written out.new) }
 {
-    put_byte(out, table.len() as u8)?;
-    for weight in table {
+    let shares = table.as_slice();
+    put_byte(out, shares.len() as u8)?;
+    for weight in shares {
         put_weight(out, weight.0, weight.1)?;
     }
     Ok(())
@@ -121,7 +134,7 @@ pub fn put_maybe_table<B: BufMut>(
         None => put_mark(out, version, 0),
         Some(table) => {
             put_mark(out, version, 1)?;
-            put_table(out, table.as_slice())
+            put_table(out, table)
         }
     }
 }

@@ -1,13 +1,13 @@
 -- The call that waits for an answer is found first, and then what it is to do.
 use Rattle.std.proofs.Common.{◌≡◌, ◌==◌, ℕ, true, false, if◌then◌else◌, List, Option, Some, None, option_map, refl, filter, not}
 use Rattle.std.specs.Option.{option_map_or}
-use Rattle.vp_model.specs.Types.{TxnId, Call, Obstacle, Pending, Live}
+use Rattle.vp_model.specs.Types.{TxnId, Call, Obstacle, Pending, Live, Ending}
 use Rattle.vp_model.specs.Types.call
 use Rattle.vp_model.specs.Types.obstacle
 use Rattle.vp_model.specs.Words.{for_some, has, is_empty}
 use Rattle.vp_model.specs.Catalogue.{Catalogue, find_record}
 use Rattle.vp_model.specs.Site.{Lent}
-use Rattle.vp_base.specs.declared.site.Ending.TheVariants.{LockHeld}
+use Rattle.vp_base.specs.declared.site.Ending.TheVariants.{LockHeld, Inaccessible}
 use Rattle.vp_model.specs.Transactions.{live_of, close, decide, complete}
 use Rattle.vp_model.specs.Calls.{answer_read, change_asked}
 use Rattle.vp_model.specs.Answers.{record_name, with_missing, count_in, read_answered, on_read_answer, write_answered, on_write_answer, refused_by, on_refuse, voted, on_vote}
@@ -72,14 +72,14 @@ vote_waits catalogue id from txn l = taken_up from (λ t p. voted catalogue id f
 pub ruleset questions = (read_wanted, change_wanted, vote_counts)
 
 module _ (id from : ℕ) (t : Live) (l : Lent) where
+  named_ends : (why : List ℕ → Ending) (name : Option (List ℕ)) → for_some name (λ name. close id t (why name)) l ≡ for_some (option_map why name) (close id t) l
+  named_ends why None = refl
+  named_ends why (Some name) = refl
+
   refused_ends : (why : Obstacle) (words : Call) → refused_by id why words from t l ≡ for_some (refused_end from why t.view words) (close id t) l
-  refused_ends (obstacle.Held holder) words = named (record_name words)
-    where
-      named : (name : Option (List ℕ)) → for_some name (λ name. close id t (LockHeld name from holder)) l ≡ for_some (option_map (λ name. LockHeld name from holder) name) (close id t) l
-      named None = refl
-      named (Some name) = refl
+  refused_ends (obstacle.Held holder) words = named_ends (λ name. LockHeld name from holder) (record_name words)
   refused_ends (obstacle.OtherView now) words = refl
-  refused_ends (obstacle.Barred inside total) words = refl
+  refused_ends (obstacle.Barred inside total) words = named_ends (λ name. Inaccessible name inside total) (record_name words)
 
   pub refusal_ends : (number : ℕ) (why : Obstacle) (p : Pending) → (if p.number == number then refused_by id why p.call from t l else l) ≡ for_some (refusal from number why t.view p) (close id t) l
   refusal_ends number why p =

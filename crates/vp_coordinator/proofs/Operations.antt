@@ -51,11 +51,11 @@ module _ (port : ℕ) (use_record : ℕ → Lent → Lent) (l : Lent) where
   by_weights told rec (Some weights) = refl
 
 module _ (catalogue : Catalogue) (held : Option View) (t : Live) (p : Pending) (name : List ℕ) (asked : ℕ → Deed) (use_record : ℕ → Lent → Lent) (l : Lent) where
-  pub record_first : with_record catalogue held t p name asked use_record l ≡ by_record (usable_record catalogue held t p name asked) p.port use_record l
+  pub record_first : with_record catalogue held t p name asked use_record l ≡ by_record (usable_record catalogue held l.bars t p name asked) p.port use_record l
   unfolding with_record
   record_first =
       by_find p.port use_record l (find_record catalogue name) _ _ _ _
       (λ rec. by_test p.port use_record l (is_bad_table catalogue (asked rec)) _ _ _ _ refl
       (by_test p.port use_record l (nat_le 64 (length t.answers) || is_too_large t (asked rec)) _ _ _ _ refl
-      (by_weights p.port use_record l (λ (w : ℕ × ℕ). answer.Inaccessible t.txn p.number name w.0 w.1) rec (short catalogue held rec (asked rec)))))
+      (by_weights p.port use_record l (λ (w : ℕ × ℕ). answer.Inaccessible t.txn p.number name w.0 w.1) rec (short catalogue held l.bars rec (asked rec)))))
       refl

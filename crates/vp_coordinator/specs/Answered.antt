@@ -1,7 +1,7 @@
 -- What an answer of another site does to the call that waits for it.
 use Rattle.std.specs.Prelude.{ℕ, ◌==◌, Bool, true, false, if◌then◌else◌, List, Option, Some, None, option_map}
 use Rattle.vp_model.specs.Types.{ViewId, Call, Obstacle, Pending, Live, Ending}
-use Rattle.vp_base.specs.declared.site.Ending.TheVariants.{LockHeld, ViewChanged}
+use Rattle.vp_base.specs.declared.site.Ending.TheVariants.{LockHeld, ViewChanged, Inaccessible}
 use Rattle.vp_model.specs.Types.call
 use Rattle.vp_model.specs.Types.obstacle
 use Rattle.vp_model.specs.Words.{for_some}
@@ -28,7 +28,7 @@ is_commit _ = false
 abbrev pub refused_end : ℕ → Obstacle → ViewId → Call → Option Ending
 refused_end from (obstacle.Held holder) view words = option_map (λ name. LockHeld name from holder) (record_name words)
 refused_end from (obstacle.OtherView now) view words = Some (ViewChanged from view now)
-refused_end from (obstacle.Barred inside total) view words = None
+refused_end from (obstacle.Barred inside total) view words = option_map (λ name. Inaccessible name inside total) (record_name words)
 
 abbrev pub refusal : ℕ → ℕ → Obstacle → ViewId → Pending → Option Ending
 refusal from number why view p = if p.number == number then refused_end from why view p.call else None

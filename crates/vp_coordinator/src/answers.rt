@@ -76,7 +76,14 @@ fn refused_end(
                 owner: *owner,
             })),
         },
-        Obstacle::Barred { .. } => Ok(None),
+        Obstacle::Barred { inside, total } => match record_name(call) {
+            None => Ok(None),
+            Some(name) => Ok(Some(Ending::Inaccessible {
+                name: name.copy_of()?,
+                inside: *inside,
+                total: *total,
+            })),
+        },
     }
 }
 

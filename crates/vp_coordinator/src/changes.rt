@@ -131,7 +131,7 @@ pub fn change_named(
         new_change at.now.catalog.now at.now.id (option_copied at.now.held) handled.old.live handled.old.pending name.now (deed_asked call.now)
         (in_place handled.old.live lent.old)) }
 {
-    match usable_record(at, handled, name, call)? {
+    match usable_record(at, &lent.here.bars, handled, name, call)? {
         Ok(rec) => change(lent, at, handled, &Wanted { name, rec, call }),
         Err(answer) => lent.refuse(handled, answer),
     }

@@ -10,13 +10,13 @@ use crate::here::Here;
 use std::alloc::Global;
 use std::marker::Model;
 use std::mem;
-use vp_base::{CopyOf, Decisions, Effects, Newest, NoMemory, SiteId};
+use vp_base::{Bars, CopyOf, Decisions, Effects, Newest, NoMemory, SiteId};
 use vp_locks::Locks;
 use vp_records::Durable;
 use vp_transactions::Transactions;
 
-/// What a row changes: the transactions that its site began in its current life, the locks and the copies there, and the effects of
-/// the step.
+/// What a row changes: the transactions that its site began in its current life, the locks, the copies and the bars there, and the
+/// effects of the step.
 #[derive(Drop)]
 pub struct Coordinator {
     pub transactions: Transactions,
@@ -33,12 +33,12 @@ impl Model for Coordinator {
 }
 
 impl Coordinator {
-    /// What a site has that starts a life with this durable part and these locks: its decisions and copies, no transactions and no
-    /// effects.
+    /// What a site has that starts a life with this durable part and these locks: its decisions and copies, no transactions, no bars
+    /// and no effects.
     pub fn restore(alloc: Global, durable: Durable, locks: Locks) -> Result<Coordinator, NoMemory>
         ensures { IfOk result (λ lent. lent ≡ record {
           coordinator = record { seq = 0; live = []; finished = []; decisions = durable.decisions };
-          here = record { locks = locks; copies = durable.copies };
+          here = record { locks = locks; copies = durable.copies; bars = [] };
           effects = no_effects;
         }) }
     {
@@ -47,6 +47,7 @@ impl Coordinator {
         let here = Here {
             locks,
             copies: SiteCopies::new(durable.into_copies()),
+            bars: Bars::new(alloc),
         };
         Ok(Coordinator {
             transactions,

@@ -1,14 +1,16 @@
-//! The locks and copies of a site, which the transactions of all sites use.
+//! The locks, copies and bars of a site, which the transactions of all sites use.
 
 use crate::copies::SiteCopies;
 use std::marker::Model;
+use vp_base::Bars;
 use vp_locks::Locks;
 
-/// The locks and the copies of a site.
+/// The locks, the copies and the bars of a site.
 #[derive(Drop)]
 pub struct Here {
     pub locks: Locks,
     pub copies: SiteCopies,
+    pub bars: Bars,
 }
 
 impl Model for Here {
@@ -16,5 +18,5 @@ impl Model for Here {
 
     ghost Value = { HereState };
 
-    ghost view = { λ h. record { locks = h.locks; copies = h.copies } };
+    ghost view = { λ h. record { locks = h.locks; copies = h.copies; bars = h.bars } };
 }

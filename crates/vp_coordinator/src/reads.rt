@@ -120,7 +120,7 @@ pub fn read_named(
         (read at.now.catalog.now at.now.id (option_copied at.now.held) handled.old.live handled.old.pending name.now)
         (in_place handled.old.live lent.old)) }
 {
-    match usable_record(at, handled, name, call)? {
+    match usable_record(at, &lent.here.bars, handled, name, call)? {
         Ok(rec) => read(lent, at, handled, name, rec),
         Err(answer) => lent.refuse(handled, answer),
     }

@@ -2,54 +2,52 @@
 
 ghost use Rattle.std.specs.Prelude.{◌≡◌, ◌≤◌, ◌||◌, IfOk, Some, None, false, is_some, nat_le, if◌then◌else◌, length, option_copied};
 ghost use Rattle.vp_base.specs.declared.answer.Answer.TheVariants as answer;
-ghost use Rattle.vp_model.specs.Words.{value_at};
-ghost use Rattle.vp_model.specs.Catalogue.{accessible, accessible_by, inside, total, weight_inside, weight_total};
+ghost use Rattle.vp_model.specs.Words.{first_some, value_at};
+ghost use Rattle.vp_model.specs.Catalogue.{accessible_by, weight_inside, weight_total};
 ghost use Rattle.vp_model.specs.Transactions.{entry_of, last_writes, last_changes};
-ghost use Rattle.vp_model.specs.Calls.{is_bad_table, is_too_large, short_by, short};
+ghost use Rattle.vp_model.specs.Calls.{is_bad_table, is_too_large, short_by, short_of_holders, short};
 ghost use Rattle.vp_coordinator.specs.Deeds.{as_deed, deed_asked};
-ghost use Rattle.vp_coordinator.specs.Records.{HasFewShares, usable_as, usable_record, writes};
+ghost use Rattle.vp_coordinator.specs.Records.{usable_as, usable_record, writes};
 
 use crate::around::Around;
 use crate::deeds::{Deed, deed_asked};
 use crate::here::Here;
 use crate::sizes::is_too_large;
 use vp_base::{
-    Answer, Call, CopyOf, Live, MOST_OPS, Name, NoMemory, Op, RecId, SiteId, Sites, Stored, Value,
+    Answer, Bars, Call, CopyOf, Live, MOST_OPS, Name, NoMemory, Op, RecId, Sites, Stored, Table,
+    Value,
 };
-use vp_catalog::{Catalog, members_of, weight_inside, weight_total};
-use vp_lists::value_at;
+use vp_catalog::{Catalog, members_of};
+use vp_lists::{find_bar, value_at};
 use vp_transactions::Handled;
 
 /// Whether the table that is asked for has other sites than the record's holders.
 fn is_bad_table(catalog: &Catalog, deed: &Deed) -> Result<bool, NoMemory>
-    ensures bad { IfOk result (λ bad. bad ≡ is_bad_table catalog.now (as_deed deed.now)) }
-    ensures few { IfOk result (λ bad. bad ≡ false → HasFewShares (as_deed deed.now)) }
+    ensures { IfOk result (λ bad. bad ≡ is_bad_table catalog.now (as_deed deed.now)) }
 {
     match deed {
         Deed::Operates { .. } => Ok(false),
-        Deed::Weighs { rec, table } => Ok(!catalog.has_holders(*rec, table.as_slice())?),
+        Deed::Weighs { rec, table } => Ok(!catalog.has_holders(*rec, table)?),
     }
 }
 
 /// The weight inside and the whole weight by the table that is asked for, where no more than half is at the members.
 fn short_by(deed: &Deed, members: &Sites) -> Option<(u32, u32)>
-    requires { HasFewShares (as_deed deed.now) }
     ensures { result ≡ short_by (as_deed deed.now) members.now }
 {
     match deed {
         Deed::Operates { .. } => None,
-        Deed::Weighs { table, .. } => short_table(table.as_slice(), members.as_slice()),
+        Deed::Weighs { table, .. } => short_table(table, members),
     }
 }
 
 /// Both weights by a table, where no more than half is at the members.
-fn short_table(table: &[(SiteId, u16)], members: &[SiteId]) -> Option<(u32, u32)>
-    requires { length table.now ≤ 16 }
+fn short_table(table: &Table, members: &Sites) -> Option<(u32, u32)>
     ensures { result ≡
         (if accessible_by table.now members.now then None else Some (weight_inside members.now table.now, weight_total table.now)) }
 {
-    let inside = weight_inside(table, members);
-    let total = weight_total(table);
+    let inside = table.inside(members);
+    let total = table.total();
     if u64::from(total) < 2 * u64::from(inside) {
         None
     } else {
@@ -57,27 +55,35 @@ fn short_table(table: &[(SiteId, u16)], members: &[SiteId]) -> Option<(u32, u32)
     }
 }
 
-/// Both weights by the catalogue, where no more than half is at the members.
-fn short_here(catalog: &Catalog, members: &Sites, rec: RecId) -> Option<(u32, u32)>
-    ensures { result ≡
-        (if accessible catalog.now rec members.now then None else Some (inside catalog.now rec members.now, total catalog.now rec)) }
+/// No weight inside and the whole weight by the catalogue, where no member holds the record.
+fn short_of_holders(catalog: &Catalog, rec: RecId, members: &Sites) -> Option<(u32, u32)>
+    ensures { result ≡ short_of_holders catalog.now rec members.now }
 {
-    if catalog.accessible(rec, members) {
+    if catalog.is_held_by_some(rec, members) {
         None
     } else {
-        Some((catalog.inside(rec, members), catalog.total(rec)))
+        Some((0, catalog.total(rec)))
+    }
+}
+
+/// Why the record may not be used, whatever is asked of it: the bar on the copy here, or that no member holds it.
+fn short_here(catalog: &Catalog, bars: &Bars, rec: RecId, members: &Sites) -> Option<(u32, u32)>
+    ensures { result ≡ first_some (value_at rec bars.now) (short_of_holders catalog.now rec members.now) }
+{
+    match find_bar(bars, rec) {
+        None => short_of_holders(catalog, rec, members),
+        Some(weights) => Some(weights),
     }
 }
 
 /// Why the record may not be used so in the held view, as two weights.
-fn short(at: &Around<'_, '_>, handled: &Handled, rec: RecId, deed: &Deed) -> Option<(u32, u32)>
-    requires { HasFewShares (as_deed deed.now) }
-    ensures { result ≡ short at.now.catalog.now (option_copied at.now.held) rec (as_deed deed.now) }
+fn short(at: &Around<'_, '_>, bars: &Bars, rec: RecId, deed: &Deed) -> Option<(u32, u32)>
+    ensures { result ≡ short at.now.catalog.now (option_copied at.now.held) bars.now rec (as_deed deed.now) }
 {
-    let none = Sites::new(handled.live.ops.allocator());
+    let none = Sites::new(bars.allocator());
     let members = members_of(at.held, &none);
     match short_by(deed, members) {
-        None => short_here(at.catalog, members, rec),
+        None => short_here(at.catalog, bars, rec, members),
         Some(weights) => Some(weights),
     }
 }
@@ -106,13 +112,14 @@ fn is_over(t: &Live, deed: &Deed) -> Result<bool, NoMemory>
 
 fn usable_as(
     at: &Around<'_, '_>,
+    bars: &Bars,
     handled: &Handled,
     name: &Name,
     rec: RecId,
     deed: &Deed,
 ) -> Result<Result<RecId, Answer>, NoMemory>
     ensures { IfOk result (λ found. found ≡
-        usable_as at.now.catalog.now (option_copied at.now.held) handled.now.live handled.now.pending name.now rec (as_deed deed.now)) }
+        usable_as at.now.catalog.now (option_copied at.now.held) bars.now handled.now.live handled.now.pending name.now rec (as_deed deed.now)) }
 {
     let txn = handled.txn();
     let number = handled.number();
@@ -122,7 +129,7 @@ fn usable_as(
     if is_over(&handled.live, deed)? {
         return Ok(Err(Answer::TooManyOps { txn, number }));
     }
-    match short(at, handled, rec, deed) {
+    match short(at, bars, rec, deed) {
         None => Ok(Ok(rec)),
         Some(weights) => Ok(Err(inaccessible(handled, name, weights)?)),
     }
@@ -131,12 +138,13 @@ fn usable_as(
 /// Finds the record that the call names, or else gives the answer that refuses its use.
 pub fn usable_record(
     at: &Around<'_, '_>,
+    bars: &Bars,
     handled: &Handled,
     name: &Name,
     call: &Call,
 ) -> Result<Result<RecId, Answer>, NoMemory>
     ensures { IfOk result (λ found. found ≡
-        usable_record at.now.catalog.now (option_copied at.now.held) handled.now.live handled.now.pending name.now (deed_asked call.now)) }
+        usable_record at.now.catalog.now (option_copied at.now.held) bars.now handled.now.live handled.now.pending name.now (deed_asked call.now)) }
 {
     match at.catalog.find(name) {
         None => Ok(Err(Answer::NoRecord {
@@ -145,7 +153,7 @@ pub fn usable_record(
         })),
         Some(rec) => {
             let deed = deed_asked(call, rec)?;
-            usable_as(at, handled, name, rec, &deed)
+            usable_as(at, bars, handled, name, rec, &deed)
         }
     }
 }

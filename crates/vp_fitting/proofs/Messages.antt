@@ -27,7 +27,7 @@ use Rattle.vp_laws.proofs.Lists.Members.{Has, has_none, has_cons}
 use Rattle.vp_laws.proofs.Lists.Numbers.{eq_not}
 use Rattle.vp_laws.proofs.Moves.LocalViews.{letter}
 use Rattle.vp_runs.specs.declared.arrival.Arrival.TheVariants.{Stray, Gives}
-use Rattle.vp_fitting.specs.Asked.{asks, asks_body, asks_of, is_weigh}
+use Rattle.vp_fitting.specs.Asked.{asks, asks_body, asks_of}
 use Rattle.vp_fitting.specs.Merged.{same_sent, lowest, event_of}
 
 -- ---- what a frame asks
@@ -48,7 +48,7 @@ body_asks s bytes version from to (body.Message m) form given e = go (to == s) r
         let same : input.Message from m ≡ given = cc in
         subst (AskedBy s bytes) same (AskedBy.sent from m (omega arith, omega arith, subst (λ (to : ℕ). IsBody versions.Second from to (body.Message m)) to_is form))
     go false t q = absurd cc
-body_asks s bytes version from to (body.Call words) form given e = go ((to == s) && not (is_weigh words)) e
+body_asks s bytes version from to (body.Call words) form given e = go (to == s) e
   where
     go : (here : Bool) → cond here (Gives (input.Call 0 words)) Stray ≡ Gives given → AskedBy s bytes given
     go true q = let same : input.Call 0 words ≡ given = cc in subst (AskedBy s bytes) same (AskedBy.called words (call_of words form.2))

@@ -46,16 +46,9 @@ outs_of d = map (λ out. out.bytes) d.turn.outs
 
 -- ---- what a frame is
 
--- no schedule has a call that changes a table yet
-abbrev pub is_weigh : Call → Bool
-is_weigh (call.Weigh txn number name table) = true
-is_weigh _ = false
-
--- a frame that stops its node; else what the frame is to the site, to which calls come from port 0; a call that no schedule has is none of its
--- calls
+-- a frame that stops its node; else what the frame is to the site, to which calls come from port 0
 abbrev pub asks_body : ℕ → Frame → Body → Arrival
 asks_body site frame body.Stop = Stops
-asks_body site frame (body.Call words) = if frame.to == site && not (is_weigh words) then Gives (input.Call 0 words) else Stray
 asks_body site frame b = if frame.to == site then arrival_in 0 frame.from b else Stray
 
 abbrev pub asks_of : ℕ → Result Frame ℕ → Arrival

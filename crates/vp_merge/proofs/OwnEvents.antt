@@ -17,11 +17,10 @@ use Rattle.vp_wire.specs.Grammar.{IsBody, IsFrame, frame_bytes, frame_of}
 use Rattle.vp_laws.specs.Shapes.{IsInput}
 use Rattle.vp_laws.specs.ShapeLaws.{message_frame}
 use Rattle.vp_laws.proofs.Moves.LocalViews.{letter}
-use Rattle.vp_schedule.specs.Grammar.{IsReadable}
 use Rattle.vp_runs.specs.Arrivals.{IsArrival}
 use Rattle.vp_runs.specs.declared.arrival.Arrival.{Arrival}
 use Rattle.vp_runs.specs.declared.arrival.Arrival.TheVariants.{Bad, Stray, Stops, Gives}
-use Rattle.vp_fitting.specs.Asked.{asks, asks_body, asks_of, is_weigh}
+use Rattle.vp_fitting.specs.Asked.{asks, asks_body, asks_of}
 use Rattle.vp_fitting.specs.Merged.{event_of, is_ready, own_events, lowest, events_in}
 use Rattle.vp_fitting.proofs.Messages.{AskedBy, asked_by}
 use Rattle.vp_merge.specs.Numbers.{sent_again, as_sent, entry_of, number_in, number_of, IsIndex, HasFrame, HasTurn}
@@ -59,7 +58,7 @@ asked_frame site recorded from m e = go (read_frame recorded) e
 
     of_body : (f : Frame) (b : Body) → asks_body site f b ≡ Gives (input.Message from m) → frame_bytes (frame_of f.from f.to b) ≡ frame_bytes (message_frame (letter from site m))
     of_body f (body.Message n) q = same_letter f.from f.to n (other (f.to == site) (input.Message f.from n) q) (eqb-true f.to site (here_is (f.to == site) (input.Message f.from n) q))
-    of_body f (body.Call words) q = absurd (no_call ((f.to == site) && not (is_weigh words)) words q)
+    of_body f (body.Call words) q = absurd (no_call (f.to == site) words q)
     of_body f (body.Reply answer) q = absurd (no_reply (f.to == site) q)
     of_body f body.Tick q = let bad : input.Tick ≡ input.Message from m = other (f.to == site) input.Tick q in absurd cc
     of_body f body.ProbeNow q = let bad : input.Probe ≡ input.Message from m = other (f.to == site) input.Probe q in absurd cc
@@ -68,46 +67,6 @@ asked_frame site recorded from m e = go (read_frame recorded) e
     go : (read : Result Frame ℕ) → asks_of site read ≡ Gives (input.Message from m) → sent_again read recorded ≡ frame_bytes (message_frame (letter from site m))
     go (Ok f) q = of_body f f.body q
     go (Err at) q = absurd cc
-
--- a call that is asked may be in a schedule
-asked_call : (site : ℕ) (recorded : List ℕ) (port : ℕ) (words : Call) → asks site recorded ≡ Gives (input.Call port words) → is_weigh words ≡ false
-unfolding asks
-asked_call site recorded port words e = go (read_frame recorded) e
-  where
-    no_input : (here : Bool) (given : Input) → (given ≡ input.Call port words → ⊥) → cond here (Gives given) Stray ≡ Gives (input.Call port words) → ⊥
-    no_input true given never q = never (let same : given ≡ input.Call port words = cc in same)
-    no_input false given never q = cc
-
-    no_reply : (here : Bool) → cond here Stray Stray ≡ Gives (input.Call port words) → ⊥
-    no_reply true q = cc
-    no_reply false q = cc
-
-    of_call : (to weighs : Bool) (other : Call) → is_weigh other ≡ weighs → cond (to && not weighs) (Gives (input.Call 0 other)) Stray ≡ Gives (input.Call port words) → is_weigh words ≡ false
-    of_call true false other is q = let same : other ≡ words = cc in subst (λ (w : Call). is_weigh w ≡ false) same is
-    of_call true true other is q = absurd cc
-    of_call false weighs other is q = absurd cc
-
-    of_body : (f : Frame) (b : Body) → asks_body site f b ≡ Gives (input.Call port words) → is_weigh words ≡ false
-    of_body f (body.Message n) q = absurd (no_input (f.to == site) (input.Message f.from n) (λ same. cc) q)
-    of_body f (body.Call other) q = of_call (f.to == site) (is_weigh other) other refl q
-    of_body f (body.Reply answer) q = absurd (no_reply (f.to == site) q)
-    of_body f body.Tick q = absurd (no_input (f.to == site) input.Tick (λ same. cc) q)
-    of_body f body.ProbeNow q = absurd (no_input (f.to == site) input.Probe (λ same. cc) q)
-    of_body f body.Stop q = absurd cc
-
-    go : (read : Result Frame ℕ) → asks_of site read ≡ Gives (input.Call port words) → is_weigh words ≡ false
-    go (Ok f) q = of_body f f.body q
-    go (Err at) q = absurd cc
-
-readable : (words : Call) → is_weigh words ≡ false → IsReadable words
-readable call.Begin e = tt
-readable call.Regroup e = tt
-readable (call.Read txn number name) e = tt
-readable (call.Write txn number name value) e = tt
-readable (call.Commit txn number) e = tt
-readable (call.Abort txn number) e = tt
-readable (call.Delete txn number name) e = tt
-readable (call.Weigh txn number name table) e = cc
 
 -- what is asked of a site has its form
 pub asks_form : (site : ℕ) (recorded : List ℕ) (a : Arrival) → asks site recorded ≡ a → IsArrival a
@@ -162,7 +121,7 @@ module _ (numbers : FrameNumbers) (all : List Sent) (index : IsIndex numbers all
     delivered (Some k) e = let w = position-within _ all 1 k e in (tt, (omega (arith, w.0), omega (arith, w.1, few)))
 
     pub event_is_put : (a : Arrival) → asks site recorded ≡ a → IsArrival a → IfSome (own_event numbers site frame a) (IsPut sites)
-    event_is_put (Gives (input.Call port words)) e form = (tt, (known, form.1, readable words (asked_call site recorded port words e)))
+    event_is_put (Gives (input.Call port words)) e form = (tt, (known, form.1))
     event_is_put (Gives (input.Message from message)) e form = subst (λ (o : Option ℕ). IfSome (option_map event.Deliver o) (IsPut sites)) (sym number_is) (delivered (number_of frame all) refl)
     event_is_put (Gives input.Tick) e form = (tt, known)
     event_is_put (Gives input.Probe) e form = (tt, known)

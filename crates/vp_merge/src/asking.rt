@@ -1,13 +1,13 @@
 //! What the frame of a turn asks of its site.
 
 ghost use Rattle.std.specs.Prelude.{◌≡◌, if◌then◌else◌, IfOk};
-ghost use Rattle.vp_fitting.specs.Asked.{asks, asks_body, is_weigh};
+ghost use Rattle.vp_fitting.specs.Asked.{asks, asks_body};
 ghost use Rattle.vp_runs.specs.Arrivals.{IsArrival};
 ghost use Rattle.vp_runs.specs.declared.arrival.Arrival.TheVariants.{Gives, Stray};
 ghost use Rattle.vp_wire.specs.Grammar.{IsFrame};
 
 use std::alloc::Global;
-use vp_base::{Call, Input, NoMemory, SiteId};
+use vp_base::{Input, NoMemory, SiteId};
 use vp_runs::Arrival;
 use vp_wire::{Body, Frame, WireFault, decode, frames_are_read};
 
@@ -19,16 +19,6 @@ fn given(here: bool, input: Input) -> Arrival
         Arrival::Gives { input }
     } else {
         Arrival::Stray
-    }
-}
-
-/// Whether the call changes a table. No schedule has such a call yet.
-fn is_weigh(call: &Call) -> bool
-    ensures { result ≡ is_weigh call.now }
-{
-    match call {
-        Call::Weigh { .. } => true,
-        _ => false,
     }
 }
 
@@ -52,10 +42,7 @@ fn asked_by(site: SiteId, frame: Frame) -> Arrival
                 message,
             },
         ),
-        Body::Call(call) => {
-            let here = here && !is_weigh(&call);
-            given(here, Input::Call { from: 0, call })
-        }
+        Body::Call(call) => given(here, Input::Call { from: 0, call }),
         Body::Reply(_) => Arrival::Stray,
         Body::Tick => given(here, Input::Tick),
         Body::ProbeNow => given(here, Input::Probe),

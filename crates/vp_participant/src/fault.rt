@@ -10,6 +10,8 @@ pub enum PartFault {
     OtherView { now: Option<ViewId> },
     /// The transaction has ended here, in the held view.
     Ended,
+    /// The record may not be used in the held view, which has this weight inside of the whole.
+    Barred { inside: u32, total: u32 },
     /// Another owner has a lock that conflicts; of several such owners, the least one.
     Held { owner: Owner },
     /// Memory is lacking.

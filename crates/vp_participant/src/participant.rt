@@ -9,7 +9,7 @@ ghost use Rattle.vp_model.specs.Locks.{holds, with_lock, without_owner};
 ghost use Rattle.vp_model.specs.Views.{without_parts, outlasts};
 ghost use Rattle.vp_model.specs.Messages.{with_part, has_all_locks, with_new_doubt, with_ended};
 ghost use Rattle.vp_model.specs.Step.{known, locks_in_doubt};
-ghost use Rattle.vp_participant.specs.Refusals.{lock_refusal, lock_refused, vote_refusal, vote_refused};
+ghost use Rattle.vp_participant.specs.Refusals.{lock_refusal, lock_refused, obstacle, vote_refusal, vote_refused};
 ghost use Rattle.vp_participant.specs.Doubts.{doubt_ended, is_written};
 ghost use Rattle.vp_participant.specs.Ballots.{ballot, ballot_of, first_ballot};
 
@@ -21,10 +21,10 @@ use crate::requests::{Prepare, Request};
 use std::alloc::Global;
 use std::marker::Model;
 use vp_base::{
-    Change, CopyOf, Doubt, InDoubt, Lock, LogRecord, NoMemory, Owner, Part, RecId, TxnId, Txns,
+    Bars, Change, CopyOf, Doubt, InDoubt, Lock, LogRecord, NoMemory, Owner, Part, RecId, TxnId, Txns,
     View, ViewId, Writes,
 };
-use vp_lists::copy_all;
+use vp_lists::{copy_all, find_bar};
 use vp_locks::{Keeps, Locks};
 use vp_records::Durable;
 use vp_tables::{Table, TxnSet};
@@ -118,48 +118,61 @@ impl Participant {
         }
     }
 
-    /// Takes a shared lock for the transaction, which gets a part here where it has none.
+    /// Why the request is refused, whatever locks there are; `None` where it isn't.
+    fn obstacle(&self, bars: &Bars, held: Option<&View>, request: &Request) -> Option<PartFault>
+        ensures { result ≡ obstacle (option_copied held.entry) request.now self.now bars.now }
+    {
+        if let Some(why) = self.refusal(held, &request.txn, request.view) {
+            return Some(why.into());
+        }
+        match find_bar(bars, request.rec) {
+            None => None,
+            Some((inside, total)) => Some(PartFault::Barred { inside, total }),
+        }
+    }
+
+    /// Takes a shared lock for the transaction, which gets a part here where it has none. A bar on the record is tested before locks.
     pub fn read_request(
         &mut self,
         locks: &mut Locks,
+        bars: &Bars,
         held: Option<&View>,
         request: &Request,
     ) -> Result<(), PartFault>
         ensures told { lock_refused result ≡
-            lock_refusal (option_copied held.entry) request.now.txn request.now.view request.now.rec false
-            self.old locks.old }
+            lock_refusal (option_copied held.entry) request.now false self.old bars.now locks.old }
         ensures part { OnOk result (self.new ≡ with_part request.now.txn request.now.view self.old) }
         ensures lock { OnOk result
             (locks.new ≡ with_lock request.now.rec false (owner.Txn request.now.txn) locks.old) }
         ensures refused { IfSome (lock_refused result)
             (λ why. (self.new ≡ self.old) × (locks.new ≡ locks.old)) }
     {
-        if let Some(why) = self.refusal(held, &request.txn, request.view) {
-            return Err(why.into());
+        if let Some(fault) = self.obstacle(bars, held, request) {
+            return Err(fault);
         }
         locks.take_shared(request.rec, request.txn)?;
         self.join(&request.txn, request.view)?;
         Ok(())
     }
 
-    /// Takes an exclusive lock for the transaction, which gets a part here where it has none.
+    /// Takes an exclusive lock for the transaction, which gets a part here where it has none. A bar on the record is tested before locks.
     pub fn write_request(
         &mut self,
         locks: &mut Locks,
+        bars: &Bars,
         held: Option<&View>,
         request: &Request,
     ) -> Result<(), PartFault>
         ensures told { lock_refused result ≡
-            lock_refusal (option_copied held.entry) request.now.txn request.now.view request.now.rec true
-            self.old locks.old }
+            lock_refusal (option_copied held.entry) request.now true self.old bars.now locks.old }
         ensures part { OnOk result (self.new ≡ with_part request.now.txn request.now.view self.old) }
         ensures lock { OnOk result
             (locks.new ≡ with_lock request.now.rec true (owner.Txn request.now.txn) locks.old) }
         ensures refused { IfSome (lock_refused result)
             (λ why. (self.new ≡ self.old) × (locks.new ≡ locks.old)) }
     {
-        if let Some(why) = self.refusal(held, &request.txn, request.view) {
-            return Err(why.into());
+        if let Some(fault) = self.obstacle(bars, held, request) {
+            return Err(fault);
         }
         locks.take_exclusive(request.rec, request.txn)?;
         self.join(&request.txn, request.view)?;

@@ -1,5 +1,5 @@
 -- What was told of a script is what its evaluation does.
-use Rattle.std.proofs.Common.{◌≡◌, ◌∙◌, ◌+◌, ℕ, List, [], ◌∷◌, ◌++◌, Bool, true, false, cond, Option, Some, None, refl, sym, ap, subst, option_map, append_assoc}
+use Rattle.std.proofs.Common.{◌≡◌, ◌∙◌, ◌+◌, ℕ, List, [], ◌∷◌, ◌++◌, Bool, true, false, cond, Option, Some, None, refl, sym, ap, subst, option_map, append_assoc, inl, inr}
 use Rattle.std.specs.Option.{option_map_or}
 use Rattle.std.specs.Prelude.{slice_get, slice_set, option_and_then}
 use Rattle.std.proofs.lemmas.List.{append-nil}
@@ -10,9 +10,15 @@ use Rattle.vp_model.specs.Types.answer
 use Rattle.vp_model.specs.Words.{same_content}
 use Rattle.vp_model.specs.OneCopy.{Values, play, play_one}
 use Rattle.vp_client.specs.Conversations.{Exchange}
+use Rattle.vp_outside.specs.Links.{LinkState}
+use Rattle.vp_procedure.specs.declared.procedure.Procedure.{Procedure}
+use Rattle.vp_proc.specs.declared.ended.End.{End}
+use Rattle.vp_proc.specs.declared.ended.End.TheVariants as ends
+use Rattle.vp_proc.specs.declared.ended.Ended.{Ended}
+use Rattle.vp_proc.specs.Ran.{HasTold, Ends}
 use Rattle.vp_proc.specs.Scripts.{Script, script, Evaluated, content_at, eval, eval_after}
 use Rattle.vp_proc.specs.Telling.{content_in, told, Tells}
-use Rattle.vp_proc.specs.Claims.{BeginWith, IsEvaluation, RunsAreEvaluations}
+use Rattle.vp_proc.specs.Claims.{AreAsTold, BeginWith, IsEvaluation, IsEvaluated, IsItsOwn, RunsAreEvaluations}
 
 -- ---- one operation
 
@@ -119,3 +125,34 @@ is_evaluation e ops now (Script.stops end) is = is
 
 pub runs_evaluate : RunsAreEvaluations
 runs_evaluate p txn exchanges ops left m now t e = is_evaluation (eval p m) ops now left (follows txn 1 (script p) exchanges [] ops left m now t e)
+
+-- ---- a run that has ended
+
+module _ (port site turns : ℕ) (p : Procedure) (old : LinkState) where
+  abbrev Told : TxnId → List Op → Script → LinkState → Type 0
+  Told txn ops left now = HasTold port site turns p old txn ops left now
+
+  told_begins : (txn : TxnId) (ops : List Op) (left : Script) (now : LinkState) → Told txn ops left now → (m last : Values) → AreAsTold m ops last → BeginWith (eval p m).ops ops
+  told_begins txn ops left now h m last e =
+      subst (λ (v : Evaluated). BeginWith v.ops ops) (sym (follows txn 1 (script p) h.exchanges [] ops left m last h.tells e)) (begins left ops last)
+
+  -- what was told before the end
+  ends_begin : (ops : List Op) (end : End) (new : LinkState) → Ends port site turns p old ops end new → (m last : Values) → AreAsTold m ops last → BeginWith (eval p m).ops ops
+  ends_begin ops (ends.Done n) new h m last e = told_begins h.txn ops (Script.gives n) h.now h.has_told m last e
+  ends_begin ops (ends.NotNumber line) new h m last e = told_begins h.1.txn ops (Script.stops (ends.NotNumber line)) h.1.now h.1.due m last e
+  ends_begin ops (ends.Overflow line) new h m last e = told_begins h.1.txn ops (Script.stops (ends.Overflow line)) h.1.now h.1.due m last e
+  ends_begin ops (ends.Failed code) new h m last e = told_begins h.1.txn ops (Script.stops (ends.Failed code)) h.1.now h.1.due m last e
+  ends_begin ops (ends.Refused a) new (inl not_begun) m last e = subst (λ (o : List Op). BeginWith (eval p m).ops o) (sym not_begun.none) ((eval p m).ops, refl)
+  ends_begin ops (ends.Refused a) new (inr (inl closed)) m last e = told_begins closed.txn ops closed.refused.left closed.refused.now closed.refused.has_told m last e
+  ends_begin ops (ends.Refused a) new (inr (inr h)) m last e = told_begins h.1.txn ops h.1.due.0.left h.1.due.0.now h.1.due.0.has_told m last e
+
+  ends_are : (ops : List Op) (end : End) (new : LinkState) → Ends port site turns p old ops end new → (m last : Values) → AreAsTold m ops last → IsItsOwn end
+      → eval p m ≡ record { ops = ops; last = last; end = end }
+  ends_are ops (ends.Done n) new h m last e own = runs_evaluate p h.txn h.has_told.exchanges ops (Script.gives n) m last h.has_told.tells e
+  ends_are ops (ends.NotNumber line) new h m last e own = runs_evaluate p h.1.txn h.1.due.exchanges ops (Script.stops (ends.NotNumber line)) m last h.1.due.tells e
+  ends_are ops (ends.Overflow line) new h m last e own = runs_evaluate p h.1.txn h.1.due.exchanges ops (Script.stops (ends.Overflow line)) m last h.1.due.tells e
+  ends_are ops (ends.Failed code) new h m last e own = runs_evaluate p h.1.txn h.1.due.exchanges ops (Script.stops (ends.Failed code)) m last h.1.due.tells e
+  ends_are ops (ends.Refused a) new h m last e own = absurd own
+
+  pub ended_evaluated : (it : Ended) (new : LinkState) → Ends port site turns p old it.ops it.end new → IsEvaluated p it
+  ended_evaluated it new h = record { begins = ends_begin it.ops it.end new h; is = ends_are it.ops it.end new h }

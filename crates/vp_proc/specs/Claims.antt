@@ -1,11 +1,13 @@
 -- What follows for every one copy on which the reads are as they were told.
-use Rattle.std.specs.Prelude.{◌≡◌, List, [], ◌∷◌, ◌++◌, Some}
+use Rattle.std.specs.Prelude.{◌≡◌, ⊤, List, [], ◌∷◌, ◌++◌, Some}
 use Rattle.vp_model.specs.Types.{TxnId, Op}
 use Rattle.vp_model.specs.Types.op
 use Rattle.vp_model.specs.OneCopy.{Values, play}
 use Rattle.vp_client.specs.Conversations.{Exchange}
 use Rattle.vp_procedure.specs.declared.procedure.Procedure.{Procedure}
+use Rattle.vp_proc.specs.declared.ended.End.{End}
 use Rattle.vp_proc.specs.declared.ended.End.TheVariants as ends
+use Rattle.vp_proc.specs.declared.ended.Ended.{Ended}
 use Rattle.vp_proc.specs.Scripts.{Script, script, Evaluated, content_at, eval}
 use Rattle.vp_proc.specs.Telling.{Tells}
 
@@ -30,3 +32,16 @@ abbrev pub RunsAreEvaluations : Type 0
 RunsAreEvaluations =
     (p : Procedure) (txn : TxnId) (exchanges : List Exchange) (ops : List Op) (left : Script) (m now : Values) →
     Tells txn 1 (script p) exchanges ops left → AreAsTold m ops now → IsEvaluation (eval p m) ops now left
+
+-- ---- of a run that has ended
+
+-- It is an end that the procedure comes to by itself.
+abbrev pub IsItsOwn : End → Type 0
+IsItsOwn (ends.Refused a) = ⊥
+IsItsOwn end = ⊤
+
+-- On each map on which the reads are as they were told, the evaluation begins with the operations; and where no call was refused, it is
+-- these operations, the map that they leave, and this end.
+pub record IsEvaluated (p : Procedure) (it : Ended) : Type 0 where
+  pub begins : (m now : Values) → AreAsTold m it.ops now → BeginWith (eval p m).ops it.ops
+  pub is : (m now : Values) → AreAsTold m it.ops now → IsItsOwn it.end → eval p m ≡ record { ops = it.ops; last = now; end = it.end }

@@ -1,9 +1,10 @@
 //! Running a procedure.
 
-ghost use Rattle.std.specs.Prelude.{IsTrue};
+ghost use Rattle.std.specs.Prelude.{IfOk, IsTrue};
 ghost use Rattle.vp_outside.specs.Links.{StaysBound};
 ghost use Rattle.vp_procedure.specs.Procedures.{IsProcedure};
 ghost use Rattle.vp_proc.specs.Ran.{Runs};
+ghost use Rattle.vp_proc.specs.Claims.{IsEvaluated};
 
 use crate::ended::{End, Ended};
 use crate::session::{Session, begun_in};
@@ -26,6 +27,7 @@ pub fn run<L: Link>(
     requires bound { IsTrue (L.state link.old).bound }
     requires procedure { IsProcedure procedure.now }
     ensures runs { Runs port site turns procedure.now (L.state link.old) (L.state link.new) result }
+    ensures evaluated { IfOk result (IsEvaluated procedure.now) }
     ensures stays { StaysBound (L.state link.old) (L.state link.new) }
 {
     let answer = ask(alloc, link, port, site, &Call::Begin, turns)?;

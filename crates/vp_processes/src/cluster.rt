@@ -1,5 +1,6 @@
 //! A cluster whose nodes and clients are processes of one program.
 
+use crate::examples::{RECORDS, RUNS};
 use crate::ports::{LINK_FAULT, TRIES, are_free, free_port, free_ports};
 use crate::program::{Program, own};
 use std::io::Read;
@@ -41,20 +42,15 @@ const CALLS: [(&str, &str, &str); 5] = [
     ("2", "2.1.1 1 read x", "value 2.1.1 1 11\n"),
 ];
 
-/// A procedure that reads what the calls wrote, and fails by it.
-const PROCEDURE: &str = "procedure\nread a x\nif a < 20\nfail 7\nend\nresult a\n";
+/// What `check` says of all that was committed: by the calls, and by the procedures of the examples.
+const SERIAL: &[u8] = b"serial 7\n\
+x 11\nnorth 20\nsouth 170\ncount 2\nseats 0\nmine 1\ntheirs 0\n";
 
-/// The status of a procedure without a result.
-const NO_RESULT: u8 = 16;
-
-/// What a replay of the calls prints last.
-const HISTORY: &[u8] = b"\nhistory\nstart x 10\ncommit 1.1.1 0@0 w x 11\nend 1\n";
-
-/// The catalogue of three sites with a copy of x each, at these ports.
+/// The catalogue of three sites with a copy of each record, at these ports.
 fn three_sites(rt: HostRuntime, ports: &[u16; 4]) -> io::Result<String> {
     let [one, two, three, _] = ports;
     Ok(format!(in rt.alloc();
-        "site 1 {one}\nsite 2 {two}\nsite 3 {three}\nrecord x 10 1:1 2:1 3:1\n"
+        "site 1 {one}\nsite 2 {two}\nsite 3 {three}\nrecord x 10 1:1 2:1 3:1\n{RECORDS}"
     )?)
 }
 
@@ -219,20 +215,33 @@ impl Cluster {
         Ok(None)
     }
 
-    /// Whether a procedure at site 3 fails by what it reads there. If the clients' port is taken, it has another one.
-    pub fn fails_by_procedure(&self) -> io::Result<bool> {
+    /// Runs a procedure at a site: its status, and what it prints. It is run again where a lock of the one before isn't gone yet, and at
+    /// another port where the clients' port is taken.
+    fn procedure(&self, site: &str, procedure: &str) -> io::Result<(Option<u8>, Vec<u8>)> {
         let alloc = self.program.rt.alloc();
-        let input = format!(in alloc; "{}{PROCEDURE}", self.catalogue)?;
+        let input = format!(in alloc; "{}{procedure}", self.catalogue)?;
         let mut port = self.port;
         for _ in 0..TRIES {
             let own_port = format!(in alloc; "{port}")?;
-            let (status, printed) = self.run_on(&["proc", &own_port, "16", "3"], &input)?;
-            if status != Some(LINK_FAULT) {
-                return Ok(status == Some(NO_RESULT) && own(&printed) == b"failed 7\n".as_slice());
+            let (status, printed) = self.run_on(&["proc", &own_port, "16", site], &input)?;
+            if status == Some(LINK_FAULT) {
+                port = free_port(self.program.rt)?;
+            } else if !own(&printed).starts_with(b"lockheld ") {
+                return Ok((status, printed));
             }
-            port = free_port(self.program.rt)?;
         }
-        Ok(false)
+        Err(io::Error::from(io::ErrorKind::TimedOut))
+    }
+
+    /// Runs the procedures of the examples, one after the other, and returns the place of the first that doesn't end as it should.
+    pub fn first_unlike_its_example(&self) -> io::Result<Option<usize>> {
+        for (place, (procedure, site, text, status)) in RUNS.iter().enumerate() {
+            let (ended, printed) = self.procedure(site, procedure)?;
+            if ended != Some(*status) || own(&printed) != text.as_bytes() {
+                return Ok(Some(place));
+            }
+        }
+        Ok(None)
     }
 
     /// Stops the nodes, and returns the site of the first one that gets no stop or, once all got it, doesn't end well.
@@ -256,7 +265,7 @@ impl Cluster {
         Ok(None)
     }
 
-    /// What goes wrong first when the recordings that were kept are merged, and the schedule is replayed.
+    /// What goes wrong first when the recordings that were kept are merged, the schedule is replayed, and the history checked.
     pub fn first_unmerged(&self) -> io::Result<Option<&'static str>> {
         let alloc = self.program.rt.alloc();
         let recordings = &self.recordings;
@@ -269,8 +278,15 @@ impl Cluster {
             return Ok(Some("the merge"));
         }
         let (status, printed) = self.run_on(&["replay"], schedule)?;
-        if status != Some(0) || !own(&printed).ends_with(HISTORY) {
+        let Ok(history) = str::from_utf8(own(&printed)) else {
+            return Ok(Some("the history"));
+        };
+        if status != Some(0) {
             return Ok(Some("the replay"));
+        }
+        let (status, printed) = self.run_on(&["check"], history)?;
+        if status != Some(0) || own(&printed) != SERIAL {
+            return Ok(Some("the check"));
         }
         Ok(None)
     }

@@ -2,6 +2,7 @@
 #![tactic(auto)]
 
 mod cluster;
+mod examples;
 mod ports;
 mod program;
 mod streams;

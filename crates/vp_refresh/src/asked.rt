@@ -2,11 +2,12 @@
 
 ghost use Rattle.std.specs.Prelude.{◌≡◌, ◌==◌, [], OnOk, IfOk, option_copied};
 ghost use Rattle.vp_model.specs.Words.{has, keys};
-ghost use Rattle.vp_model.specs.Refresh.{newest};
 ghost use Rattle.vp_model.specs.Messages.{with_answer};
 ghost use Rattle.vp_refresh.specs.Asking.{missing_of};
+ghost use Rattle.vp_refresh.specs.Done.{done_of};
 ghost use Rattle.vp_refresh.specs.Newest.{IsNewest};
 
+use crate::done::Done;
 use crate::newest::newest;
 use std::alloc::Global;
 use std::marker::Model;
@@ -127,11 +128,22 @@ impl RefreshEntry {
         Ok(())
     }
 
-    /// The newest of the own copy and those that have come.
-    pub(crate) fn newest(&self, own: &Stored) -> Result<Stored, NoMemory>
-        ensures copy { IfOk result (λ copy. copy ≡ newest own.now self.now.answers) }
-        ensures newest { IfOk result (λ copy. IsNewest own.now self.now.answers copy) }
+    /// The newest of the own copy and those that have come, with the weights by its table.
+    pub(crate) fn done(
+        &self,
+        catalog: &Catalog,
+        members: &Sites,
+        own: &Stored,
+    ) -> Result<Done, NoMemory>
+        ensures done { IfOk result (λ done. done ≡ done_of catalog.now members.now own.now self.now) }
+        ensures newest { IfOk result (λ done. IsNewest own.now self.now.answers done.stored) }
     {
-        newest(own, self.refreshing.answers.as_slice()).copy_of()
+        let newest = newest(own, self.refreshing.answers.as_slice());
+        let (inside, total) = catalog.sums(self.refreshing.rec, newest.table.as_ref(), members);
+        Ok(Done {
+            stored: newest.copy_of()?,
+            inside,
+            total,
+        })
     }
 }

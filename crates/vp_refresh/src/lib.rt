@@ -6,8 +6,10 @@
 #![tactic(auto)]
 
 mod asked;
+mod done;
 mod newest;
 mod refresh;
 
 pub use asked::RefreshEntry;
+pub use done::Done;
 pub use refresh::Refresh;

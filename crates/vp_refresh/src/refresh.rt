@@ -2,12 +2,14 @@
 
 ghost use Rattle.std.specs.Prelude.{◌≡◌, ◌==◌, [], not, nat_lt, OnOk, OnErr, IfOk, IfSome, filter, map, option_map, option_copied};
 ghost use Rattle.vp_model.specs.Words.{put};
-ghost use Rattle.vp_model.specs.Refresh.{refreshing_of, newest};
+ghost use Rattle.vp_model.specs.Refresh.{refreshing_of};
 ghost use Rattle.vp_model.specs.Messages.{with_answer};
 ghost use Rattle.vp_refresh.specs.Asking.{missing_of};
+ghost use Rattle.vp_refresh.specs.Done.{done_of};
 ghost use Rattle.vp_refresh.specs.Newest.{IsNewestIn};
 
 use crate::asked::RefreshEntry;
+use crate::done::Done;
 use std::alloc::Global;
 use std::marker::Model;
 use vp_base::{CopyOf, NoMemory, RecId, SiteId, Sites, Stored, View};
@@ -101,15 +103,22 @@ impl Refresh {
         keep(&mut self.listed, from, rec, stored)
     }
 
-    /// The newest of the own copy and those that have come for the record; `None` where its copy is not under refresh.
-    pub fn newest(&self, rec: RecId, own: &Stored) -> Result<Option<Stored>, NoMemory>
-        ensures copy { IfOk result
-            (λ copy. copy ≡ option_map (λ r. newest own.now r.answers) (refreshing_of rec self.now)) }
-        ensures newest { IfOk result (λ copy. IfSome copy (IsNewestIn rec own.now self.now)) }
+    /// The newest of the own copy and those that have come for the record, with the weights by its table; `None` where its copy is
+    /// not under refresh.
+    pub fn done(
+        &self,
+        catalog: &Catalog,
+        members: &Sites,
+        rec: RecId,
+        own: &Stored,
+    ) -> Result<Option<Done>, NoMemory>
+        ensures done { IfOk result
+            (λ done. done ≡ option_map (done_of catalog.now members.now own.now) (refreshing_of rec self.now)) }
+        ensures newest { IfOk result (λ done. IfSome done (λ d. IsNewestIn rec own.now self.now d.stored)) }
     {
         match self.find(rec) {
             None => Ok(None),
-            Some(asked) => Ok(Some(asked.newest(own)?)),
+            Some(asked) => Ok(Some(asked.done(catalog, members, own)?)),
         }
     }
 

@@ -1,19 +1,21 @@
 -- The calls of the generator have numbers that fit, and the records that its transactions use are records of its catalogue.
 use Rattle.std.proofs.Common.{◌≡◌, ◌∙◌, ap, sym, subst, refl, arith, ℕ, zero, suc, ◌+◌, ◌*◌, ◌<◌, ◌≤◌, ◌^◌, ◌/◌, ◌%◌, Bool, true, false, cond, List, [], ◌∷◌, length}
-use Rattle.std.specs.Prelude.{Option, Some, None, IfSome, option_and_then, nat_lt, nat_le, slice_get, get_or, is_some, ◌==◌, sum_by}
+use Rattle.std.specs.Prelude.{Option, Some, None, IfSome, option_and_then, nat_lt, nat_le, filter, slice_get, get_or, is_some, ◌==◌}
 use Rattle.std.specs.List.{AllByRecursion}
 use Rattle.std.specs.Option.{option_map_or}
+use Rattle.std.specs.Str.{bytes_eq}
 use Rattle.std.proofs.Math.Nat.{mod-lt}
 use Rattle.std.proofs.lemmas.Bool.{false≢true}
 use Rattle.vp_text.proofs.Items.{all_append}
 use Rattle.vp_base.specs.Calls.{IsNumbered}
 use Rattle.vp_base.specs.Words.{IsName, IsValue}
 use Rattle.vp_base.specs.Identifiers.{IsTxn}
-use Rattle.vp_model.specs.Types.{Newest, Live, Event, Op}
+use Rattle.vp_model.specs.Types.{ViewId, Commit, Newest, Live, Event, Op}
 use Rattle.vp_model.specs.Types.event
 use Rattle.vp_model.specs.Types.call
 use Rattle.vp_model.specs.Types.op
-use Rattle.vp_model.specs.Catalogue.{Catalogue, RecordEntry, accessible, start_values, weights_in, weight_inside}
+use Rattle.vp_model.specs.Words.{for_each, keys, value_at, view_before}
+use Rattle.vp_model.specs.Catalogue.{Catalogue, RecordEntry, Table, accessible_by, has_holders, start_values, weights_of}
 use Rattle.vp_model.specs.OneCopy.{order}
 use Rattle.vp_model.specs.Site.{SiteState}
 use Rattle.vp_model.specs.World.{WorldState, Run, Schedule, site_of, is_cut, run_of, journal_of}
@@ -21,11 +23,12 @@ use Rattle.vp_model.specs.Generated.{newest, newest_of, Choice, Generating, gene
 use Rattle.vp_onecopy.specs.Playing.{op_record, CommitsWithin}
 use Rattle.vp_laws.specs.Shapes.{IsLive}
 use Rattle.vp_laws.specs.ShapeLaws.{IsEvent, IsWorld}
-use Rattle.vp_laws.specs.Entries.{record_in}
+use Rattle.vp_laws.specs.Catalogues.{IsWhole}
+use Rattle.vp_laws.specs.Entries.{record_in, table_in_force}
 use Rattle.vp_laws.proofs.Shapes.Worlds.{last_world}
-use Rattle.vp_laws.proofs.Words.Entries.{entered}
+use Rattle.vp_laws.proofs.Words.Entries.{entered, weighed}
 use Rattle.vp_laws.proofs.Journal.Order.{order_has}
-use Rattle.vp_laws.proofs.Lists.Members.{contains, has_of}
+use Rattle.vp_laws.proofs.Lists.Members.{Has, contains, filter_has, has_first, has_more, has_of}
 use Rattle.std.proofs.lemmas.Option.{slice_get_within}
 use Rattle.std.proofs.lemmas.List.{length-map, get_or_default}
 use Rattle.vp_cluster.proofs.Acting.{site_shaped}
@@ -157,27 +160,53 @@ numbers_fit seed i w e site = subst (λ w. IfSome (option_and_then (λ (site : S
 
 -- ---- the commits
 
--- a record that is accessible is one of the catalogue's
-accessible_is : (catalogue : Catalogue) (rec : ℕ) (members : List ℕ) → accessible catalogue rec members ≡ true → rec < length catalogue.records
-accessible_is catalogue rec members e = go (slice_get catalogue.records rec) refl e
+-- a record that isn't one of the catalogue's has no holder, so no entry gives it a table with a weight
+module _ (catalogue : Catalogue) (rec : ℕ) (none : weights_of catalogue rec ≡ []) where
+  no_shares : (t : Table) → has_holders catalogue rec t ≡ true → t ≡ []
+  no_shares t h = go t (rw none at h)
+    where
+      go : (t : Table) → bytes_eq (keys t) [] ≡ true → t ≡ []
+      go [] e = refl
+      go (w ∷ ws) e = absurd (false≢true e)
+
+  no_table : (entries : List Commit) → ((e : Commit) → Has entries e → (t : Table) → value_at rec e.tables ≡ Some t → has_holders catalogue rec t ≡ true) → (t : Table) → t ≡ [] → for_each entries (λ (e : Commit) t. option_map_or (λ new. new) (value_at rec e.tables) t) t ≡ []
+  no_table [] all t is = is
+  no_table (e ∷ entries) all t is =
+      no_table entries (λ f h. all f (has_more e entries f h)) (option_map_or (λ new. new) (value_at rec e.tables) t) (go (value_at rec e.tables) refl)
+    where
+      go : (o : Option Table) → value_at rec e.tables ≡ o → option_map_or (λ new. new) o t ≡ []
+      go None q = is
+      go (Some new) q = no_shares new (all e (has_first e entries) new q)
+
+-- a record that is accessible by a table in force is one of the catalogue's
+in_force_is : (s : Schedule) → IsWhole s.catalogue → (rec : ℕ) (view : ViewId) (members : List ℕ) → accessible_by (table_in_force s.catalogue (journal_of s) rec view) members ≡ true → rec < length s.catalogue.records
+in_force_is s whole rec view members e = go (slice_get s.catalogue.records rec) refl
   where
-    go : (o : Option RecordEntry) → slice_get catalogue.records rec ≡ o → nat_lt (sum_by (λ (w : ℕ × ℕ). w.1) (weights_in o)) (2 * weight_inside members (weights_in o)) ≡ true → rec < length catalogue.records
-    go None is q = absurd (false≢true q)
-    go (Some entry) is q = slice_get_within catalogue.records rec entry is
+    given : (f : Commit) → Has (filter (λ (f : Commit). view_before f.view view) (order (journal_of s))) f → (t : Table) → value_at rec f.tables ≡ Some t → has_holders s.catalogue rec t ≡ true
+    given f h t gave =
+        let there = order_has (journal_of s) f (filter_has (λ (f : Commit). view_before f.view view) (order (journal_of s)) f h).0 in
+        (weighed s whole f rec t (contains (journal_of s) f there) gave).3
+
+    go : (o : Option RecordEntry) → slice_get s.catalogue.records rec ≡ o → rec < length s.catalogue.records
+    go (Some entry) is = slice_get_within s.catalogue.records rec entry is
+    go None is =
+        let none : weights_of s.catalogue rec ≡ [] = rw is refl in
+        let empty = no_table s.catalogue rec none (filter (λ (f : Commit). view_before f.view view) (order (journal_of s))) given (weights_of s.catalogue rec) none in
+        absurd (false≢true (rw empty at e))
 
 same_place : (operation : Op) → op_record operation ≡ record_in operation
 same_place (op.Read rec value) = refl
 same_place (op.Write rec value) = refl
 
 -- each transaction that is committed uses records of the catalogue
-pub commits_within : (s : Schedule) → CommitsWithin (length (start_values s.catalogue)) (order (journal_of s))
-commits_within s k d lt j o within =
+pub commits_within : (s : Schedule) → IsWhole s.catalogue → CommitsWithin (length (start_values s.catalogue)) (order (journal_of s))
+commits_within s whole k d lt j o within =
     let list = order (journal_of s) in
     let e = get_or list k d in
     let operation = get_or e.ops j o in
     let there = contains (journal_of s) e (order_has (journal_of s) e (has_of list e (k, lt, get_or_default list k e d lt))) in
-    let used = entered s e there in
+    let used = entered s whole e there in
     let view = used.0 in
     let usable = used.4 operation (j, within, get_or_default e.ops j operation o within) in
-    let placed = accessible_is s.catalogue (record_in operation) view.members usable in
+    let placed = in_force_is s whole (record_in operation) view.id view.members usable in
     rw (same_place operation, length-map s.catalogue.records (λ (entry : RecordEntry). Some entry.start)) placed

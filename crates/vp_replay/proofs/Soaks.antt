@@ -29,7 +29,7 @@ module _ (seed count : ℕ) (known : Known) (m : GeneratedRun) (makes : Makes se
   pub soak_within : CommitsWithin (length (start_values known.catalogue)) (order known.world.journal)
   soak_within =
       subst (λ (w : WorldState). CommitsWithin (length (start_values known.catalogue)) (order w.journal)) world_is
-      (subst (λ c. CommitsWithin (length (start_values c)) (order (journal_of (made seed count)))) catalogue_is (commits_within (made seed count)))
+      (subst (λ c. CommitsWithin (length (start_values c)) (order (journal_of (made seed count)))) catalogue_is (commits_within (made seed count) (whole_catalogue generated_catalogue generated_is.so_far)))
 
   serial_made : IsSome (serial (start_values generated_catalogue) (order (journal_of (made seed count))))
   serial_made = (one_copy_told (made seed count) (whole_catalogue generated_catalogue generated_is.so_far)).serial

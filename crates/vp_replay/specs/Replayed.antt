@@ -3,7 +3,7 @@ use Rattle.std.specs.Prelude.{◌≡◌, ℕ, List, ◌++◌, Some, None}
 use Rattle.std.specs.List.{Contains}
 use Rattle.vp_model.specs.Types.{Counted}
 use Rattle.vp_model.specs.World.{Schedule, Moment, run_of, moments_of, journal_of}
-use Rattle.vp_model.specs.Headline.{IsOneCopy}
+use Rattle.vp_model.specs.Headline.{IsOneCopy, IsWeighed}
 use Rattle.vp_model.specs.Limits.{world_limits, limit_reached, trace_text_within}
 use Rattle.vp_model.specs.Texts.Trace.{trace_text}
 use Rattle.vp_model.specs.Texts.History.{history_text}
@@ -26,11 +26,13 @@ pub record SitesAgree (s : Schedule) : Type 0 where
   -- whatever comes next to a site, it ends its doubts as the journal says
   pub decisions : (m : Moment) → Contains (moments_of s) m → DecisionsAgree s.catalogue (journal_of s) m.before
 
--- No limit is reached, what is printed is the schedule's trace and then its history, the schedule is one copy, and its sites agree.
+-- No limit is reached, what is printed is the schedule's trace and then its history, the schedule is one copy, also where its transactions
+-- change weights, and its sites agree.
 pub record IsDone (s : Schedule) (text : List ℕ) : Type 0 where
   pub whole : limit_reached world_limits s ≡ None
   pub printed : text ≡ trace_text s ++ history_text s
   pub one_copy : IsOneCopy s
+  pub weighed : IsWeighed s
   pub sites_agree : SitesAgree s
 
 -- A limit of the world ends the schedule: what is printed is the trace of the steps before, and the limit.

@@ -475,11 +475,276 @@ commit 3.1.3 2@3 r north 60 r south 130
 end 3
 ";
 
+const WEIGHTS: &str = "\
+site 1 7001
+site 2 7002
+site 3 7003
+record x 10 1:1 2:1 3:1
+events
+cut 1 3
+cut 2 3
+call 1 regroup
+flow 9
+tick 1
+flow 9
+call 1 begin
+call 1 1.1.1 1 write x 11
+flow 9
+call 1 1.1.1 2 commit
+flow 9
+cut 1 2
+heal 2 3
+call 3 regroup
+flow 9
+tick 3
+flow 9
+call 3 begin
+call 3 3.1.1 1 weigh x 1:1 2:1 3:5
+flow 9
+call 3 3.1.1 2 commit
+flow 9
+cut 2 3
+call 3 regroup
+tick 3
+call 3 begin
+call 3 3.1.2 1 write x 12
+call 3 3.1.2 2 commit
+call 1 begin
+call 1 1.1.2 1 read x
+call 1 1.1.2 2 commit
+heal 1 2
+call 2 regroup
+flow 9
+tick 2
+flow 9
+call 1 begin
+call 1 1.1.3 1 read x
+heal 1 3
+heal 2 3
+call 3 regroup
+flow 20
+tick 3
+flow 30
+call 1 begin
+call 1 1.1.4 1 read x
+call 1 1.1.4 2 commit
+flow 9
+";
+
+const WEIGHTS_PRINTED: &str = "\
+1 cut 1 3
+2 cut 2 3
+3 call 1 regroup
+ sent 1 1>2 invite 1@1
+ sent 2 1>3 invite 1@1
+ reply inviting 1@1
+4 flow 9
+4 deliver 1
+ sent 3 2>1 accept 1@1
+4 deliver 3
+5 tick 1
+ sent 4 1>2 view 1@1 1,2
+ sent 5 1>2 refresh-request 1@1 x
+6 flow 9
+6 deliver 4
+ sent 6 2>1 refresh-request 1@1 x
+6 deliver 5
+ sent 7 2>1 refresh-answer 1@1 x 10 0@0
+6 deliver 6
+ sent 8 1>2 refresh-answer 1@1 x 10 0@0
+6 deliver 7
+6 deliver 8
+7 call 1 begin
+ reply begun 1.1.1 1@1
+8 call 1 1.1.1 1 write x 11
+ sent 9 1>2 write-request 1.1.1 1@1 1 x
+9 flow 9
+9 deliver 9
+ sent 10 2>1 write-answer 1.1.1 1
+9 deliver 10
+ reply written 1.1.1 1
+10 call 1 1.1.1 2 commit
+ sent 11 1>2 prepare 1.1.1 1@1 2 w x 11
+11 flow 9
+11 deliver 11
+ sent 12 2>1 vote 1.1.1
+11 deliver 12
+ commit 1.1.1 1@1
+ sent 13 1>2 outcome 1.1.1 commit
+ reply committed 1.1.1 2
+11 deliver 13
+ sent 14 2>1 ack 1.1.1
+11 deliver 14
+12 cut 1 2
+13 heal 2 3
+14 call 3 regroup
+ sent 15 3>1 invite 1@3
+ sent 16 3>2 invite 1@3
+ reply inviting 1@3
+15 flow 9
+15 deliver 16
+ sent 17 2>3 accept 1@3
+15 deliver 17
+16 tick 3
+ sent 18 3>2 view 1@3 2,3
+ sent 19 3>2 refresh-request 1@3 x
+17 flow 9
+17 deliver 18
+ sent 20 2>3 refresh-request 1@3 x
+17 deliver 19
+ sent 21 2>3 refresh-answer 1@3 x 11 1@1
+17 deliver 20
+ sent 22 3>2 refresh-answer 1@3 x 10 0@0
+17 deliver 21
+17 deliver 22
+18 call 3 begin
+ reply begun 3.1.1 1@3
+19 call 3 3.1.1 1 weigh x 1:1 2:1 3:5
+ sent 23 3>2 write-request 3.1.1 1@3 1 x
+20 flow 9
+20 deliver 23
+ sent 24 2>3 write-answer 3.1.1 1
+20 deliver 24
+ reply weighed 3.1.1 1
+21 call 3 3.1.1 2 commit
+ sent 25 3>2 prepare 3.1.1 1@3 2 t x 1:1 2:1 3:5
+22 flow 9
+22 deliver 25
+ sent 26 2>3 vote 3.1.1
+22 deliver 26
+ commit 3.1.1 1@3
+ sent 27 3>2 outcome 3.1.1 commit
+ reply committed 3.1.1 2
+22 deliver 27
+ sent 28 2>3 ack 3.1.1
+22 deliver 28
+23 cut 2 3
+24 call 3 regroup
+ sent 29 3>1 invite 2@3
+ sent 30 3>2 invite 2@3
+ reply inviting 2@3
+25 tick 3
+26 call 3 begin
+ reply begun 3.1.2 2@3
+27 call 3 3.1.2 1 write x 12
+ reply written 3.1.2 1
+28 call 3 3.1.2 2 commit
+ commit 3.1.2 2@3
+ reply committed 3.1.2 2
+29 call 1 begin
+ reply begun 1.1.2 1@1
+30 call 1 1.1.2 1 read x
+ reply value 1.1.2 1 11
+31 call 1 1.1.2 2 commit
+ commit 1.1.2 1@1
+ reply committed 1.1.2 2
+32 heal 1 2
+33 call 2 regroup
+ sent 31 2>1 invite 2@2
+ sent 32 2>3 invite 2@2
+ reply inviting 2@2
+34 flow 9
+34 deliver 31
+ sent 33 1>2 accept 2@2
+34 deliver 33
+35 tick 2
+ sent 34 2>1 view 2@2 1,2
+ sent 35 2>1 refresh-request 2@2 x
+36 flow 9
+36 deliver 34
+ sent 36 1>2 refresh-request 2@2 x
+36 deliver 35
+ sent 37 1>2 refresh-answer 2@2 x 11 1@1
+36 deliver 36
+ sent 38 2>1 refresh-answer 2@2 x 11 1@3 1:1 2:1 3:5
+36 deliver 37
+36 deliver 38
+37 call 1 begin
+ reply begun 1.1.3 2@2
+38 call 1 1.1.3 1 read x
+ reply inaccessible 1.1.3 1 x 2 of 7
+39 heal 1 3
+40 heal 2 3
+41 call 3 regroup
+ sent 39 3>1 invite 3@3
+ sent 40 3>2 invite 3@3
+ reply inviting 3@3
+42 flow 20
+42 deliver 2
+ sent 41 3>1 stale 1@1 3@3
+42 deliver 15
+ sent 42 1>3 stale 1@3 2@2
+42 deliver 29
+ sent 43 1>3 accept 2@3
+42 deliver 30
+ sent 44 2>3 accept 2@3
+42 deliver 32
+ sent 45 3>2 stale 2@2 3@3
+42 deliver 39
+ sent 46 1>3 accept 3@3
+42 deliver 40
+ sent 47 2>3 accept 3@3
+42 deliver 41
+42 deliver 42
+42 deliver 43
+42 deliver 44
+42 deliver 45
+42 deliver 46
+42 deliver 47
+43 tick 3
+ sent 48 3>1 view 3@3 1,2,3
+ sent 49 3>2 view 3@3 1,2,3
+ sent 50 3>1 refresh-request 3@3 x
+ sent 51 3>2 refresh-request 3@3 x
+44 flow 30
+44 deliver 48
+ sent 52 1>2 refresh-request 3@3 x
+ sent 53 1>3 refresh-request 3@3 x
+44 deliver 49
+ sent 54 2>1 refresh-request 3@3 x
+ sent 55 2>3 refresh-request 3@3 x
+44 deliver 50
+ sent 56 1>3 refresh-answer 3@3 x 11 1@1
+44 deliver 51
+ sent 57 2>3 refresh-answer 3@3 x 11 1@3 1:1 2:1 3:5
+44 deliver 52
+ sent 58 2>1 refresh-answer 3@3 x 11 1@3 1:1 2:1 3:5
+44 deliver 53
+ sent 59 3>1 refresh-answer 3@3 x 12 2@3 1:1 2:1 3:5
+44 deliver 54
+ sent 60 1>2 refresh-answer 3@3 x 11 1@1
+44 deliver 55
+ sent 61 3>2 refresh-answer 3@3 x 12 2@3 1:1 2:1 3:5
+44 deliver 56
+44 deliver 57
+44 deliver 58
+44 deliver 59
+44 deliver 60
+44 deliver 61
+45 call 1 begin
+ reply begun 1.1.4 3@3
+46 call 1 1.1.4 1 read x
+ reply value 1.1.4 1 12
+47 call 1 1.1.4 2 commit
+ commit 1.1.4 3@3
+ reply committed 1.1.4 2
+48 flow 9
+history
+start x 10
+commit 1.1.1 1@1 w x 11
+commit 1.1.2 1@1 r x 11
+commit 3.1.1 1@3
+commit 3.1.2 2@3 w x 12
+commit 1.1.4 3@3 r x 12
+end 5
+";
+
 /// Each example, and what is printed for it.
-const EXAMPLES: [(&str, &str, &str); 3] = [
+const EXAMPLES: [(&str, &str, &str); 4] = [
     ("a partition", PARTITION, PARTITION_PRINTED),
     ("a coordinator that stops in doubt", DOUBT, DOUBT_PRINTED),
     ("two banks and a partition", BANKS, BANKS_PRINTED),
+    ("weights that change", WEIGHTS, WEIGHTS_PRINTED),
 ];
 
 #[test]

@@ -14,15 +14,17 @@ use Rattle.vp_text.proofs.Words.{literal_exact}
 use Rattle.vp_text.proofs.Classes.{class_exact}
 use Rattle.vp_text.proofs.Numbers.{decimal_digits, IsDigit}
 use Rattle.vp_text.proofs.Fields.{Outside, IsOutside, literal_then, word_then, number_then, literal_outside, made_outside}
-use Rattle.vp_text.proofs.Choices.{IsClear, Opens, either_exact, clear_keys, clear_or, or_clear, literal_opens, made_opens, follows_from}
+use Rattle.vp_text.proofs.Choices.{IsClear, Opens, differ, either_exact, clear_keys, clear_or, or_clear, literal_opens, made_opens, follows_from}
 use Rattle.vp_base.specs.Words.{IsName, IsValue}
 use Rattle.vp_base.specs.Identifiers.{IsTxnText, txn_text}
 use Rattle.vp_base.proofs.Txns.{txn_exact, txn_goes}
 use Rattle.vp_model.specs.Types.{TxnId, Call}
 use Rattle.vp_model.specs.Types.call
+use Rattle.vp_model.specs.Texts.Fields.{table_text}
 use Rattle.vp_base.specs.Calls.{IsNumbered}
 use Rattle.vp_schedule.specs.Grammar.{IsCallText}
-use Rattle.vp_schedule.specs.Reading.{begin_at, regroup_at, bare_at, read_at, write_at, delete_at, commit_at, abort_at, ending_at, removal_at, change_at, deed_at, numbered_at, call_at}
+use Rattle.vp_schedule.specs.Reading.{begin_at, regroup_at, bare_at, read_at, write_at, delete_at, weigh_at, commit_at, abort_at, ending_at, removal_at, other_change_at, change_at, deed_at, numbered_at, call_at}
+use Rattle.vp_schedule.proofs.Tables.{TableText, table_exact, table_outside}
 
 -- ---- the parts of each call
 
@@ -56,8 +58,14 @@ EndingParts txn number = Either (CommitParts txn number) (AbortParts txn number)
 abbrev RemovalParts : TxnId → ℕ → Call → List ℕ → Type 0
 RemovalParts txn number = Either (DeleteParts txn number) (EndingParts txn number)
 
+abbrev WeighParts : TxnId → ℕ → Call → List ℕ → Type 0
+WeighParts txn number = Then (IsLiteral (codes " weigh ")) (λ _. Then IsName (λ name. Made TableText (λ table. call.Weigh txn number name table)))
+
+abbrev OtherChangeParts : TxnId → ℕ → Call → List ℕ → Type 0
+OtherChangeParts txn number = Either (WeighParts txn number) (RemovalParts txn number)
+
 abbrev ChangeParts : TxnId → ℕ → Call → List ℕ → Type 0
-ChangeParts txn number = Either (WriteParts txn number) (RemovalParts txn number)
+ChangeParts txn number = Either (WriteParts txn number) (OtherChangeParts txn number)
 
 abbrev DeedParts : TxnId → ℕ → Call → List ℕ → Type 0
 DeedParts txn number = Either (ReadParts txn number) (ChangeParts txn number)
@@ -84,6 +92,9 @@ opens_write txn number = literal_opens (codes " write ")
 
 opens_delete : (txn : TxnId) (number : ℕ) → Opens (codes " delete ") (DeleteParts txn number)
 opens_delete txn number = literal_opens (codes " delete ")
+
+opens_weigh : (txn : TxnId) (number : ℕ) → Opens (codes " weigh ") (WeighParts txn number)
+opens_weigh txn number = literal_opens (codes " weigh ")
 
 opens_commit : (txn : TxnId) (number : ℕ) → Opens (codes " commit") (CommitParts txn number)
 opens_commit txn number = made_opens (codes " commit")
@@ -113,37 +124,51 @@ clear_ending txn number = or_clear (DeleteParts txn number) (CommitParts txn num
     (clear_keys (codes " commit") (codes " delete ") refl (opens_commit txn number) (opens_delete txn number))
     (clear_keys (codes " abort") (codes " delete ") refl (opens_abort txn number) (opens_delete txn number))
 
-clear_write : (txn : TxnId) (number : ℕ) → IsClear (WriteParts txn number) (RemovalParts txn number)
-clear_write txn number = clear_or (WriteParts txn number) (DeleteParts txn number) (EndingParts txn number)
-    (clear_keys (codes " write ") (codes " delete ") refl (opens_write txn number) (opens_delete txn number))
-    (clear_or (WriteParts txn number) (CommitParts txn number) (AbortParts txn number)
-    (clear_keys (codes " write ") (codes " commit") refl (opens_write txn number) (opens_commit txn number))
-    (clear_keys (codes " write ") (codes " abort") refl (opens_write txn number) (opens_abort txn number)))
+-- a deed that opens with a key of its own: it begins no delete and no end, and none of these begins it
+module _ {D : Call → List ℕ → Type 0} (key : List ℕ) (opens : Opens key D) (txn : TxnId) (number : ℕ) where
+  clear_removals : differ key (codes " delete ") ≡ true → differ key (codes " commit") ≡ true → differ key (codes " abort") ≡ true → IsClear D (RemovalParts txn number)
+  clear_removals delete commit abort = clear_or D (DeleteParts txn number) (EndingParts txn number)
+      (clear_keys key (codes " delete ") delete opens (opens_delete txn number))
+      (clear_or D (CommitParts txn number) (AbortParts txn number)
+      (clear_keys key (codes " commit") commit opens (opens_commit txn number))
+      (clear_keys key (codes " abort") abort opens (opens_abort txn number)))
 
-clear_removal : (txn : TxnId) (number : ℕ) → IsClear (RemovalParts txn number) (WriteParts txn number)
-clear_removal txn number = or_clear (WriteParts txn number) (DeleteParts txn number) (EndingParts txn number)
-    (clear_keys (codes " delete ") (codes " write ") refl (opens_delete txn number) (opens_write txn number))
-    (or_clear (WriteParts txn number) (CommitParts txn number) (AbortParts txn number)
-    (clear_keys (codes " commit") (codes " write ") refl (opens_commit txn number) (opens_write txn number))
-    (clear_keys (codes " abort") (codes " write ") refl (opens_abort txn number) (opens_write txn number)))
+  removals_clear : differ (codes " delete ") key ≡ true → differ (codes " commit") key ≡ true → differ (codes " abort") key ≡ true → IsClear (RemovalParts txn number) D
+  removals_clear delete commit abort = or_clear D (DeleteParts txn number) (EndingParts txn number)
+      (clear_keys (codes " delete ") key delete (opens_delete txn number) opens)
+      (or_clear D (CommitParts txn number) (AbortParts txn number)
+      (clear_keys (codes " commit") key commit (opens_commit txn number) opens)
+      (clear_keys (codes " abort") key abort (opens_abort txn number) opens))
+
+clear_weigh : (txn : TxnId) (number : ℕ) → IsClear (WeighParts txn number) (RemovalParts txn number)
+clear_weigh txn number = clear_removals (codes " weigh ") (opens_weigh txn number) txn number refl refl refl
+
+clear_removal : (txn : TxnId) (number : ℕ) → IsClear (RemovalParts txn number) (WeighParts txn number)
+clear_removal txn number = removals_clear (codes " weigh ") (opens_weigh txn number) txn number refl refl refl
+
+clear_write : (txn : TxnId) (number : ℕ) → IsClear (WriteParts txn number) (OtherChangeParts txn number)
+clear_write txn number = clear_or (WriteParts txn number) (WeighParts txn number) (RemovalParts txn number)
+    (clear_keys (codes " write ") (codes " weigh ") refl (opens_write txn number) (opens_weigh txn number))
+    (clear_removals (codes " write ") (opens_write txn number) txn number refl refl refl)
+
+clear_other_change : (txn : TxnId) (number : ℕ) → IsClear (OtherChangeParts txn number) (WriteParts txn number)
+clear_other_change txn number = or_clear (WriteParts txn number) (WeighParts txn number) (RemovalParts txn number)
+    (clear_keys (codes " weigh ") (codes " write ") refl (opens_weigh txn number) (opens_write txn number))
+    (removals_clear (codes " write ") (opens_write txn number) txn number refl refl refl)
 
 clear_read : (txn : TxnId) (number : ℕ) → IsClear (ReadParts txn number) (ChangeParts txn number)
-clear_read txn number = clear_or (ReadParts txn number) (WriteParts txn number) (RemovalParts txn number)
+clear_read txn number = clear_or (ReadParts txn number) (WriteParts txn number) (OtherChangeParts txn number)
     (clear_keys (codes " read ") (codes " write ") refl (opens_read txn number) (opens_write txn number))
-    (clear_or (ReadParts txn number) (DeleteParts txn number) (EndingParts txn number)
-    (clear_keys (codes " read ") (codes " delete ") refl (opens_read txn number) (opens_delete txn number))
-    (clear_or (ReadParts txn number) (CommitParts txn number) (AbortParts txn number)
-    (clear_keys (codes " read ") (codes " commit") refl (opens_read txn number) (opens_commit txn number))
-    (clear_keys (codes " read ") (codes " abort") refl (opens_read txn number) (opens_abort txn number))))
+    (clear_or (ReadParts txn number) (WeighParts txn number) (RemovalParts txn number)
+    (clear_keys (codes " read ") (codes " weigh ") refl (opens_read txn number) (opens_weigh txn number))
+    (clear_removals (codes " read ") (opens_read txn number) txn number refl refl refl))
 
 clear_change : (txn : TxnId) (number : ℕ) → IsClear (ChangeParts txn number) (ReadParts txn number)
-clear_change txn number = or_clear (ReadParts txn number) (WriteParts txn number) (RemovalParts txn number)
+clear_change txn number = or_clear (ReadParts txn number) (WriteParts txn number) (OtherChangeParts txn number)
     (clear_keys (codes " write ") (codes " read ") refl (opens_write txn number) (opens_read txn number))
-    (or_clear (ReadParts txn number) (DeleteParts txn number) (EndingParts txn number)
-    (clear_keys (codes " delete ") (codes " read ") refl (opens_delete txn number) (opens_read txn number))
-    (or_clear (ReadParts txn number) (CommitParts txn number) (AbortParts txn number)
-    (clear_keys (codes " commit") (codes " read ") refl (opens_commit txn number) (opens_read txn number))
-    (clear_keys (codes " abort") (codes " read ") refl (opens_abort txn number) (opens_read txn number))))
+    (or_clear (ReadParts txn number) (WeighParts txn number) (RemovalParts txn number)
+    (clear_keys (codes " weigh ") (codes " read ") refl (opens_weigh txn number) (opens_read txn number))
+    (removals_clear (codes " read ") (opens_read txn number) txn number refl refl refl))
 
 -- ---- a call on a transaction begins with a digit, and the others don't
 
@@ -193,11 +218,14 @@ deed_outside txn number = λ words t h. elim h [
   | inl r ↦ literal_outside is_digit (codes " read ") refl words t r
   | inr c ↦ elim c [
     | inl w ↦ literal_outside is_digit (codes " write ") refl words t w
-    | inr v ↦ elim v [
-      | inl d ↦ literal_outside is_digit (codes " delete ") refl words t d
-      | inr e ↦ elim e [
-        | inl m ↦ made_outside is_digit (codes " commit") refl words t m
-        | inr a ↦ made_outside is_digit (codes " abort") refl words t a
+    | inr o ↦ elim o [
+      | inl g ↦ literal_outside is_digit (codes " weigh ") refl words t g
+      | inr v ↦ elim v [
+        | inl d ↦ literal_outside is_digit (codes " delete ") refl words t d
+        | inr e ↦ elim e [
+          | inl m ↦ made_outside is_digit (codes " commit") refl words t m
+          | inr a ↦ made_outside is_digit (codes " abort") refl words t a
+        ]
       ]
     ]
   ]
@@ -247,9 +275,19 @@ removal_exact : (txn : TxnId) (number : ℕ) → Exact (RemovalParts txn number)
 unfolding removal_at
 removal_exact txn number = either_exact (clear_delete txn number) (clear_ending txn number) (delete_exact txn number) (ending_exact txn number)
 
+weigh_exact : (txn : TxnId) (number : ℕ) → Exact (WeighParts txn number) (weigh_at txn number)
+unfolding weigh_at
+weigh_exact txn number =
+    literal_then (codes " weigh ") (word_then (has classes.Name) (most classes.Name) 97 refl (omega arith) (λ name words t m. table_outside (has classes.Name) refl m.from t m.spelled)
+    (λ name. made_exact (λ table. call.Weigh txn number name table) table_exact))
+
+other_change_exact : (txn : TxnId) (number : ℕ) → Exact (OtherChangeParts txn number) (other_change_at txn number)
+unfolding other_change_at
+other_change_exact txn number = either_exact (clear_weigh txn number) (clear_removal txn number) (weigh_exact txn number) (removal_exact txn number)
+
 change_exact : (txn : TxnId) (number : ℕ) → Exact (ChangeParts txn number) (change_at txn number)
 unfolding change_at
-change_exact txn number = either_exact (clear_write txn number) (clear_removal txn number) (write_exact txn number) (removal_exact txn number)
+change_exact txn number = either_exact (clear_write txn number) (clear_other_change txn number) (write_exact txn number) (other_change_exact txn number)
 
 deed_exact : (txn : TxnId) (number : ℕ) → Exact (DeedParts txn number) (deed_at txn number)
 unfolding deed_at
@@ -279,15 +317,15 @@ word_self {has = has} {most = most} word t h = subst (λ (x : List ℕ). IsWord 
 
 bare_to : (words : Call) (t : List ℕ) → BareParts words t → IsCallText words t
 bare_to words t h = elim h [
-  | inl b ↦ subst (λ (w : Call). IsCallText w t) (sym b.is) (record { is = b.spelled; allowed = tt; readable = tt })
-  | inr r ↦ subst (λ (w : Call). IsCallText w t) (sym r.is) (record { is = r.spelled; allowed = tt; readable = tt })
+  | inl b ↦ subst (λ (w : Call). IsCallText w t) (sym b.is) (record { is = b.spelled; allowed = tt })
+  | inr r ↦ subst (λ (w : Call). IsCallText w t) (sym r.is) (record { is = r.spelled; allowed = tt })
 ]
 
 deed_to : (txn : TxnId) (number : ℕ) (words : Call) (deed t : List ℕ) → Named txn number deed t → DeedParts txn number words deed → IsCallText words t
 deed_to txn number words deed t n h = elim h [
   | inl r ↦
       let v = r.after in
-      subst (λ (w : Call). IsCallText w t) (sym v.is) (record { is = n.1 ∙ rw (r.parts, r.before, ← v.spelled.is) refl; allowed = (n.0, word_self v.from r.back v.spelled); readable = tt })
+      subst (λ (w : Call). IsCallText w t) (sym v.is) (record { is = n.1 ∙ rw (r.parts, r.before, ← v.spelled.is) refl; allowed = (n.0, word_self v.from r.back v.spelled) })
   | inr c ↦ elim c [
     | inl w ↦
         let name = w.after in
@@ -295,15 +333,23 @@ deed_to txn number words deed t n h = elim h [
         subst (λ (w : Call). IsCallText w t) (sym v.is) (record {
           is = n.1 ∙ rw (w.parts, w.before, name.parts, ← name.before.is, name.after.parts, name.after.before, ← v.spelled.is) refl;
           allowed = (n.0, word_self name.first name.front name.before, word_self v.from name.after.back v.spelled);
-          readable = tt;
         })
-    | inr v ↦ elim v [
-      | inl d ↦
-          let v = d.after in
-          subst (λ (w : Call). IsCallText w t) (sym v.is) (record { is = n.1 ∙ rw (d.parts, d.before, ← v.spelled.is) refl; allowed = (n.0, word_self v.from d.back v.spelled); readable = tt })
-      | inr e ↦ elim e [
-        | inl m ↦ subst (λ (w : Call). IsCallText w t) (sym m.is) (record { is = n.1 ∙ rw m.spelled refl; allowed = n.0; readable = tt })
-        | inr a ↦ subst (λ (w : Call). IsCallText w t) (sym a.is) (record { is = n.1 ∙ rw a.spelled refl; allowed = n.0; readable = tt })
+    | inr o ↦ elim o [
+      | inl g ↦
+          let name = g.after in
+          let v = name.after in
+          subst (λ (w : Call). IsCallText w t) (sym v.is) (record {
+            is = n.1 ∙ rw (g.parts, g.before, name.parts, ← name.before.is, v.spelled.1) refl;
+            allowed = (n.0, word_self name.first name.front name.before, v.spelled.0);
+          })
+      | inr v ↦ elim v [
+        | inl d ↦
+            let v = d.after in
+            subst (λ (w : Call). IsCallText w t) (sym v.is) (record { is = n.1 ∙ rw (d.parts, d.before, ← v.spelled.is) refl; allowed = (n.0, word_self v.from d.back v.spelled) })
+        | inr e ↦ elim e [
+          | inl m ↦ subst (λ (w : Call). IsCallText w t) (sym m.is) (record { is = n.1 ∙ rw m.spelled refl; allowed = n.0 })
+          | inr a ↦ subst (λ (w : Call). IsCallText w t) (sym a.is) (record { is = n.1 ∙ rw a.spelled refl; allowed = n.0 })
+        ]
       ]
     ]
   ]
@@ -364,12 +410,28 @@ call_from (call.Write txn number name value) t h =
     }))))
 call_from (call.Delete txn number name) t h =
     inr (numbered_from txn number (call.Delete txn number name) (codes " delete " ++ name) t (h.allowed.0, h.is)
-    (inr (inr (inl (record { first = tt; front = codes " delete "; back = name; before = refl; parts = refl; after = record { from = name; spelled = h.allowed.1; is = refl } })))))
-call_from (call.Weigh txn number name table) t h = absurd h.readable
+    (inr (inr (inr (inl (record { first = tt; front = codes " delete "; back = name; before = refl; parts = refl; after = record { from = name; spelled = h.allowed.1; is = refl } }))))))
+call_from (call.Weigh txn number name table) t h =
+    inr (numbered_from txn number (call.Weigh txn number name table) (codes " weigh " ++ (name ++ table_text table)) t (h.allowed.0, h.is)
+    (inr (inr (inl (record {
+      first = tt;
+      front = codes " weigh ";
+      back = name ++ table_text table;
+      before = refl;
+      parts = refl;
+      after = record {
+        first = name;
+        front = name;
+        back = table_text table;
+        before = h.allowed.1;
+        parts = refl;
+        after = record { from = table; spelled = (h.allowed.2, refl); is = refl };
+      };
+    })))))
 call_from (call.Commit txn number) t h =
-    inr (numbered_from txn number (call.Commit txn number) (codes " commit") t (h.allowed, h.is) (inr (inr (inr (inl (record { from = tt; spelled = refl; is = refl }))))))
+    inr (numbered_from txn number (call.Commit txn number) (codes " commit") t (h.allowed, h.is) (inr (inr (inr (inr (inl (record { from = tt; spelled = refl; is = refl })))))))
 call_from (call.Abort txn number) t h =
-    inr (numbered_from txn number (call.Abort txn number) (codes " abort") t (h.allowed, h.is) (inr (inr (inr (inr (record { from = tt; spelled = refl; is = refl }))))))
+    inr (numbered_from txn number (call.Abort txn number) (codes " abort") t (h.allowed, h.is) (inr (inr (inr (inr (inr (record { from = tt; spelled = refl; is = refl })))))))
 
 pub call_exact : Exact IsCallText call_at
 unfolding call_at

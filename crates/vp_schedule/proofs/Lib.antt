@@ -1,3 +1,5 @@
+mod Tails
+pub mod Tables
 pub mod Exact
 mod KindWords
 mod OtherSites

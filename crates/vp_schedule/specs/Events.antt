@@ -5,7 +5,6 @@ use Rattle.vp_model.specs.Types.event
 use Rattle.vp_model.specs.Words.{has}
 use Rattle.vp_model.specs.Texts.Calls.{event_text}
 use Rattle.vp_base.specs.Calls.{IsCall}
-use Rattle.vp_schedule.specs.Grammar.{IsReadable}
 
 abbrev pub IsListed : List ℕ → ℕ → Type 0
 IsListed sites site = has sites site ≡ true
@@ -19,7 +18,7 @@ abbrev pub IsPair : List ℕ → ℕ → ℕ → Type 0
 IsPair sites a b = IsListed sites a × IsListed sites b × (a ≢ b)
 
 abbrev pub IsEvent : List ℕ → Event → Type 0
-IsEvent sites (event.Call site words) = IsListed sites site × IsCall words × IsReadable words
+IsEvent sites (event.Call site words) = IsListed sites site × IsCall words
 IsEvent sites (event.Deliver k) = IsCount 2000000 k
 IsEvent sites (event.Flow count) = IsCount 100000 count
 IsEvent sites (event.Tick site) = IsListed sites site

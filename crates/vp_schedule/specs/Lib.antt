@@ -1,5 +1,6 @@
 pub mod Grammar
 pub mod Reading
+pub mod TableReading
 pub mod Kinds
 pub mod Events
 pub mod EventReading

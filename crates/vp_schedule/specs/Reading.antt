@@ -6,6 +6,7 @@ use Rattle.vp_text.specs.declared.class.Class.TheVariants as classes
 use Rattle.vp_base.specs.Reading.{txn_at}
 use Rattle.vp_model.specs.Types.{TxnId, Call}
 use Rattle.vp_model.specs.Types.call
+use Rattle.vp_schedule.specs.TableReading.{table_at}
 
 -- ---- a call that names no transaction
 
@@ -60,8 +61,18 @@ ending_at txn number bytes = either (commit_at txn number bytes) (abort_at txn n
 unfoldable pub removal_at : TxnId → ℕ → List ℕ → Result (Call × List ℕ) ℕ
 removal_at txn number bytes = either (delete_at txn number bytes) (ending_at txn number bytes)
 
+unfoldable pub weigh_at : TxnId → ℕ → List ℕ → Result (Call × List ℕ) ℕ
+weigh_at txn number bytes = do
+  key ← literal_at (codes " weigh ") bytes
+  name ← word_at (has classes.Name) (most classes.Name) key.1
+  table ← table_at name.1
+  Ok (call.Weigh txn number name.0 table.0, table.1)
+
+unfoldable pub other_change_at : TxnId → ℕ → List ℕ → Result (Call × List ℕ) ℕ
+other_change_at txn number bytes = either (weigh_at txn number bytes) (removal_at txn number bytes)
+
 unfoldable pub change_at : TxnId → ℕ → List ℕ → Result (Call × List ℕ) ℕ
-change_at txn number bytes = either (write_at txn number bytes) (removal_at txn number bytes)
+change_at txn number bytes = either (write_at txn number bytes) (other_change_at txn number bytes)
 
 unfoldable pub deed_at : TxnId → ℕ → List ℕ → Result (Call × List ℕ) ℕ
 deed_at txn number bytes = either (read_at txn number bytes) (change_at txn number bytes)

@@ -11,6 +11,7 @@ mod line_reading;
 mod printing;
 mod reading;
 mod schedule;
+mod table_reading;
 
 pub use document::read;
 pub use fault::ScheduleFault;

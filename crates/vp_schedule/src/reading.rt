@@ -5,8 +5,9 @@ ghost use Rattle.vp_text.specs.Meaning.{Answers};
 ghost use Rattle.vp_text.specs.Reading.{Reads, Tries, whole, number_at};
 ghost use Rattle.vp_base.specs.Faults.{name_place, line_left};
 ghost use Rattle.vp_schedule.specs.Grammar.{IsCallText};
-ghost use Rattle.vp_schedule.specs.Reading.{begin_at, regroup_at, bare_at, read_at, write_at, delete_at, removal_at, commit_at, abort_at, ending_at, change_at, deed_at, numbered_at, call_at};
+ghost use Rattle.vp_schedule.specs.Reading.{begin_at, regroup_at, bare_at, read_at, write_at, delete_at, removal_at, weigh_at, other_change_at, commit_at, abort_at, ending_at, change_at, deed_at, numbered_at, call_at};
 
+use crate::table_reading::parse_table;
 use std::alloc::Global;
 use vp_base::{Call, CallNo, LineFault, Name, NameFault, TxnId, Value};
 use vp_text::{Cursor, Unexpected};
@@ -192,7 +193,52 @@ fn parse_removal(
     }
 }
 
-/// Reads a write, a delete, or the end of a transaction.
+#[tactic(auto, unfolding(crate::specs::Reading::weigh_at))]
+fn parse_weigh(
+    alloc: Global,
+    cursor: &mut Cursor,
+    txn: &TxnId,
+    number: CallNo,
+) -> Result<Call, LineFault>
+    ensures { Tries (λ c. c) line_left result cursor.new (weigh_at txn.now number cursor.old) }
+{
+    cursor.literal(b" weigh ")?;
+    let name = Name::parse(alloc, cursor)?;
+    let table = parse_table(alloc, cursor)?;
+    Ok(Call::Weigh {
+        txn: *txn,
+        number,
+        name,
+        table,
+    })
+}
+
+/// Reads a weigh, a delete, or the end of a transaction.
+#[tactic(auto, unfolding(crate::specs::Reading::other_change_at))]
+fn parse_other_change(
+    alloc: Global,
+    cursor: &mut Cursor,
+    txn: &TxnId,
+    number: CallNo,
+) -> Result<Call, LineFault>
+    ensures { Tries (λ c. c) line_left result cursor.new (other_change_at txn.now number cursor.old) }
+{
+    let mut other = cursor.fork();
+    match parse_weigh(alloc, cursor, txn, number) {
+        Ok(call) => Ok(call),
+        Err(LineFault::NoMemory) => Err(LineFault::NoMemory),
+        Err(LineFault::Unexpected(first)) => match parse_removal(alloc, &mut other, txn, number) {
+            Ok(call) => {
+                *cursor = other;
+                Ok(call)
+            }
+            Err(LineFault::NoMemory) => Err(LineFault::NoMemory),
+            Err(LineFault::Unexpected(second)) => Err(LineFault::Unexpected(first.farther(second))),
+        },
+    }
+}
+
+/// Reads a write, a weigh, a delete, or the end of a transaction.
 #[tactic(auto, unfolding(crate::specs::Reading::change_at))]
 fn parse_change(
     alloc: Global,
@@ -206,7 +252,9 @@ fn parse_change(
     match parse_write(alloc, cursor, txn, number) {
         Ok(call) => Ok(call),
         Err(LineFault::NoMemory) => Err(LineFault::NoMemory),
-        Err(LineFault::Unexpected(first)) => match parse_removal(alloc, &mut other, txn, number) {
+        Err(LineFault::Unexpected(first)) => match parse_other_change(
+            alloc, &mut other, txn, number,
+        ) {
             Ok(call) => {
                 *cursor = other;
                 Ok(call)

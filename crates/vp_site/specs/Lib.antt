@@ -1,3 +1,4 @@
+pub mod Refreshing
 pub mod Requests
 pub mod Ballots
 pub mod Starting

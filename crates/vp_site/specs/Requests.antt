@@ -4,7 +4,7 @@ use Rattle.std.specs.Option.{option_map_or}
 use Rattle.vp_model.specs.Types.{Message}
 use Rattle.vp_model.specs.Types.message
 use Rattle.vp_model.specs.Types.obstacle
-use Rattle.vp_model.specs.Words.{has_txn}
+use Rattle.vp_model.specs.Words.{has_txn, value_at}
 use Rattle.vp_model.specs.Locks.{conflict}
 use Rattle.vp_model.specs.Site.{Stepped, send}
 use Rattle.vp_model.specs.Messages.{holds_view, refuse_view, grant}
@@ -18,6 +18,9 @@ answer_request r exclusive answer from o =
     else (if has_txn o.site.ended r.txn
     then o
     else option_map_or
+    (λ (bar : ℕ × ℕ). send (message.Refuse r.txn r.number (obstacle.Barred bar.0 bar.1)) from o)
+    (value_at r.rec o.site.bars)
+    (option_map_or
     (λ holder. send (message.Refuse r.txn r.number (obstacle.Held holder)) from o)
     (conflict r.rec exclusive r.txn o.site.locks)
-    (grant r.txn r.view r.rec exclusive answer from o))
+    (grant r.txn r.view r.rec exclusive answer from o)))

@@ -38,17 +38,19 @@ impl Stepped {
     /// Locks the record for the transaction, which gets a part here if it has none.
     fn lock(&mut self, request: &Request, exclusive: bool) -> Result<(), PartFault>
         ensures told { lock_refused result ≡
-            lock_refusal self.old.site.held request.now.txn request.now.view request.now.rec exclusive self.old.site.participant self.old.site.locks }
+            lock_refusal self.old.site.held request.now exclusive self.old.site.participant self.old.site.bars self.old.site.locks }
         ensures granted { OnOk result (self.new ≡
             self.old |> change_locks (with_lock request.now.rec exclusive (owner.Txn request.now.txn)) |> change_participant (with_part request.now.txn request.now.view)) }
         ensures refused { IfSome (lock_refused result) (λ why. self.new ≡ self.old) }
     {
-        let locks = &mut self.coordinator.here.locks;
+        let here = &mut self.coordinator.here;
         let held = self.views.held();
         if exclusive {
-            self.participant.write_request(locks, held, request)
+            self.participant
+                .write_request(&mut here.locks, &here.bars, held, request)
         } else {
-            self.participant.read_request(locks, held, request)
+            self.participant
+                .read_request(&mut here.locks, &here.bars, held, request)
         }
     }
 
@@ -68,6 +70,7 @@ impl Stepped {
             Err(PartFault::Ended) => return Ok(()),
             Err(PartFault::NoMemory) => return Err(NoMemory),
             Err(PartFault::OtherView { now }) => Obstacle::OtherView { now },
+            Err(PartFault::Barred { inside, total }) => Obstacle::Barred { inside, total },
             Err(PartFault::Held { owner }) => Obstacle::Held { owner },
         };
         self.refuse(request.txn, request.number, why, from)

@@ -2,17 +2,22 @@
 
 ghost use Rattle.std.specs.Prelude.{◌≡◌, ◌&&◌, not, false, OnOk, IfOk, option_map};
 ghost use Rattle.std.specs.Option.{option_map_or};
-ghost use Rattle.vp_model.specs.Words.{◌|>◌, for_some, has, is_empty, keys};
-ghost use Rattle.vp_model.specs.Refresh.{is_doubtful, is_open, refreshing_of, unanswered, newest, take_newer, unlist, settle, settle_all, start_refresh, start_refresh_all};
-ghost use Rattle.vp_model.specs.Views.{usable_here, refresh_here};
+ghost use Rattle.vp_model.specs.Words.{◌|>◌, for_some, has, is_empty, keys, put_at};
+ghost use Rattle.vp_model.specs.Site.{change_bars};
+ghost use Rattle.vp_model.specs.Refresh.{is_doubtful, members, refreshing_of, unanswered, take_newer, unlist, settle, settle_all, start_refresh, start_refresh_all};
+ghost use Rattle.vp_model.specs.Views.{refresh_here};
 ghost use Rattle.vp_model.specs.Messages.{on_refresh_request, on_refresh_answer};
+ghost use Rattle.vp_refresh.specs.Done.{done_of};
+ghost use Rattle.vp_site.specs.Refreshing.{keep_or_bar};
 
 use crate::stepped::Stepped;
 use vp_base::{
-    Boxed, Change, CopyOf, LogRecord, Message, NoMemory, RecId, SiteId, Sites, Stored, View, ViewId,
+    Boxed, Change, CopyOf, LogRecord, Message, NoMemory, RecId, SiteId, Sites, Stored, View,
+    ViewId, has_site,
 };
-use vp_catalog::{Catalog, has_site, members_of};
-use vp_lists::view_comes_before;
+use vp_catalog::{Catalog, members_of};
+use vp_lists::{put_in, view_comes_before};
+use vp_refresh::Done;
 
 /// Another site's copy of the record, sent as the answer to a refresh request in this view.
 #[derive(Clone, Copy, Drop)]
@@ -82,15 +87,49 @@ impl Stepped {
         self.refresh.unlist(rec);
     }
 
-    /// Ends the refresh of the copy, which becomes the newest of this copy and the answers.
-    fn end_refresh(&mut self, rec: RecId, own: &Stored) -> Result<(), NoMemory>
-        ensures { OnOk result (self.new ≡
-            for_some (refreshing_of rec self.old.site.refresh) (λ r o. o |> take_newer rec own.now (newest own.now r.answers) |> unlist rec) self.old) }
+    /// The newest of this copy and the answers, with the record's weights in the held view; none where the copy is not under refresh.
+    fn refreshed(
+        &self,
+        catalog: &Catalog,
+        rec: RecId,
+        own: &Stored,
+    ) -> Result<Option<Done>, NoMemory>
+        ensures { IfOk result (λ done. done ≡
+            option_map (done_of catalog.now (members self.now.site) own.now) (refreshing_of rec self.now.site.refresh)) }
     {
-        match self.refresh.newest(rec, own)? {
+        let none = Sites::new(self.allocator());
+        let members = members_of(self.views.held(), &none);
+        self.refresh.done(catalog, members, rec, own)
+    }
+
+    /// Bars the record in the held view, which has this weight inside of the whole.
+    fn bar(&mut self, rec: RecId, inside: u32, total: u32) -> Result<(), NoMemory>
+        ensures { OnOk result (self.new ≡ change_bars (put_at rec (inside, total)) self.old) }
+    {
+        put_in(&mut self.coordinator.here.bars, (rec, (inside, total)))
+    }
+
+    /// Takes the newest copy where more than half of the weight is at the members, and else bars the record.
+    fn take_or_bar(&mut self, rec: RecId, own: &Stored, done: Done) -> Result<(), NoMemory>
+        ensures { OnOk result (self.new ≡ keep_or_bar rec own.now done self.old) }
+    {
+        if u64::from(done.total) < 2 * u64::from(done.inside) {
+            self.take_newer(rec, own, done.into_stored())
+        } else {
+            self.bar(rec, done.inside, done.total)
+        }
+    }
+
+    /// Ends the refresh of the copy: it becomes the newest of this copy and the answers, or the record is barred.
+    fn end_refresh(&mut self, catalog: &Catalog, rec: RecId, own: &Stored) -> Result<(), NoMemory>
+        ensures { OnOk result (self.new ≡
+            for_some (refreshing_of rec self.old.site.refresh)
+            (λ r o. o |> keep_or_bar rec own.now (done_of catalog.now (members self.old.site) own.now r) |> unlist rec) self.old) }
+    {
+        match self.refreshed(catalog, rec, own)? {
             None => Ok(()),
-            Some(best) => {
-                self.take_newer(rec, own, best)?;
+            Some(done) => {
+                self.take_or_bar(rec, own, done)?;
                 self.unlist(rec);
                 Ok(())
             }
@@ -107,7 +146,7 @@ impl Stepped {
         }
         match self.copy_here(rec)? {
             None => Ok(()),
-            Some(own) => self.end_refresh(rec, &own),
+            Some(own) => self.end_refresh(catalog, rec, &own),
         }
     }
 
@@ -165,34 +204,26 @@ impl Stepped {
         Ok(())
     }
 
-    /// Whether the record may be used in the held view: more than half of its weight is at members.
-    fn is_open(&self, catalog: &Catalog, rec: RecId) -> bool
-        ensures { result ≡ is_open catalog.now self.now.site rec }
+    /// Lists the records with a copy here.
+    fn records_here(&self) -> Result<Vec<RecId>, NoMemory>
+        ensures { IfOk result (λ recs. recs.items ≡ keys self.now.site.copies) }
     {
-        let none = Sites::new(catalog.sites().allocator());
-        catalog.accessible(rec, members_of(self.views.held(), &none))
-    }
-
-    /// Lists the records with a copy here that may be used in the held view.
-    fn usable_here(&self, catalog: &Catalog) -> Result<Vec<RecId>, NoMemory>
-        ensures { IfOk result (λ recs. recs.items ≡ usable_here catalog.now self.now.site) }
-    {
-        let mut recs = Vec::new(catalog.sites().allocator());
-        for (rec, _) in self.copies().as_slice() {
-            if self.is_open(catalog, *rec) {
-                recs.push(*rec)?;
-            }
-        }
+        let recs = self
+            .copies()
+            .as_slice()
+            .iter()
+            .map(|copy| copy.0)
+            .collect(self.allocator())?;
         Ok(recs)
     }
 
-    /// Begins the refresh of each copy here that may be used in the view, which the site holds already. A copy stays locked until
-    /// its refresh ends: at once if no other holder is in the view and no transaction in doubt writes the record.
+    /// Begins the refresh of each copy here in the view, which the site holds already. A copy stays locked until its refresh ends: at
+    /// once if no other holder is in the view and no transaction in doubt writes the record.
     #[tactic(auto, unfolding(vp_model::specs::Views::refresh_here))]
     pub fn refresh_here(&mut self, catalog: &Catalog, view: &View) -> Result<(), NoMemory>
         ensures { OnOk result (self.new ≡ refresh_here catalog.now view.now self.old) }
     {
-        let recs = self.usable_here(catalog)?;
+        let recs = self.records_here()?;
         self.start_refresh_all(catalog, view, &recs)?;
         self.settle_all(catalog, &recs)
     }

@@ -6,7 +6,7 @@ ghost use Rattle.vp_model.specs.Messages.{on_invite, on_view_commit};
 ghost use Rattle.vp_views.specs.Viewing.{IsApart};
 
 use crate::stepped::Stepped;
-use vp_base::{CopyOf, NoMemory, SiteId, Sites, View, ViewId};
+use vp_base::{Bars, CopyOf, NoMemory, SiteId, Sites, View, ViewId};
 use vp_catalog::Catalog;
 use vp_lists::view_comes_before;
 use vp_views::InviteFault;
@@ -24,6 +24,7 @@ pub fn leave(stepped: &mut Stepped) -> Result<(), NoMemory>
         .participant
         .leave(&mut stepped.coordinator.here.locks);
     stepped.refresh.clear();
+    stepped.coordinator.here.bars = Bars::new(stepped.allocator());
     stepped.views.leave();
     Ok(())
 }

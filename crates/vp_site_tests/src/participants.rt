@@ -3,10 +3,10 @@
 use std::alloc::Global;
 use std::process::Abort;
 use vp_base::{
-    CallNo, Change, Copies, Put, RecId, Recs, SiteId, Sites, TxnId, Value, View, ViewId, Writes,
+    Bars, CallNo, Change, Copies, Put, RecId, Recs, SiteId, Sites, TxnId, Value, View, ViewId, Writes,
 };
 use vp_locks::Locks;
-use vp_participant::{Participant, Prepare, Request, Voted};
+use vp_participant::{PartFault, Participant, Prepare, Request, Voted};
 use vp_records::Durable;
 
 const ID: ViewId = ViewId { number: 1, site: 1 };
@@ -51,8 +51,37 @@ fn takes_locks(
 ) -> bool {
     let read = Request::new(txn(), ID, number(rt), RecId::new(0));
     let write = Request::new(txn(), ID, number(rt), RecId::new(1));
-    participant.read_request(locks, Some(held), &read).is_ok()
-        && participant.write_request(locks, Some(held), &write).is_ok()
+    let none = Bars::new(held.members.allocator());
+    participant
+        .read_request(locks, &none, Some(held), &read)
+        .is_ok()
+        && participant
+            .write_request(locks, &none, Some(held), &write)
+            .is_ok()
+}
+
+/// Whether a record with a bar is refused by its weights, also where another has its lock.
+fn refuses_barred(
+    rt: &impl Abort,
+    participant: &mut Participant,
+    locks: &mut Locks,
+    held: &View,
+) -> bool {
+    let mut bars = Bars::new(held.members.allocator());
+    bars.push((RecId::new(1), (2, 5))).expect(rt, "memory");
+    let other = TxnId {
+        site: SiteId::of(2),
+        life: 1,
+        seq: 2,
+    };
+    let write = Request::new(other, ID, number(rt), RecId::new(1));
+    matches!(
+        participant.write_request(locks, &bars, Some(held), &write),
+        Err(PartFault::Barred {
+            inside: 2,
+            total: 5,
+        })
+    )
 }
 
 /// Whether the part votes yes on its write, and forces that before the vote is sent.
@@ -107,6 +136,7 @@ fn a_part_votes_outlasts_its_view_and_ends(rt: HostRuntime) {
     let mut participant = started(&rt, rt.alloc(), &mut locks);
     assert!(rt;
         takes_locks(&rt, &mut participant, &mut locks, &held)
+            && refuses_barred(&rt, &mut participant, &mut locks, &held)
             && votes(&rt, &mut participant, &locks, &held)
             && shows_doubt(&rt, &participant)
             && keeps_its_lock(&mut participant, &mut locks)

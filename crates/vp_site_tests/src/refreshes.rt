@@ -4,7 +4,7 @@ use std::alloc::Global;
 use std::process::Abort;
 use vp_base::{CopyOf, RecId, SiteId, Sites, Stored, Value, View, ViewId};
 use vp_catalog::Catalog;
-use vp_refresh::Refresh;
+use vp_refresh::{Done, Refresh};
 
 /// The index of x.
 const X: u8 = 0;
@@ -67,6 +67,14 @@ fn other_holders_in_the_view_are_missing_until_they_answer(rt: HostRuntime) {
     assert!(rt; refresh.as_slice().is_empty());
 }
 
+/// What comes out of the refresh of x, of which the sites of the view have three of the four copies.
+fn done(rt: &impl Abort, alloc: Global, refresh: &Refresh, own: &Stored) -> Done {
+    refresh
+        .done(&catalog(rt, alloc), &view(rt, alloc).members, RecId::new(X), own)
+        .expect(rt, "memory")
+        .expect(rt, "a copy")
+}
+
 /// Whether this value is taken if the own copy and those of the sites 3 and 2 have these dates.
 fn is_taken(rt: &impl Abort, alloc: Global, own: u64, three: u64, two: u64, wanted: &[u8]) -> bool {
     let mut refresh = Refresh::none(alloc);
@@ -76,8 +84,9 @@ fn is_taken(rt: &impl Abort, alloc: Global, own: u64, three: u64, two: u64, want
     let copy = stored(rt, alloc, b"two", two);
     keep_answer(rt, &mut refresh, SiteId::of(2), copy);
     let own = stored(rt, alloc, b"own", own);
-    let newest = refresh.newest(RecId::new(X), &own).expect(rt, "memory");
-    matches!(newest.expect(rt, "a copy").into_value(), Some(value) if value.is(wanted))
+    let done = done(rt, alloc, &refresh, &own);
+    (done.inside, done.total) == (3, 4)
+        && matches!(done.into_stored().into_value(), Some(value) if value.is(wanted))
 }
 
 #[test]

@@ -50,6 +50,9 @@ fn front(alloc: Global, command: &Command) -> Result<String, AllocError> {
             format!(in alloc; "gateway {port} {turns} {}", site.get())
         }
         Command::Merge => format!(in alloc; "merge"),
+        Command::Proc { port, turns, site } => {
+            format!(in alloc; "proc {port} {turns} {}", site.get())
+        }
     }
 }
 
@@ -73,7 +76,8 @@ fn text_of(rt: &impl Abort, alloc: Global, command: &Command) -> Vec<u8> {
         | Command::Soak { .. }
         | Command::Logs
         | Command::Gateway { .. }
-        | Command::Merge => {}
+        | Command::Merge
+        | Command::Proc { .. } => {}
     }
     out
 }

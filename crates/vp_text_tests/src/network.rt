@@ -57,6 +57,12 @@ gateway|65535|18446744073709551615|2=gateway 65535 18446744073709551615 2
 gateway|--|7001|1|1=gateway 7001 1 1
 gateway|7001|--|1|1=gateway 7001 1 1
 gateway|7001|1|1|--=gateway 7001 1 1
+proc|7001|1|1=proc 7001 1 1
+proc|1|0|16=proc 1 0 16
+proc|65535|18446744073709551615|2=proc 65535 18446744073709551615 2
+proc|--|7001|1|1=proc 7001 1 1
+proc|7001|--|1|1=proc 7001 1 1
+proc|7001|1|1|--=proc 7001 1 1
 ";
 
 #[test]
@@ -226,6 +232,23 @@ gateway|7001||1
 gateway|7001|-|1
 gateway|7001|1|1|--|--
 gateway|--help
+proc
+proc|7001
+proc|7001|1
+proc|7001|1|1|begin
+proc|0|1|1
+proc|65536|1|1
+proc|07001|1|1
+proc|72537|1|1
+proc|7001|01|1
+proc|7001|18446744073709551616|1
+proc|7001|1|0
+proc|7001|1|17
+proc|7001|1|257
+proc|7001||1
+proc|7001|-|1
+proc|7001|1|1|--|--
+proc|--help
 Gateway|7001|1|1
 ticks|1
 Tick|1

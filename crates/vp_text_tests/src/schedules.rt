@@ -24,13 +24,15 @@ fn printed(rt: &impl Abort, alloc: Global, text: &[u8]) -> Vec<u8> {
 
 #[test]
 fn calls_are_printed_as_they_were_read(rt: HostRuntime) {
-    let cases: [&[u8]; 6] = [
+    let cases: [&[u8]; 8] = [
         b"begin",
         b"regroup",
         b"1.1.1 1 read balance_7",
         b"16.4294967295.2 4294967295 write x ~A!",
         b"2.1.3 7 commit",
         b"2.1.3 7 abort",
+        b"2.1.3 7 weigh x 16:65535",
+        b"2.1.3 7 weigh x 1:3 2:1 15:7",
     ];
     for text in cases {
         assert_eq!(rt; printed(&rt, rt.alloc(), text).as_slice(), text);
@@ -39,7 +41,7 @@ fn calls_are_printed_as_they_were_read(rt: HostRuntime) {
 
 #[test]
 fn calls_are_refused_at_their_places(rt: HostRuntime) {
-    let cases: [(&[u8], usize); 12] = [
+    let cases: [(&[u8], usize); 17] = [
         (b"", 0),
         (b"1.1.1 1 rea", 11),
         (b"1.1.1 1 read", 12),
@@ -52,6 +54,11 @@ fn calls_are_refused_at_their_places(rt: HostRuntime) {
         (b"regrop", 5),
         (b"Begin", 0),
         (b"1.1.1  1 abort", 6),
+        (b"1.1.1 1 weigh x", 15),
+        (b"1.1.1 1 weigh x 1:3 ", 20),
+        (b"1.1.1 1 weigh x 16:1 ", 20),
+        (b"1.1.1 1 weigh x 0:1", 16),
+        (b"1.1.1 1 weigh x 2:65536", 22),
     ];
     for (text, at) in cases {
         assert_eq!(rt; place_of(read_call(rt.alloc(), text)), Some(at));
@@ -96,7 +103,7 @@ fn schedules_are_printed_as_they_were_read(rt: HostRuntime) {
     let cases: [&[u8]; 3] = [
         b"site 1 7001\nevents\n",
         b"site 1 7001\nsite 16 7016\nrecord x 10 1:1 16:65535\nrecord y ~ 16:2\nevents\ncall 16 regroup\n",
-        b"site 1 1\nsite 2 2\nevents\ncall 1 1.1.1 1 write x ~A!\ndeliver 7\nflow 9\ntick 1\nprobe 2\ncut 1 2\nheal 2 1\ncrash 1\nrestart 1\n",
+        b"site 1 1\nsite 2 2\nevents\ncall 1 1.1.1 1 write x ~A!\ncall 2 1.1.1 2 weigh x 1:2 3:4\ndeliver 7\nflow 9\ntick 1\nprobe 2\ncut 1 2\nheal 2 1\ncrash 1\nrestart 1\n",
     ];
     for text in cases {
         assert_eq!(rt; again(&rt, rt.alloc(), text).as_slice(), text);

@@ -42,7 +42,10 @@ fn does_what_the_words_after_its_name_say(rt: HostRuntime) {
 fn three_nodes_serve_a_transaction_and_one_starts_again(rt: HostRuntime) {
     let (mut cluster, mut nodes) = started(rt, BY_WORDS).expect(&rt, "a cluster");
     assert_eq!(rt; cluster.first_unanswered().expect(&rt, "answers"), None);
-    assert!(rt; cluster.fails_by_procedure().expect(&rt, "a procedure"));
+    assert_eq!(rt;
+        cluster.first_unlike_its_example().expect(&rt, "procedures"),
+        None
+    );
     assert_eq!(rt; cluster.first_lasting(&mut nodes).expect(&rt, "ends"), None);
     assert_eq!(rt; cluster.first_unmerged().expect(&rt, "a merge"), None);
     assert_eq!(rt;

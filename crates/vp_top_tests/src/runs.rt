@@ -237,9 +237,9 @@ const ANSWERED: [(&str, &str, Status, &str); 34] = [
     ("replay", "#flew 1\n", Status::BadLine, "bad line 6 at 3\n"),
     (
         "replay",
-        "#call 1 1.1.1 1 weigh x 1:3\n",
+        "#call 1 1.1.1 1 weigh x 1:3 1:4\n",
         Status::BadLine,
-        "bad line 6 at 17\n",
+        "bad line 6 at 29\n",
     ),
     // Histories have their verdict, also after a trace, and other texts are no histories.
     (

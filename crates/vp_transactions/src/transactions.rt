@@ -21,9 +21,8 @@ use std::marker::Model;
 use std::mem;
 use vp_base::{
     Answer, CallNo, CopyOf, Decision, Effects, Ending, Finished, Live, MOST_FINISHED, Message,
-    NoMemory, Pending, Seq, SiteId, Sites, TxnId, ViewId,
+    NoMemory, Pending, Seq, SiteId, Sites, TxnId, ViewId, has_site,
 };
-use vp_catalog::has_site;
 use vp_lists::OfTxn;
 use vp_records::DecisionTable;
 

@@ -5,8 +5,7 @@ ghost use Rattle.std.specs.List.{list_any};
 ghost use Rattle.vp_model.specs.Words.{has};
 ghost use Rattle.vp_model.specs.Step.{is_odd};
 
-use vp_base::SiteId;
-use vp_catalog::has_site;
+use vp_base::{SiteId, has_site};
 
 /// Whether a member other than the site itself was not heard.
 fn lacks_member(id: SiteId, members: &[SiteId], heard: &[SiteId]) -> bool

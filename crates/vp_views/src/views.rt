@@ -13,8 +13,10 @@ use crate::fault::{InviteFault, Spent};
 use crate::sites::is_odd;
 use crate::standing::Standing;
 use std::marker::Model;
-use vp_base::{CopyOf, Effects, LogRecord, Message, NoMemory, SiteId, Sites, View, ViewId};
-use vp_catalog::{Catalog, alone, has_site, others_of};
+use vp_base::{
+    CopyOf, Effects, LogRecord, Message, NoMemory, SiteId, Sites, View, ViewId, has_site,
+};
+use vp_catalog::{Catalog, alone, others_of};
 use vp_lists::view_comes_before;
 
 /// What a site knows of views. After an error the value and the effects may be changed in part: drop both.

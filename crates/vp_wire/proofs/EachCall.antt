@@ -11,7 +11,8 @@ use Rattle.vp_bytes.specs.Fields.{Spelled, numbered_bytes, counted_bytes}
 use Rattle.vp_wire.specs.Grammar.{call_fields, IsCallIn}
 use Rattle.vp_base.specs.Calls.{IsNumbered}
 use Rattle.vp_contents.specs.Values.{value_bytes, IsValueIn}
-use Rattle.vp_contents.specs.Tables.{table_bytes, IsTable}
+use Rattle.vp_base.specs.Tables.{IsTable}
+use Rattle.vp_contents.specs.Tables.{table_bytes}
 use Rattle.vp_contents.specs.declared.version.Version.{Version}
 use Rattle.vp_contents.proofs.ValuesExact.{value_exact}
 use Rattle.vp_contents.proofs.TablesExact.{table_exact}

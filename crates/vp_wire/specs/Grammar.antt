@@ -15,7 +15,8 @@ use Rattle.vp_bytes.specs.Fields.{number_bytes, view_bytes, maybe_view_bytes, tx
 use Rattle.vp_contents.specs.Versions.{IsSecond, version_of}
 use Rattle.vp_contents.specs.Values.{value_bytes, IsValueIn}
 use Rattle.vp_contents.specs.Contents.{content_bytes, IsContent}
-use Rattle.vp_contents.specs.Tables.{table_bytes, IsTable}
+use Rattle.vp_base.specs.Tables.{IsTable}
+use Rattle.vp_contents.specs.Tables.{table_bytes}
 use Rattle.vp_contents.specs.Changes.{writes_bytes, IsWrites}
 use Rattle.vp_contents.specs.Copies.{copy_bytes, IsCopy}
 use Rattle.vp_contents.specs.declared.version.Version.{Version}

@@ -3,13 +3,13 @@
 ghost use Rattle.std.specs.Prelude.{◌≡◌, ◌++◌};
 ghost use Rattle.vp_text.specs.Printing.{Appends};
 ghost use Rattle.vp_wire.specs.Grammar.{IsCallIn, call_bytes, call_fields};
-ghost use Rattle.vp_contents.specs.Tables.{IsTable, table_bytes};
+ghost use Rattle.vp_contents.specs.Tables.{table_bytes};
 ghost use Rattle.vp_contents.specs.Values.{IsValueIn, value_bytes};
 ghost use Rattle.vp_bytes.specs.Fields.{counted_bytes, numbered_bytes};
 
 use crate::kind::CallKind;
 use bytes::BytesMut;
-use vp_base::{Call, CallNo, Name, NoMemory, SiteId, TxnId, Value};
+use vp_base::{Call, CallNo, Name, NoMemory, Table, TxnId, Value};
 use vp_bytes::{put_byte, put_name, put_numbered};
 use vp_contents::{Version, put_table, put_value};
 
@@ -45,7 +45,7 @@ fn put_call_fields(out: &mut BytesMut, version: Version, call: &Call) -> Result<
             number,
             name,
             table,
-        } => put_weigh(out, txn, *number, name, table.as_slice()),
+        } => put_weigh(out, txn, *number, name, table),
     }
 }
 
@@ -89,9 +89,8 @@ fn put_weigh(
     txn: &TxnId,
     number: CallNo,
     name: &Name,
-    table: &[(SiteId, u16)],
+    table: &Table,
 ) -> Result<(), NoMemory>
-    requires { IsTable table.now }
     ensures { Appends result out.old.items
         (numbered_bytes txn.now number ++ (counted_bytes name.now ++ table_bytes table.now)) out.new.items }
 {

@@ -6,7 +6,7 @@ use Rattle.std.specs.Str.{bytes_eq}
 use Rattle.std.proofs.lemmas.List.Sums.{sum_by-cons}
 use Rattle.std.proofs.lemmas.Bool.Decides.{nat_tests}
 use Rattle.vp_bytes.specs.Fields.{IsSite, IsRecord, IsAscending}
-use Rattle.vp_contents.specs.Tables.{IsAscendingTable, IsTable}
+use Rattle.vp_base.specs.Tables.{AreShares, IsTable}
 use Rattle.vp_model.specs.Types.{Stored, View}
 use Rattle.vp_model.specs.Words.{has, keys, opening}
 use Rattle.vp_model.specs.Catalogue.{Catalogue, RecordEntry, sites_of, find_record, weights_in, weights_of, holders, weight_total, weight_inside, inside, total, copies_from, start_copies}
@@ -78,12 +78,12 @@ module _ (c : Catalogue) (k : IsCatalogue c) where
   pub inside_fits : (rec : ℕ) (members : List ℕ) → inside c rec members < 2 ^ 32
   inside_fits rec members = let less = inside_less members (weights_of c rec) in let all = total_fits rec in omega (arith, less, all)
 
-  table_sum : (least : ℕ) (ws : List (ℕ × ℕ)) → IsAscendingTable least ws → sum_by (λ (w : ℕ × ℕ). w.1) ws ≤ length ws * 65535
-  table_sum least [] h = omega arith
-  table_sum least (w ∷ ws) h = let rest = table_sum (suc w.0) ws h.3 in let one = sum_by-cons (λ (w : ℕ × ℕ). w.1) w ws in let most = h.2.1 in omega (arith, rest, one, most)
+  table_sum : (above : ℕ) (ws : List (ℕ × ℕ)) → AreShares above ws → sum_by (λ (w : ℕ × ℕ). w.1) ws ≤ length ws * 65535
+  table_sum above [] h = omega arith
+  table_sum above (w ∷ ws) h = let rest = table_sum w.0 ws h.1 in let one = sum_by-cons (λ (w : ℕ × ℕ). w.1) w ws in let most = h.0.fits in omega (arith, rest, one, most)
 
   pub table_fits : (table : List (ℕ × ℕ)) → IsTable table → weight_total table < 2 ^ 32
-  table_fits table h = let sum = table_sum 1 table h.2 in let few = h.1 in omega (arith, sum, few)
+  table_fits table h = let sum = table_sum 0 table h.shares_are in let few = h.few in omega (arith, sum, few)
 
   pub part_fits : (table : List (ℕ × ℕ)) (members : List ℕ) → IsTable table → weight_inside members table < 2 ^ 32
   part_fits table members h = let less = inside_less members table in let all = table_fits table h in omega (arith, less, all)

@@ -5,7 +5,7 @@ use Rattle.std.specs.List.{AllByRecursion, list_any}
 use Rattle.std.proofs.lemmas.Bool.Decides.{nat_tests}
 use Rattle.std.proofs.lemmas.List.{length-append}
 use Rattle.vp_base.specs.Words.{IsName, IsValue}
-use Rattle.vp_base.specs.Tables.{IsTable as IsCallTable}
+use Rattle.vp_base.specs.Tables.{IsTable}
 use Rattle.vp_contents.specs.Contents.{IsContent}
 use Rattle.vp_contents.specs.declared.version.Version.TheVariants as versions
 use Rattle.vp_base.specs.Identifiers.{IsView, IsTxn}
@@ -38,7 +38,7 @@ use Rattle.vp_laws.proofs.Moves.Frames.{decide-cases}
 use Rattle.vp_laws.proofs.Moves.Table.{Comes, next_name, record_of, IsNext, Reads, Changes, Tries, remaining, Completes, Decides, Says, Closes, Names, IsCallOf, lent_at, Back}
 use Rattle.vp_laws.specs.Shapes.{IsAnswer, IsInput, IsPending, operates, asked, IsLive, IsEnding, IsFinished, IsCoordinator, IsLock, IsShaped, AreShaped}
 use Rattle.vp_laws.proofs.Lists.Items.{all_at, all_and_one, all_filter}
-use Rattle.vp_laws.proofs.Shapes.Numbers.{each_site, put_sites, put_all_sites, sites_of_ascending, some_sites, ascending_filter, written_is, changes_are, table_of_call}
+use Rattle.vp_laws.proofs.Shapes.Numbers.{each_site, put_sites, put_all_sites, sites_of_ascending, some_sites, ascending_filter, written_is, changes_are}
 use Rattle.vp_laws.proofs.Shapes.Sizes.{writes_length}
 use Rattle.vp_laws.proofs.Shapes.Doubts.{with_decisions, fewer_decisions}
 use Rattle.vp_laws.proofs.Shapes.Catalogue.{others_ascend, found_is, inside_fits, total_fits, table_fits, part_fits}
@@ -116,7 +116,7 @@ module _ (catalogue : Catalogue) (k : IsCatalogue catalogue) (x : SiteState) (sx
   delete_call : (words : Call) (txn : TxnId) (number : ℕ) (name : List ℕ) → IsCall words → words ≡ call.Delete txn number name → IsNumbered txn number × IsName name name
   delete_call words txn number name i e = rw e at i
 
-  weigh_call : (words : Call) (txn : TxnId) (number : ℕ) (name : List ℕ) (table : Table) → IsCall words → words ≡ call.Weigh txn number name table → IsNumbered txn number × IsName name name × IsCallTable table
+  weigh_call : (words : Call) (txn : TxnId) (number : ℕ) (name : List ℕ) (table : Table) → IsCall words → words ≡ call.Weigh txn number name table → IsNumbered txn number × IsName name name × IsTable table
   weigh_call words txn number name table i e = rw e at i
 
   named_is : (words : Call) (name : List ℕ) → Names words name → IsCall words → IsName name name
@@ -143,7 +143,7 @@ module _ (catalogue : Catalogue) (k : IsCatalogue catalogue) (x : SiteState) (sx
       go : (d : Deed) → Tries words rec d → (o : Option (ℕ × ℕ)) → short_by d (members_in x.held) ≡ o → first_some o (first_some (value_at rec x.bars) (short_of_holders catalogue rec (members_in x.held))) ≡ Some weights → (weights.0 < 2 ^ 32) × (weights.1 < 2 ^ 32)
       go d from None q e = here (value_at rec x.bars) refl e
       go _ (Tries.weighs txn number name table w) (Some own) q e =
-          let is = table_of_call table (weigh_call words txn number name table i w).2 in
+          let is = (weigh_call words txn number name table i w).2 in
           of_sums (accessible_by table (members_in x.held)) (weight_inside (members_in x.held) table) (weight_total table) weights (part_fits catalogue k table (members_in x.held) is) (table_fits catalogue k table is) (q ∙ e)
       go _ (Tries.reads txn number name w) (Some own) q e = cc
       go _ (Tries.writes txn number name value w) (Some own) q e = cc
@@ -225,7 +225,7 @@ module _ (catalogue : Catalogue) (k : IsCatalogue catalogue) (x : SiteState) (sx
   asked_deed : (deed : Deed) (words : Call) → IsCall words → change_asked catalogue words ≡ Some deed → IsDeed deed
   asked_deed deed (call.Write txn number name value) i a = of_record IsDeed name (λ rec. Deed.operates (op.Write rec (Some value))) deed (λ rec r. (r, i.2)) a
   asked_deed deed (call.Delete txn number name) i a = of_record IsDeed name (λ rec. Deed.operates (op.Write rec None)) deed (λ rec r. (r, tt)) a
-  asked_deed deed (call.Weigh txn number name table) i a = of_record IsDeed name (λ rec. Deed.weighs rec table) deed (λ rec r. (r, table_of_call table i.2)) a
+  asked_deed deed (call.Weigh txn number name table) i a = of_record IsDeed name (λ rec. Deed.weighs rec table) deed (λ rec r. (r, i.2)) a
   asked_deed deed (call.Read txn number name) i a = cc
   asked_deed deed (call.Commit txn number) i a = cc
   asked_deed deed (call.Abort txn number) i a = cc

@@ -20,7 +20,7 @@ use Rattle.vp_model.specs.Calls.{change_asked, content_size, size_of, is_too_lar
 use Rattle.vp_model.specs.Step.{marked_call, mark, with_marks, least_of, least_missing, is_marked_call}
 use Rattle.vp_laws.specs.Shapes.{IsAnswer, IsOp, IsGiven, IsPending, operates, asked, IsLive, IsEnding, IsFinished, IsCoordinator}
 use Rattle.vp_contents.specs.Contents.{IsContent}
-use Rattle.vp_contents.specs.Tables.{IsTable}
+use Rattle.vp_base.specs.Tables.{IsTable}
 use Rattle.vp_contents.specs.declared.version.Version.TheVariants as versions
 use Rattle.vp_laws.proofs.Lists.Keeps.{by_test}
 use Rattle.vp_laws.proofs.Lists.Items.{all_put, all_and_one, all_append, all_change, all_without, all_most, all_map, all_filter}

@@ -4,10 +4,10 @@ use Rattle.std.specs.Prelude.{Option, Some, None, is_some, filter, fold, nat_lt,
 use Rattle.std.specs.List.{AllByRecursion}
 use Rattle.std.proofs.lemmas.Bool.{or_right}
 use Rattle.std.proofs.lemmas.Bool.Decides.{nat_tests}
-use Rattle.vp_base.specs.Tables.{AreShares, IsTable as IsCallTable}
+use Rattle.vp_base.specs.Tables.{IsTable}
 use Rattle.vp_bytes.specs.Fields.{IsSite, IsRecord, IsAscending, IsSites}
 use Rattle.vp_contents.specs.Contents.{IsContent}
-use Rattle.vp_contents.specs.Tables.{IsAscendingTable, IsTable, IsMaybeTable}
+use Rattle.vp_contents.specs.Tables.{IsMaybeTable}
 use Rattle.vp_contents.specs.Changes.{IsPut, Alters, IsChange, IsAscendingWrites, IsWrites}
 use Rattle.vp_contents.specs.declared.version.Version.TheVariants as versions
 use Rattle.vp_model.specs.Types.{Change, Op, Commit}
@@ -212,12 +212,3 @@ module _ (e : Commit) (ops_are : AllByRecursion IsOp e.ops) (tables_are : AllByR
       let q = ops_length e.ops [] in
       let f = length_filter test (last_changes e) in
       (omega (arith, few, made, same, q, f), writes_filter 0 test (last_changes e) changes_rise)
-
--- ---- tables that calls bring
-
-shares_ascend : (above least : ℕ) (table : Table) → least ≤ suc above → AreShares above table → IsAscendingTable least table
-shares_ascend above least [] low h = tt
-shares_ascend above least (s ∷ ss) low h = let higher = h.0.higher in (omega (arith, low, higher), h.0.site_fits, (h.0.some, h.0.fits), shares_ascend s.0 (suc s.0) ss (omega arith) h.1)
-
-pub table_of_call : (table : Table) → IsCallTable table → IsTable table
-table_of_call table h = (h.held, h.few, shares_ascend 0 1 table (omega arith) h.shares_are)

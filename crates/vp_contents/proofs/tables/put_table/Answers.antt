@@ -13,13 +13,13 @@ loop-weight-init g c = c.in_ok-put_byte.ensures.ok
 
 pub loop-weight-preserved : goal.loop-weight-preserved
 loop-weight-preserved g c =
-    item_turn weight_bytes (g.B.BufMut.written c.args.out.now) (length c.args.table.now ∷ []) c.args.table.now c.loop-weight.weight-index c.weight-item.result _ _ c.loop-weight-test.true c.weight-item.is c.loop-weight.invariant c.in_ok-put_weight.ensures.whole
+    item_turn weight_bytes (g.B.BufMut.written c.args.out.now) (length c.as_slice-shares.result.now ∷ []) c.as_slice-shares.result.now c.loop-weight.weight-index c.weight-item.result _ _ c.loop-weight-test.true c.weight-item.is c.loop-weight.invariant c.in_ok-put_weight.ensures.whole
 
 pub returns-in_err-put_weight : goal.returns-in_err-put_weight
 returns-in_err-put_weight g c =
     let old = g.B.BufMut.written c.args.out.now in
     let begun = rw c.loop-weight.invariant at c.put_weight.ensures.begun in
-    begun_err _ _ _ _ c.from_residual-in_err-put_weight.ensures.0 (begun_item weight_bytes old (length c.args.table.now ∷ []) c.args.table.now c.loop-weight.weight-index c.weight-item.result _ c.loop-weight-test.true c.weight-item.is begun)
+    rw c.as_slice-shares.ensures.shares at (begun_err _ _ _ _ c.from_residual-in_err-put_weight.ensures.0 (begun_item weight_bytes old (length c.as_slice-shares.result.now ∷ []) c.as_slice-shares.result.now c.loop-weight.weight-index c.weight-item.result _ c.loop-weight-test.true c.weight-item.is begun))
 
 pub returns : goal.returns
 returns g c = all_of _ _ _ (grind (arith, common_steps))

@@ -7,7 +7,7 @@ use Rattle.vp_top.proofs.auditing.audit_logs.Goals as goal
 pub returns-in-Ok-clause-gives : goal.returns-in-Ok-clause-gives
 returns-in-Ok-clause-gives g c =
     gives_so c.args.catalog.now c.args.logs.now _ _ status.Done _ _
-    (record { parts = c.in-Ok.parts; read = rw c.as_slice.ensures at c.in-Ok.ensures.stops; text_is = refl; is_true = c.reports_are_true.ensures c.args.catalog.now c.in-Ok.parts })
+    (record { parts = c.in-Ok.parts; read = rw c.as_slice.ensures at c.in-Ok.ensures.stops; text_is = refl; is_true = c.reports_are_true.ensures c.args.catalog.now c.in-Ok.parts c.sites.ensures.so_far })
     c.reported.ensures.status c.reported.ensures.text
 
 pub returns-in-Err-BadLog-clause-gives : goal.returns-in-Err-BadLog-clause-gives
