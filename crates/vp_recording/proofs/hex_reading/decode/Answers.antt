@@ -1,4 +1,4 @@
-use Rattle.std.proofs.Common.{◌≡◌, ◌∙◌, ap, sym, arith, ℕ, ◌+◌, ◌*◌, ◌/◌, ◌<◌, length, take}
+use Rattle.std.proofs.Common.{◌≡◌, ◌∙◌, ap, sym, arith, ◌+◌, ◌*◌, ◌/◌, ◌<◌, length, take}
 use Rattle.vp_recording.specs.Hex.{bytes_of}
 use Rattle.vp_recording.proofs.Digits.{pairs_more, pairs_whole}
 use Rattle.vp_recording.proofs.hex_reading.decode.Goals as goal
