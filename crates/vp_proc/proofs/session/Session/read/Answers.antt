@@ -68,7 +68,7 @@ returns-in-Some-number-clause-goes g c p old rest at =
     let told = read_told c.args.self.now p old c.args.rec c.args.name go (g.L.Link.state c.args.link.now) (g.L.Link.state c.ask.new.link) at c.in_ok-answer.answer content asks (sym c.in_ok-content.ensures.content ∙ c.in-Some.is) in
     rw (c.in_ok-push.ensures.ok, c.set.ensures)
     (subst (λ (s : Script). IsAt (grown c.args.self.now (op.Read c.args.rec content)) p old s (g.L.Link.state c.ask.new.link))
-    (read_number w.line w.vars w.mode rest c.args.var content c.in-Some-number.number (sym c.number_in.ensures ∙ c.in-Some-number.is)) told)
+    (read_number w.line w.vars w.mode rest c.args.var content c.in-Some-number.number (sym c.number_in-number.ensures ∙ c.in-Some-number.is)) told)
 
 pub returns-in_err-stop-in-None-clause-goes : goal.returns-in_err-stop-in-None-clause-goes
 returns-in_err-stop-in-None-clause-goes g c p old rest at =
@@ -80,7 +80,7 @@ returns-in_err-stop-in-None-clause-goes g c p old rest at =
     let told = read_told c.args.self.now p old c.args.rec c.args.name go (g.L.Link.state c.args.link.now) (g.L.Link.state c.ask.new.link) at c.in_ok-answer.answer content asks (sym c.in_ok-content.ensures.content ∙ c.in-Some.is) in
     let due : IsToAbort (record c.args.self.now { ops = c.push.new.self }) p old (ends.NotNumber w.line) (g.L.Link.state c.ask.new.link) = rw c.in_ok-push.ensures.ok
         (subst (λ (s : Script). IsAt (grown c.args.self.now (op.Read c.args.rec content)) p old s (g.L.Link.state c.ask.new.link))
-        (read_no_number w.line w.vars w.mode rest c.args.var content (sym c.number_in.ensures ∙ c.in-None.is)) told) in
+        (read_no_number w.line w.vars w.mode rest c.args.var content (sym c.number_in-number.ensures ∙ c.in-None.is)) told) in
     rw (is.1, is.2) (c.in_err-stop-in-None.ensures.finishes p old due)
 
 pub returns-clause-goes : goal.returns-clause-goes
@@ -92,5 +92,5 @@ returns-clause-goes g c p old rest at =
     let told = read_told c.args.self.now p old c.args.rec c.args.name go (g.L.Link.state c.args.link.now) (g.L.Link.state c.ask.new.link) at c.in_ok-answer.answer content asks (sym c.in_ok-content.ensures.content ∙ c.in-Some.is) in
     let due : IsToAbort (record c.args.self.now { ops = c.push.new.self }) p old (ends.NotNumber w.line) (g.L.Link.state c.ask.new.link) = rw c.in_ok-push.ensures.ok
         (subst (λ (s : Script). IsAt (grown c.args.self.now (op.Read c.args.rec content)) p old s (g.L.Link.state c.ask.new.link))
-        (read_no_number w.line w.vars w.mode rest c.args.var content (sym c.number_in.ensures ∙ c.in-None.is)) told) in
+        (read_no_number w.line w.vars w.mode rest c.args.var content (sym c.number_in-number.ensures ∙ c.in-None.is)) told) in
     c.in_ok-stop-in-None.ensures.finishes p old due

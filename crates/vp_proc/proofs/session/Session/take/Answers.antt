@@ -44,11 +44,11 @@ pub returns-in_err-stop-in-Stop-clause-goes : goal.returns-in_err-stop-in-Stop-c
 returns-in_err-stop-in-Stop-clause-goes g c p old rest at =
     let is = err_from_is_err_and c.from_residual-in_err-stop-in-Stop.result c.from_residual-in_err-stop-in-Stop.ensures.1 in
     let failure = subst (λ (s : Step). IsStep s) c.in-Stop.is c.requires.step in
-    let left = at_step c.args.self.now p old c.args.walk.now.line c.args.walk.now.vars c.args.walk.now.mode rest c.args.step (steps.Stop c.in-Stop.field-0) (g.L.Link.state c.args.link.now) c.in-Stop.is at in
-    rw (is.1, is.2) (c.in_err-stop-in-Stop.ensures.finishes p old (stop_due c.args.self.now p old c.in-Stop.field-0 (g.L.Link.state c.args.link.now) failure left))
+    let left = at_step c.args.self.now p old c.args.walk.now.line c.args.walk.now.vars c.args.walk.now.mode rest c.args.step (steps.Stop c.in-Stop.end) (g.L.Link.state c.args.link.now) c.in-Stop.is at in
+    rw (is.1, is.2) (c.in_err-stop-in-Stop.ensures.finishes p old (stop_due c.args.self.now p old c.in-Stop.end (g.L.Link.state c.args.link.now) failure left))
 
 pub returns-in_ok-stop-in-Stop-clause-goes : goal.returns-in_ok-stop-in-Stop-clause-goes
 returns-in_ok-stop-in-Stop-clause-goes g c p old rest at =
     let failure = subst (λ (s : Step). IsStep s) c.in-Stop.is c.requires.step in
-    let left = at_step c.args.self.now p old c.args.walk.now.line c.args.walk.now.vars c.args.walk.now.mode rest c.args.step (steps.Stop c.in-Stop.field-0) (g.L.Link.state c.args.link.now) c.in-Stop.is at in
-    c.in_ok-stop-in-Stop.ensures.finishes p old (stop_due c.args.self.now p old c.in-Stop.field-0 (g.L.Link.state c.args.link.now) failure left)
+    let left = at_step c.args.self.now p old c.args.walk.now.line c.args.walk.now.vars c.args.walk.now.mode rest c.args.step (steps.Stop c.in-Stop.end) (g.L.Link.state c.args.link.now) c.in-Stop.is at in
+    c.in_ok-stop-in-Stop.ensures.finishes p old (stop_due c.args.self.now p old c.in-Stop.end (g.L.Link.state c.args.link.now) failure left)
