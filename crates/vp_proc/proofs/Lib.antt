@@ -3,3 +3,4 @@ pub mod Evaluations
 pub mod Told
 pub mod Sessions
 pub mod Walked
+pub mod Playing
