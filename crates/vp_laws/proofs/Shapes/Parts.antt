@@ -64,7 +64,7 @@ module _ (catalogue : Catalogue) (k : IsCatalogue catalogue) (x : SiteState) (sx
   takes_newer r own o n i p =
       let best = newest own r.answers in
       let a = with_copies catalogue x o p (replace_at r.rec best) (replace_is catalogue o.site.id r.rec best o.site.here.copies i p.site_is.copies_are) in
-      let bar = (weight_inside (members o.site) (judging catalogue r own), weight_total (judging catalogue r own)) in
+      let bar : ℕ × ℕ = (weight_inside (members o.site) (judging catalogue r own), weight_total (judging catalogue r own)) in
       take-cases F catalogue r own o (with_gives catalogue x _ a _ (gives_entry x.id _ a.gives (log_record.Copy r.rec best) (n, i))) p
       (with_bars catalogue x o p (with_bar r.rec (judging catalogue r own) (members o.site)) (all_put IsBar (λ (a : ℕ × (ℕ × ℕ)) (b : ℕ × (ℕ × ℕ)). a.0 == b.0) (λ (a : ℕ × (ℕ × ℕ)) (b : ℕ × (ℕ × ℕ)). nat_lt a.0 b.0) (r.rec, bar) o.site.here.bars (sums_fit r.rec best.table (members o.site) i.1) p.site_is.bars_are))
 

@@ -1,6 +1,6 @@
 -- A step that refuses a call before it is done changes nothing: no other move gives such a reply.
 use Rattle.std.proofs.Common.{length, ◌≡◌, ◌∙◌, ap, subst, ℕ, Bool, true, false, List, [], ◌∷◌, ◌++◌, refl, arith}
-use Rattle.std.specs.Prelude.{◌||◌, nat_le, Option, Some, None}
+use Rattle.std.specs.Prelude.{◌||◌, nat_le, not, Option, Some, None}
 use Rattle.std.specs.List.{Contains, list_any}
 use Rattle.vp_model.specs.Types.{Change, TxnId, View, Stored, Owner, Call, Answer, Reply, Input, Pending, Live, Ending, Finished, Refreshing, Doubt}
 use Rattle.vp_base.specs.declared.site.Ending.TheVariants.{Inaccessible, Committed, Aborted, LockHeld, ViewChanged, TimedOut}
@@ -350,8 +350,8 @@ steps catalogue x input.Probe = Steps.done (no_refusal catalogue x input.Probe (
 pub refusals_change_nothing : RefusalsChangeNothing
 refusals_change_nothing catalogue x given r there refused = go (step catalogue x given) (steps catalogue x given) there
   where
-    go : (o : Stepped) → Steps catalogue x given o → Contains o.effects.replies r → o ≡ only_this catalogue x r
+    go : (o : Stepped) → Steps catalogue x given o → Contains o.effects.replies r → o ≡ only_this catalogue x given r
     go o (Steps.only words port e) h =
         let same : (record { to = port; answer = words }) ≡ r = has_one_is _ r (has_of _ r (subst (λ (o : Stepped). Contains o.effects.replies r) e h)) in
-        e ∙ ap (only_this catalogue x) same
+        e ∙ ap (only_this catalogue x given) same
     go o (Steps.done d) h = absurd (let z = any_false (refuses given) o.effects.replies d r (has_of _ r h) in cc)
