@@ -51,6 +51,9 @@ abbrev pub Goes : Session → Walk → Step → LinkState → Session → Walk �
 Goes s walk step now s' walk' new result = (p : Procedure) (old : LinkState) (rest : List Statement) → IsAt s p old (comes_to walk.line walk.vars walk.mode rest step) now
     → GoesOn s' p old (script_from (walk.line + 1) rest walk'.vars walk'.mode) new result
 
+pub still_same : (s0 s s' : Session) → s ≡ record s0 { ops = s.ops } → Grows s s' → s' ≡ record s0 { ops = s'.ops }
+still_same s0 s s' same grows = grows.same ∙ ap (λ (b : Session). record b { ops = s'.ops }) same
+
 module _ (s0 : Session) (p : Procedure) (start : LinkState) where
   -- So many statements were passed.
   pub record Going (s : Session) (walk : Walk) (now : LinkState) (i : ℕ) : Type 0 where
@@ -98,7 +101,7 @@ module _ (s0 : Session) (p : Procedure) (start : LinkState) where
         at = λ old at.
             subst (λ (n : ℕ). IsAt s' p old (script_from (n + 1) (drop (i + 1) p.statements) last.vars last.mode) new) (sym line)
             (taken s s' walk walk' last now new i t step (Ok None) g next so goes old at);
-        same = grows.same ∙ ap (λ (b : Session). record b { ops = s'.ops }) g.same;
+        same = still_same s0 s s' g.same grows;
         few = omega (arith, grows.few, g.few);
         line = omega (arith, line, so.line, g.line);
         depth = rw passed (omega (arith, so.depth, g.depth));

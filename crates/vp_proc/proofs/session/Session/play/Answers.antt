@@ -9,7 +9,7 @@ use Rattle.vp_proc.specs.declared.session.Session.{Session}
 use Rattle.vp_proc.specs.declared.walk.Walk.{Walk}
 use Rattle.vp_proc.specs.Scripts.{script_from}
 use Rattle.vp_proc.specs.Stepping.{GoesOn}
-use Rattle.vp_proc.proofs.Playing.{Goes, begins, first_small, goes_on, past, some_statement, stops, taken}
+use Rattle.vp_proc.proofs.Playing.{Goes, begins, first_small, goes_on, past, some_statement, still_same, stops, taken}
 use Rattle.vp_proc.proofs.Sessions.{ran_out}
 use Rattle.vp_proc.proofs.session.Session.play.Goals as goal
 
@@ -117,3 +117,15 @@ returns-clause-finishes g c old at =
     c.stop.ensures.finishes c.args.procedure.now old
     (stops c.args.self.now c.args.procedure.now (g.L.Link.state c.args.link.now) c.loop-statement.self c.loop-statement.walk (g.L.Link.state c.loop-statement.link) c.loop-statement.statement-index c.as_slice-statement-items.result.now
     c.as_slice-statement-items.ensures c.loop-statement-test.false c.loop-statement.invariant old at)
+
+pub returns-in_err-step-clause-same : goal.returns-in_err-step-clause-same
+returns-in_err-step-clause-same g c = c.loop-statement.invariant.same
+
+pub returns-in_err-end-clause-same : goal.returns-in_err-end-clause-same
+returns-in_err-end-clause-same g c = still_same c.args.self.now c.loop-statement.self c.take.new.self c.loop-statement.invariant.same c.in_err-end.ensures.grows
+
+pub returns-in-Some-clause-same : goal.returns-in-Some-clause-same
+returns-in-Some-clause-same g c = still_same c.args.self.now c.loop-statement.self c.take.new.self c.loop-statement.invariant.same c.in_ok-end.ensures.grows
+
+pub returns-clause-same : goal.returns-clause-same
+returns-clause-same g c = c.loop-statement.invariant.same
