@@ -267,7 +267,7 @@ impl Catalog {
         ensures { IfOk result (λ same. same ≡ has_holders self.now rec table.now) }
     {
         match self.placed(rec) {
-            None => Ok(false),
+            None => Ok(table.as_slice().is_empty()),
             Some(placed) => placed.has_holders(table),
         }
     }

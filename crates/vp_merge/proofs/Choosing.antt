@@ -12,7 +12,6 @@ use Rattle.vp_fitting.specs.Asked.{Due}
 use Rattle.vp_fitting.specs.Merged.{Choice, Track as Left, choose_due, first_of, first_track, with_track}
 use Rattle.vp_merge.specs.Dues.{due_of}
 use Rattle.vp_merge.specs.Merging.{choice_at, left_of}
-use Rattle.vp_merge.specs.SentFrames.{bytes_in}
 use Rattle.vp_merge.specs.Tracks.{can_go, is_ready_by, track_of}
 use Rattle.vp_merge.specs.declared.numbers.FrameNumbers.{FrameNumbers}
 use Rattle.vp_merge.specs.declared.track.NextTurn.{NextTurn}
@@ -108,7 +107,7 @@ module _ (numbers : FrameNumbers) (passes : ℕ → Due → Bool) (left : ℕ �
   -- the track is that of its site, and its next turn passes where it can be done
   pub record Agrees (t : Track) : Type 0 where
     pub left_is : left t.site ≡ track_of t
-    pub passes_is : (n : NextTurn) → t.next ≡ Some n → passes t.site (due_of n.due) ≡ is_ready_by numbers t.site (bytes_in n.frame) n.asked
+    pub passes_is : (n : NextTurn) → t.next ≡ Some n → passes t.site (due_of n.due) ≡ is_ready_by numbers t.site n.place n.asked
 
   pub record Picked (ts : List Track) (i : ℕ) : Type 0 where
     pub track : Track
@@ -121,7 +120,7 @@ module _ (numbers : FrameNumbers) (passes : ℕ → Due → Bool) (left : ℕ �
   goes t e = by t.next refl
     where
       by : (o : Option NextTurn) → t.next ≡ o → (n : NextTurn) × (t.next ≡ Some n)
-      by None p = absurd (false≢true (sym (ap (λ (o : Option NextTurn). option_map_or (λ (n : NextTurn). is_ready_by numbers t.site (bytes_in n.frame) n.asked) o false) p) ∙ e))
+      by None p = absurd (false≢true (sym (ap (λ (o : Option NextTurn). option_map_or (λ (n : NextTurn). is_ready_by numbers t.site n.place n.asked) o false) p) ∙ e))
       by (Some n) p = (n, p)
 
   -- the site of the first one, whose turn passes or not

@@ -1,13 +1,17 @@
 -- The entry of a frame after one was put in, or written.
 use Rattle.std.proofs.Common.{◌≡◌, ◌∙◌, ap, sym, subst, Bool, true, false, cond, ℕ, List, [], ◌∷◌, Some, None, refl}
-use Rattle.std.specs.Prelude.{Option, option_map, is_some, not}
+use Rattle.std.specs.Prelude.{Option, option_and_then, option_map, is_some, not, position, slice_get, IfSome}
 use Rattle.std.specs.Str.{bytes_eq}
-use Rattle.std.specs.Map.{lookup, set_value}
+use Rattle.std.specs.Map.{keys_of, lookup, set_value, values_of}
+use Rattle.std.proofs.lemmas.Map.{keys-set_value}
 use Rattle.std.proofs.lemmas.Bool.{false≢true}
 use Rattle.std.proofs.lemmas.Slice.Eq.{bytes_eq-Decides}
 use Rattle.std.specs.Option.{option_or}
 use Rattle.std.specs.declared.vec.Vec.{Vec}
 use Rattle.indexmap.specs.IndexMap.{insert_entry}
+use Rattle.indexmap.proofs.MapLemmas.{value_index, some_index}
+use Rattle.vp_merge.specs.Numbers.{entry_of, number_at, number_in, place_of, HaveSame, HasFrame}
+use Rattle.vp_merge.specs.declared.numbers.FrameNumbers.{FrameNumbers}
 
 pub same : (xs ys : List ℕ) → bytes_eq xs ys ≡ true → xs ≡ ys
 same xs ys e = (bytes_eq-Decides xs ys).0 e
@@ -98,6 +102,31 @@ module _ {A : Type 0} (old new : List (Vec ℕ A × Option ℕ)) (bytes frame : 
           let there : entry old ≡ Some was = subst (λ text. lookup (λ (k : Vec ℕ A). bytes_eq text k.items) old ≡ Some was) (same frame bytes p) (sym found) in
           rw (there, is) refl
       by false p = refl
+
+  -- a number that is written leaves each frame at its place
+  pub kept_place : (w : Option ℕ) → new ≡ set_value (λ (k : Vec ℕ A). bytes_eq frame k.items) old w
+      → position (λ (k : Vec ℕ A). bytes_eq bytes k.items) (keys_of new) ≡ position (λ (k : Vec ℕ A). bytes_eq bytes k.items) (keys_of old)
+  kept_place w e = ap (position (λ (k : Vec ℕ A). bytes_eq bytes k.items)) (ap keys_of e ∙ keys-set_value (λ (k : Vec ℕ A). bytes_eq frame k.items) old w)
+
+-- ---- places
+
+module _ {K X : Type 0} (test : K → Bool) (es : List (K × Option X)) where
+  at_place : (o : Option ℕ) → position test (keys_of es) ≡ o
+      → option_and_then (λ (i : ℕ). option_and_then (λ (x : Option X). x) (slice_get (values_of es) i)) o ≡ option_and_then (λ (x : Option X). x) (lookup test es)
+  at_place None e = none (lookup test es) (sym (some_index test es) ∙ ap is_some e)
+    where
+      none : (found : Option (Option X)) → is_some found ≡ false → None ≡ option_and_then (λ (x : Option X). x) found
+      none None e = refl
+      none (Some x) e = absurd (false≢true (sym e))
+  at_place (Some i) e = ap (option_and_then (λ (x : Option X). x)) (subst (λ (o : Option ℕ). IfSome o (λ i. slice_get (values_of es) i ≡ lookup test es)) e (value_index test es))
+
+-- the number at the place of a frame is the frame's
+pub number_there : (n : FrameNumbers) (bytes : List ℕ) → number_at n (place_of n bytes) ≡ number_in n bytes
+number_there n bytes = at_place _ n.numbers.entries (place_of n bytes) refl
+
+-- where each frame has kept its place, none has gone
+pub same_there : (old new : FrameNumbers) → HaveSame old new → (bytes : List ℕ) → HasFrame old bytes → HasFrame new bytes
+same_there old new same bytes there = sym (some_index _ new.numbers.entries) ∙ ap is_some (same bytes) ∙ some_index _ old.numbers.entries ∙ there
 
 -- where there was none, the new one stays; where there was one, it does
 pub first_now : (was : Option ℕ) (number : ℕ) (none : Bool) → is_some was ≡ not none → none ≡ true → Some number ≡ option_or was (Some number)

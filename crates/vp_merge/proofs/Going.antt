@@ -22,7 +22,6 @@ use Rattle.vp_merge.specs.Dues.{due_of, dues_left}
 use Rattle.vp_merge.specs.Lives.{Lives, StartsLives, Takes, TakesEvent}
 use Rattle.vp_merge.specs.Merging.{AreThere, IsMerging, TakesTurn, choice_at, left_of, state_of}
 use Rattle.vp_merge.specs.Numbers.{HasTurn, IsIndex, as_sent}
-use Rattle.vp_merge.specs.SentFrames.{bytes_in}
 use Rattle.vp_merge.specs.Played.{IsPlayed, IsPut, done_at}
 use Rattle.vp_merge.specs.Telling.{bytes_of}
 use Rattle.vp_merge.specs.Tracks.{IsNext, IsTrack, can_go, dues_with, is_ready_by, own_event, track_of}
@@ -33,6 +32,7 @@ use Rattle.vp_merge.specs.declared.numbers.FrameNumbers.{FrameNumbers}
 use Rattle.vp_merge.specs.declared.played.Played.{Played}
 use Rattle.vp_merge.specs.declared.track.NextTurn.{NextTurn}
 use Rattle.vp_merge.specs.declared.track.Track.{Track}
+use Rattle.vp_merge.proofs.Entries.{same_there}
 use Rattle.vp_merge.proofs.OwnEvents.{same_ready, same_events, event_is_put}
 use Rattle.vp_merge.proofs.Choosing.{sites_in, left_fits, left_set, set_sites, all_set, all_there, there_site, Agrees, Picked, picks, none_goes}
 
@@ -57,8 +57,8 @@ module _ (recordings : List Recording) (m : Merging) (h : IsMerging m.played.wor
   pub apart : AreApart (sites_in tracks)
   apart = subst AreApart (sym h.sites) (catalogue_apart catalogue h.played.catalogue_is.so_far)
 
-  next_is : (t : Track) (n : NextTurn) → t.next ≡ Some n → IsTrack t → IsNext t.site n
-  next_is t n is it = subst (λ (o : Option NextTurn). IfSome o (IsNext t.site)) is it
+  next_is : (t : Track) (n : NextTurn) → t.next ≡ Some n → IsTrack m.numbers t → IsNext m.numbers t.site n
+  next_is t n is it = subst (λ (o : Option NextTurn). IfSome o (IsNext m.numbers t.site)) is it
 
   frame_there : (t : Track) (n : NextTurn) → t.next ≡ Some n → AreThere m.numbers t → HasTurn m.numbers n.due.turn.now.frame
   frame_there t n is there = (subst (λ (o : Option NextTurn). AllByRecursion (λ (d : Due). HasTurn m.numbers d.turn.frame) (dues_with o (dues_left t.rest))) is there).0
@@ -66,13 +66,13 @@ module _ (recordings : List Recording) (m : Merging) (h : IsMerging m.played.wor
   rest_there : (t : Track) (n : NextTurn) → t.next ≡ Some n → AreThere m.numbers t → AllByRecursion (λ (d : Due). HasTurn m.numbers d.turn.frame) (dues_left t.rest)
   rest_there t n is there = (subst (λ (o : Option NextTurn). AllByRecursion (λ (d : Due). HasTurn m.numbers d.turn.frame) (dues_with o (dues_left t.rest))) is there).1
 
-  passed : (t : Track) (n : NextTurn) → t.next ≡ Some n → IsTrack t → AreThere m.numbers t → passes t.site (due_of n.due) ≡ is_ready_by m.numbers t.site (bytes_in n.frame) n.asked
+  passed : (t : Track) (n : NextTurn) → t.next ≡ Some n → IsTrack m.numbers t → AreThere m.numbers t → passes t.site (due_of n.due) ≡ is_ready_by m.numbers t.site n.place n.asked
   passed t n is it there =
       let next = next_is t n is it in
       ap (is_ready m.played.world.world.sent t.site) (sym next.asked)
-      ∙ sym (same_ready m.numbers m.played.world.world.sent h.index t.site (bytes_in n.frame) n.due.turn.now.frame next.frame (frame_there t n is there) n.asked (sym next.asked))
+      ∙ sym (same_ready m.numbers m.played.world.world.sent h.index t.site n.place n.due.turn.now.frame next.place (frame_there t n is there) n.asked (sym next.asked))
 
-  agree : (ts : List Track) → AllByRecursion (λ (t : Track). left_of recordings tracks t.site ≡ track_of t) ts → AllByRecursion IsTrack ts → AllByRecursion (AreThere m.numbers) ts
+  agree : (ts : List Track) → AllByRecursion (λ (t : Track). left_of recordings tracks t.site ≡ track_of t) ts → AllByRecursion (IsTrack m.numbers) ts → AllByRecursion (AreThere m.numbers) ts
       → AllByRecursion (Agrees m.numbers passes (left_of recordings tracks)) ts
   agree [] a b d = tt
   agree (t ∷ ts) a b d = (record { left_is = a.0; passes_is = λ n is. passed t n is b.0 d.0 }, agree ts a.1 b.1 d.1)
@@ -134,28 +134,28 @@ module _ (recordings : List Recording) (m : Merging) (h : IsMerging m.played.wor
           ready_is ∙ p.choice ∙ ap choice_at (sym same)
           ∙ ap (option_map (λ (n : NextTurn). let c : Choice = record { site = t.site; due = due_of n.due; rest = dues_left t.rest } in c)) n_is
 
-      is_next : IsNext t.site n
-      is_next = next_is t n n_is (all_there IsTrack tracks place t h.tracks_are there)
+      is_next : IsNext m.numbers t.site n
+      is_next = next_is t n n_is (all_there (IsTrack m.numbers) tracks place t h.tracks_are there)
 
       its_frame : HasTurn m.numbers n.due.turn.now.frame
       its_frame = frame_there t n n_is (all_there (AreThere m.numbers) tracks place t h.there there)
 
       -- its event is one of a schedule
-      pub event_put : IfSome (own_event m.numbers t.site (bytes_in n.frame) n.asked) (IsPut (sites_of catalogue))
-      event_put = event_is_put m.numbers m.played.world.world.sent h.index t.site (bytes_in n.frame) n.due.turn.now.frame is_next.frame its_frame (sites_of catalogue) site_listed h.played.few_sent n.asked (sym is_next.asked) is_next.form
+      pub event_put : IfSome (own_event m.numbers t.site n.place n.asked) (IsPut (sites_of catalogue))
+      event_put = event_is_put m.numbers m.played.world.world.sent h.index t.site n.place n.due.turn.now.frame is_next.place its_frame (sites_of catalogue) site_listed h.played.few_sent n.asked (sym is_next.asked) is_next.form
 
       life_is : (left_of recordings tracks t.site).life ≡ t.life
       life_is = ap (λ (left : Left). left.life) (all_there (λ (t : Track). left_of recordings tracks t.site ≡ track_of t) tracks place t (left_fits recordings tracks apart) there)
 
       pub own : List Event
-      own = events_in (own_event m.numbers t.site (bytes_in n.frame) n.asked)
+      own = events_in (own_event m.numbers t.site n.place n.asked)
 
       turn_is : turn_done world_limits catalogue state c ≡ done_from world_limits catalogue t.site (restarts_then t.site (n.due.life - t.life) own) (done_at m.played [])
       unfolding own
       turn_is =
           ap (λ life. done_from world_limits catalogue t.site (restarts_then t.site (n.due.life - life) (own_events m.played.world.world.sent t.site (asks t.site n.due.turn.now.frame))) (done_at m.played [])) life_is
           ∙ ap (λ (events : List Event). done_from world_limits catalogue t.site (restarts_then t.site (n.due.life - t.life) events) (done_at m.played []))
-          (ap (own_events m.played.world.world.sent t.site) (sym is_next.asked) ∙ sym (same_events m.numbers m.played.world.world.sent h.index t.site (bytes_in n.frame) n.due.turn.now.frame is_next.frame its_frame n.asked (sym is_next.asked)))
+          (ap (own_events m.played.world.world.sent t.site) (sym is_next.asked) ∙ sym (same_events m.numbers m.played.world.world.sent h.index t.site n.place n.due.turn.now.frame is_next.place its_frame n.asked (sym is_next.asked)))
 
       goes_on : (turns : ℕ) → merged_from (turns + 1) world_limits catalogue state ≡ gone_on (merged_from turns world_limits catalogue) state c (turn_done world_limits catalogue state c)
       unfolding merged_from
@@ -175,7 +175,7 @@ module _ (recordings : List Recording) (m : Merging) (h : IsMerging m.played.wor
 
       -- the event was not done
       pub event_ends : (mid : Played) (after : FrameNumbers) → Lives t.site (n.due.life - t.life) m.played mid → (fault : MergeFault)
-          → TakesEvent t.site (own_event m.numbers t.site (bytes_in n.frame) n.asked) n.due.short (bytes_of n.due.turn.now.outs) mid (Err fault) m.numbers after → TakesTurn catalogue recordings m (Err fault)
+          → TakesEvent t.site (own_event m.numbers t.site n.place n.asked) n.due.short (bytes_of n.due.turn.now.outs) mid (Err fault) m.numbers after → TakesTurn catalogue recordings m (Err fault)
       unfolding own
       event_ends mid after lives (faults.Limit what limit) e =
           (λ turns. too_long what (lives.on own [] ∙ subst (λ (k : Catalogue). done_from world_limits k t.site own (done_at mid []) ≡ Err what) lives.catalogue e.0) turns, e.1)
@@ -185,7 +185,7 @@ module _ (recordings : List Recording) (m : Merging) (h : IsMerging m.played.wor
 
       -- the lives were begun, and the event was done
       module _ (mid new : Played) (told : Bool) (after : FrameNumbers) (lives : Lives t.site (n.due.life - t.life) m.played mid)
-          (takes : Takes t.site (own_event m.numbers t.site (bytes_in n.frame) n.asked) n.due.short (bytes_of n.due.turn.now.outs) mid new told m.numbers after) where
+          (takes : Takes t.site (own_event m.numbers t.site n.place n.asked) n.due.short (bytes_of n.due.turn.now.outs) mid new told m.numbers after) where
         done_is : turn_done world_limits catalogue state c ≡ Ok (done_at new takes.made)
         unfolding own
         done_is = turn_is ∙ lives.on own [] ∙ subst (λ (k : Catalogue). done_from world_limits k t.site own (done_at mid []) ≡ Ok (done_at new takes.made)) lives.catalogue takes.on
@@ -199,7 +199,7 @@ module _ (recordings : List Recording) (m : Merging) (h : IsMerging m.played.wor
             ∙ ap (λ b. cond b (merged_from turns world_limits catalogue (taken_by state c (done_at new takes.made))) (Merge.unlike t.site n.due.number)) (told_is ∙ e)
 
         -- the merge goes on
-        module _ (next : Track) (yes : (is_own n.asked && told) ≡ true) (site : next.site ≡ t.site) (left : track_of next ≡ record { life = n.due.life; dues = dues_left t.rest }) (is : IsTrack next) (now : Merging)
+        module _ (next : Track) (yes : (is_own n.asked && told) ≡ true) (site : next.site ≡ t.site) (left : track_of next ≡ record { life = n.due.life; dues = dues_left t.rest }) (is : IsTrack after next) (now : Merging)
             (played_is : now.played ≡ new) (tracks_are : now.tracks.items ≡ set tracks place next) (numbers_are : now.numbers ≡ after) where
           abbrev after_turn : MergingState
           after_turn = record { world = new.world.world; events = new.events; left = with_track t.site (record { life = n.due.life; dues = dues_left t.rest }) (left_of recordings tracks) }
@@ -215,13 +215,17 @@ module _ (recordings : List Recording) (m : Merging) (h : IsMerging m.played.wor
               (ap (λ (x : Played). x.world.world) (sym played_is)) (ap (λ (x : Played). x.events) (sym played_is)) (left_now ∙ ap (left_of recordings) (sym tracks_are))
 
           frames_kept : (x : Track) → AreThere m.numbers x → AreThere after x
-          frames_kept x = all_each (λ (d : Due). HasTurn m.numbers d.turn.frame) (λ (d : Due). HasTurn after d.turn.frame) (λ d there. takes.same (as_sent d.turn.frame) ∙ there) (track_of x).dues
+          frames_kept x = all_each (λ (d : Due). HasTurn m.numbers d.turn.frame) (λ (d : Due). HasTurn after d.turn.frame) (λ d. same_there m.numbers after takes.same (as_sent d.turn.frame)) (track_of x).dues
 
           next_there : AreThere after next
           next_there =
               subst (λ (left : Left). AllByRecursion (λ (d : Due). HasTurn after d.turn.frame) left.dues) (sym left)
-              (all_each (λ (d : Due). HasTurn m.numbers d.turn.frame) (λ (d : Due). HasTurn after d.turn.frame) (λ d there. takes.same (as_sent d.turn.frame) ∙ there) (dues_left t.rest)
+              (all_each (λ (d : Due). HasTurn m.numbers d.turn.frame) (λ (d : Due). HasTurn after d.turn.frame) (λ d. same_there m.numbers after takes.same (as_sent d.turn.frame)) (dues_left t.rest)
               (rest_there t n n_is (all_there (AreThere m.numbers) tracks place t h.there there)))
+
+          next_kept : (site : ℕ) (o : Option NextTurn) → IfSome o (IsNext m.numbers site) → IfSome o (IsNext after site)
+          next_kept site None it = tt
+          next_kept site (Some n) it = record { place = it.place ∙ sym (takes.same (as_sent n.due.turn.now.frame)); asked = it.asked; form = it.form }
 
           merging_now : IsMerging catalogue now
           merging_now =
@@ -229,7 +233,10 @@ module _ (recordings : List Recording) (m : Merging) (h : IsMerging m.played.wor
                 played = subst IsPlayed (sym played_is) takes.played;
                 catalogue_is = ap (λ (x : Played). x.world.catalogue) played_is ∙ takes.catalogue ∙ lives.catalogue;
                 sites = ap sites_in tracks_are ∙ set_sites tracks place t next there (sym site) ∙ h.sites;
-                tracks_are = subst (AllByRecursion IsTrack) (sym tracks_are) (all_set IsTrack tracks place next h.tracks_are is);
+                tracks_are =
+                    subst (λ (ts : List Track). AllByRecursion (IsTrack now.numbers) ts) (sym tracks_are)
+                    (subst (λ (numbers : FrameNumbers). AllByRecursion (IsTrack numbers) (set tracks place next)) (sym numbers_are)
+                    (all_set (IsTrack after) tracks place next (all_each (IsTrack m.numbers) (IsTrack after) (λ x. next_kept x.site x.next) tracks h.tracks_are) is));
                 index =
                     subst (λ (numbers : FrameNumbers). IsIndex numbers now.played.world.world.sent) (sym numbers_are)
                     (subst (λ (x : Played). IsIndex after x.world.world.sent) (sym played_is) (takes.index (subst (IsIndex m.numbers) (sym lives.sent) h.index)));

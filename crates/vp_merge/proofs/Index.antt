@@ -45,14 +45,6 @@ or_none (Some n) = refl
 -- a message was noted
 module _ (old new : FrameNumbers) (frame : List ℕ) (number : ℕ)
     (is : (bytes : List ℕ) → entry_of new bytes ≡ cond (bytes_eq frame bytes) (option_map (λ n. option_or n (Some number)) (entry_of old bytes)) (entry_of old bytes)) where
-  noted_same : HaveSame old new
-  noted_same bytes = ap is_some (is bytes) ∙ go (bytes_eq frame bytes) (entry_of old bytes)
-    where
-      go : (b : Bool) (o : Option (Option ℕ)) → is_some (cond b (option_map (λ n. option_or n (Some number)) o) o) ≡ is_some o
-      go true None = refl
-      go true (Some n) = refl
-      go false o = refl
-
   noted_index : (all : List Sent) (s : Sent) → number ≡ length all + 1 → frame ≡ frame_bytes (message_frame s) → IsIndex old all → IsIndex new (all ++ s ∷ [])
   noted_index all s n f index bytes now e = by (entry_of old bytes) refl (bytes_eq frame bytes) refl
     where
@@ -81,15 +73,15 @@ pub notes_none : (first : ℕ) (n : FrameNumbers) → Notes first [] n n
 notes_none first n = record { index = λ all e index. subst (IsIndex n) (sym (append-nil all)) index; same = λ bytes. refl }
 
 -- one message more was noted
-pub notes_more : (first : ℕ) (messages : List Sent) (old mid new : FrameNumbers) (s : Sent) (frame : List ℕ) (number : ℕ) → Notes first messages old mid
+pub notes_more : (first : ℕ) (messages : List Sent) (old mid new : FrameNumbers) (s : Sent) (frame : List ℕ) (number : ℕ) → Notes first messages old mid → HaveSame mid new
     → ((bytes : List ℕ) → entry_of new bytes ≡ cond (bytes_eq frame bytes) (option_map (λ n. option_or n (Some number)) (entry_of mid bytes)) (entry_of mid bytes))
     → number ≡ first + length messages → frame ≡ frame_bytes (message_frame s) → Notes first (messages ++ s ∷ []) old new
-notes_more first messages old mid new s frame number h is n f =
+notes_more first messages old mid new s frame number h same is n f =
     record {
       index = λ all e index.
           let count = length-append all messages in
           subst (IsIndex new) (append_assoc all messages (s ∷ [])) (noted_index mid new frame number is (all ++ messages) s (omega (arith, e, n, count)) f (h.index all e index));
-      same = λ bytes. noted_same mid new frame number is bytes ∙ h.same bytes;
+      same = λ bytes. same bytes ∙ h.same bytes;
     }
 
 -- a frame was added, before any message was sent

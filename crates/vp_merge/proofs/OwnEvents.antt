@@ -23,10 +23,11 @@ use Rattle.vp_runs.specs.declared.arrival.Arrival.TheVariants.{Bad, Stray, Stops
 use Rattle.vp_fitting.specs.Asked.{asks, asks_body, asks_of}
 use Rattle.vp_fitting.specs.Merged.{event_of, is_ready, own_events, lowest, events_in}
 use Rattle.vp_fitting.proofs.Messages.{AskedBy, asked_by}
-use Rattle.vp_merge.specs.Numbers.{sent_again, as_sent, entry_of, number_in, number_of, IsIndex, HasFrame, HasTurn}
+use Rattle.vp_merge.specs.Numbers.{sent_again, as_sent, entry_of, number_at, number_in, number_of, place_of, IsIndex, HasFrame, HasTurn}
 use Rattle.vp_merge.specs.Played.{IsPut}
 use Rattle.vp_merge.specs.Tracks.{event_by, own_event, is_ready_by}
 use Rattle.vp_merge.specs.declared.numbers.FrameNumbers.{FrameNumbers}
+use Rattle.vp_merge.proofs.Entries.{number_there}
 use Rattle.vp_merge.proofs.Index.{position-within}
 
 -- the frame of a turn that takes a message is sent as that of the message
@@ -84,31 +85,34 @@ asks_form site recorded (Bad at) e = tt
 asks_form site recorded Stray e = tt
 asks_form site recorded Stops e = tt
 
-module _ (numbers : FrameNumbers) (all : List Sent) (index : IsIndex numbers all) (site : ℕ) (frame recorded : List ℕ) (is : frame ≡ as_sent recorded) (there : HasTurn numbers recorded) where
-  number_is : number_in numbers frame ≡ number_of frame all
-  number_is = by (entry_of numbers frame) refl (subst (HasFrame numbers) (sym is) there)
+module _ (numbers : FrameNumbers) (all : List Sent) (index : IsIndex numbers all) (site : ℕ) (place : Option ℕ) (recorded : List ℕ) (is : place ≡ place_of numbers (as_sent recorded)) (there : HasTurn numbers recorded) where
+  abbrev frame : List ℕ
+  frame = as_sent recorded
+
+  number_is : number_at numbers place ≡ number_of frame all
+  number_is = ap (number_at numbers) is ∙ number_there numbers frame ∙ by (entry_of numbers frame) refl there
     where
       by : (o : Option (Option ℕ)) → entry_of numbers frame ≡ o → is_some o ≡ true → option_and_then (λ (number : Option ℕ). number) o ≡ number_of frame all
       by None e some = absurd (false≢true some)
       by (Some number) e some = index frame number e
 
-  by_asked : (given : Input) → AskedBy site recorded given → asks site recorded ≡ Gives given → event_by numbers site frame given ≡ event_of all site given
+  by_asked : (given : Input) → AskedBy site recorded given → asks site recorded ≡ Gives given → event_by numbers site place given ≡ event_of all site given
   unfolding lowest
   by_asked _ (AskedBy.called words call) e = refl
-  by_asked _ (AskedBy.sent from m form) e = ap (option_map event.Deliver) (number_is ∙ ap (λ bytes. number_of bytes all) (is ∙ asked_frame site recorded from m e))
+  by_asked _ (AskedBy.sent from m form) e = ap (option_map event.Deliver) (number_is ∙ ap (λ bytes. number_of bytes all) (asked_frame site recorded from m e))
   by_asked _ AskedBy.ticked e = refl
   by_asked _ AskedBy.probed e = refl
 
-  same_event : (given : Input) → asks site recorded ≡ Gives given → event_by numbers site frame given ≡ event_of all site given
+  same_event : (given : Input) → asks site recorded ≡ Gives given → event_by numbers site place given ≡ event_of all site given
   same_event given e = by_asked given (asked_by site recorded given e) e
 
-  pub same_ready : (a : Arrival) → asks site recorded ≡ a → is_ready_by numbers site frame a ≡ is_ready all site a
+  pub same_ready : (a : Arrival) → asks site recorded ≡ a → is_ready_by numbers site place a ≡ is_ready all site a
   same_ready (Gives given) e = ap is_some (same_event given e)
   same_ready (Bad at) e = refl
   same_ready Stray e = refl
   same_ready Stops e = refl
 
-  pub same_events : (a : Arrival) → asks site recorded ≡ a → events_in (own_event numbers site frame a) ≡ own_events all site a
+  pub same_events : (a : Arrival) → asks site recorded ≡ a → events_in (own_event numbers site place a) ≡ own_events all site a
   same_events (Gives given) e = ap events_in (same_event given e)
   same_events (Bad at) e = refl
   same_events Stray e = refl
@@ -120,7 +124,7 @@ module _ (numbers : FrameNumbers) (all : List Sent) (index : IsIndex numbers all
     delivered None e = tt
     delivered (Some k) e = let w = position-within _ all 1 k e in (tt, (omega (arith, w.0), omega (arith, w.1, few)))
 
-    pub event_is_put : (a : Arrival) → asks site recorded ≡ a → IsArrival a → IfSome (own_event numbers site frame a) (IsPut sites)
+    pub event_is_put : (a : Arrival) → asks site recorded ≡ a → IsArrival a → IfSome (own_event numbers site place a) (IsPut sites)
     event_is_put (Gives (input.Call port words)) e form = (tt, (known, form.1))
     event_is_put (Gives (input.Message from message)) e form = subst (λ (o : Option ℕ). IfSome (option_map event.Deliver o) (IsPut sites)) (sym number_is) (delivered (number_of frame all) refl)
     event_is_put (Gives input.Tick) e form = (tt, known)

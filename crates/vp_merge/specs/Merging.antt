@@ -40,7 +40,7 @@ pub record IsMerging (catalogue : Catalogue) (m : Merging) : Type 0 where
   pub played : IsPlayed m.played
   pub catalogue_is : m.played.world.catalogue ≡ catalogue
   pub sites : map (λ (t : Track). t.site) m.tracks.items ≡ sites_of catalogue
-  pub tracks_are : AllByRecursion IsTrack m.tracks.items
+  pub tracks_are : AllByRecursion (IsTrack m.numbers) m.tracks.items
   pub index : IsIndex m.numbers m.played.world.world.sent
   pub there : AllByRecursion (AreThere m.numbers) m.tracks.items
 

@@ -65,14 +65,15 @@ fn tracks_of<'a>(
     alloc: Global,
     catalog: &Catalog,
     recordings: &'a [Recording],
+    numbers: &FrameNumbers,
 ) -> Result<Vec<Track<'a>>, NoMemory>
     ensures sites { IfOk result (λ ts. map (λ t. t.site) ts.items ≡ sites_of catalog.now) }
     ensures left { IfOk result (λ ts. AllByRecursion (λ t. track_of t ≡ first_track recordings.now t.site) ts.items) }
-    ensures are { IfOk result (λ ts. AllByRecursion IsTrack ts.items) }
+    ensures are { IfOk result (λ ts. AllByRecursion (IsTrack numbers.now) ts.items) }
 {
     let mut tracks = Vec::new(alloc);
     for site in catalog.sites().as_slice() {
-        tracks.push(Track::start(alloc, *site, recordings)?)?;
+        tracks.push(Track::start(alloc, *site, recordings, numbers)?)?;
     }
     Ok(tracks)
 }
@@ -85,10 +86,11 @@ impl<'a> Merging<'a> {
         ensures state { IfOk result (λ m. state_of recordings.now m ≡ at_first catalog.now recordings.now) }
     {
         let alloc = catalog.sites().allocator();
+        let numbers = frames_of(alloc, recordings)?;
         Ok(Merging {
             played: Played::start(catalog)?,
-            tracks: tracks_of(alloc, catalog, recordings)?,
-            numbers: frames_of(alloc, recordings)?,
+            tracks: tracks_of(alloc, catalog, recordings, &numbers)?,
+            numbers,
             room: BytesMut::with_capacity(alloc, ROOM)?,
         })
     }
@@ -153,7 +155,7 @@ impl<'a> Merging<'a> {
                 turn: due.number,
             });
         }
-        track.advance(alloc, due.life)?;
+        track.advance(alloc, due.life, &numbers)?;
         Ok(Merging {
             played,
             tracks,

@@ -3,7 +3,7 @@
 ghost use Rattle.std.specs.Prelude.{◌≡◌, ℕ, List, OnOk, None, Some, if◌then◌else◌, option_and_then, option_map};
 ghost use Rattle.std.specs.Option.{option_or};
 ghost use Rattle.std.specs.Str.{bytes_eq};
-ghost use Rattle.vp_merge.specs.Numbers.{entry_of, number_in};
+ghost use Rattle.vp_merge.specs.Numbers.{entry_of, number_at, place_of, HaveSame};
 
 use indexmap::IndexMap;
 use std::alloc::Global;
@@ -35,19 +35,25 @@ impl FrameNumbers {
         Ok(())
     }
 
-    /// The lowest number under which a message of these bytes was sent.
-    pub fn number(&self, frame: &[u8]) -> Option<u32>
-        ensures { result ≡ number_in self.now frame.now }
+    /// The place of a frame, which it keeps; none where it is not there.
+    pub fn place(&self, frame: &[u8]) -> Option<usize>
+        ensures { result ≡ place_of self.now frame.now }
     {
-        match self.numbers.get(frame) {
-            Some(number) => *number,
-            None => None,
-        }
+        self.numbers.get_index_of(frame)
+    }
+
+    /// The lowest number under which a message of the bytes at this place was sent.
+    pub fn number(&self, place: Option<usize>) -> Option<u32>
+        ensures { result ≡ number_at self.now place }
+    {
+        let (_, number) = self.numbers.get_index(place?)?;
+        *number
     }
 
     /// Notes that a message of these bytes was sent under the number, if a turn takes such a message. The first number stays.
     pub fn note(&mut self, frame: &[u8], number: u32)
-        ensures { (bytes : List ℕ) → entry_of self.new bytes
+        ensures same { HaveSame self.old self.new }
+        ensures noted { (bytes : List ℕ) → entry_of self.new bytes
             ≡ (if bytes_eq frame.now bytes
             then option_map (λ n. option_or n (Some number)) (entry_of self.old bytes)
             else entry_of self.old bytes) }

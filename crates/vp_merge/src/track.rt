@@ -3,7 +3,6 @@
 ghost use Rattle.std.specs.Prelude.{◌≡◌, ◌&&◌, ℕ, IfOk, OnOk};
 ghost use Rattle.vp_fitting.specs.Merged.{first_track, is_own};
 ghost use Rattle.vp_merge.specs.Dues.{dues_left};
-ghost use Rattle.vp_merge.specs.SentFrames.{bytes_in};
 ghost use Rattle.vp_merge.specs.Tracks.{IsTrack, TakesNext, can_go, is_ready_by, own_event, track_of};
 
 use crate::asking::asked;
@@ -15,11 +14,11 @@ use vp_base::{CopyOf, Event, Input, NoMemory, SiteId};
 use vp_recording::Recording;
 use vp_runs::Arrival;
 
-/// The next turn of a site, with its frame as it is sent, and what that asks.
+/// The next turn of a site, with the place of its frame in the numbers, and what that asks.
 #[derive(Drop)]
 pub struct NextTurn<'a> {
     pub due: Due<'a>,
-    pub frame: SentFrame<'a>,
+    pub place: Option<usize>,
     pub asked: Arrival,
 }
 
@@ -34,31 +33,33 @@ pub struct Track<'a> {
     pub rest: Dues<'a>,
 }
 
-/// Takes the next of the turns, and says what its frame asks.
+/// Takes the next of the turns, finds its frame in the numbers, and says what it asks.
 fn take_next<'a>(
     alloc: Global,
     site: SiteId,
     rest: &mut Dues<'a>,
+    numbers: &FrameNumbers,
 ) -> Result<Option<NextTurn<'a>>, NoMemory>
-    ensures { TakesNext site result (dues_left rest.old) (dues_left rest.new) }
+    ensures { TakesNext numbers.now site result (dues_left rest.old) (dues_left rest.new) }
 {
     let Some(due) = rest.next()? else {
         return Ok(None);
     };
     let recorded = due.turn.frame.as_slice();
     let frame = SentFrame::of(alloc, recorded)?;
+    let place = numbers.place(frame.as_slice());
     let asked = asked(alloc, site, recorded)?;
-    Ok(Some(NextTurn { due, frame, asked }))
+    Ok(Some(NextTurn { due, place, asked }))
 }
 
 impl<'a> NextTurn<'a> {
     /// Whether the turn can be done: its frame is no message to the site that no step has sent.
     pub fn is_ready(&self, numbers: &FrameNumbers) -> bool
-        ensures { (site : ℕ) → result ≡ is_ready_by numbers.now site (bytes_in self.now.frame) self.now.asked }
+        ensures { (site : ℕ) → result ≡ is_ready_by numbers.now site self.now.place self.now.asked }
     {
         match &self.asked {
             Arrival::Gives { input } => match input {
-                Input::Message { .. } => numbers.number(self.frame.as_slice()).is_some(),
+                Input::Message { .. } => numbers.number(self.place).is_some(),
                 Input::Call { .. } | Input::Tick | Input::Probe => true,
             },
             Arrival::Bad { .. } | Arrival::Stray | Arrival::Stops => true,
@@ -67,7 +68,7 @@ impl<'a> NextTurn<'a> {
 
     /// The event by which the input of the turn comes to the site. A frame that is no input has none.
     pub fn event(&self, site: SiteId, numbers: &FrameNumbers) -> Result<Option<Event>, NoMemory>
-        ensures { IfOk result (λ event. event ≡ own_event numbers.now site (bytes_in self.now.frame) self.now.asked) }
+        ensures { IfOk result (λ event. event ≡ own_event numbers.now site self.now.place self.now.asked) }
     {
         let Arrival::Gives { input } = &self.asked else {
             return Ok(None);
@@ -78,7 +79,7 @@ impl<'a> NextTurn<'a> {
                 call: call.copy_of()?,
             })),
             Input::Message { .. } => {
-                let number = numbers.number(self.frame.as_slice());
+                let number = numbers.number(self.place);
                 Ok(number.map(|k| Event::Deliver { k }))
             }
             Input::Tick => Ok(Some(Event::Tick { site })),
@@ -103,13 +104,14 @@ impl<'a> Track<'a> {
         alloc: Global,
         site: SiteId,
         recordings: &'a [Recording],
+        numbers: &FrameNumbers,
     ) -> Result<Track<'a>, NoMemory>
         ensures site { IfOk result (λ t. t.site ≡ site) }
         ensures left { IfOk result (λ t. track_of t ≡ first_track recordings.now site) }
-        ensures is { IfOk result IsTrack }
+        ensures is { IfOk result (IsTrack numbers.now) }
     {
         let mut rest = Dues::new(site, recordings);
-        let next = take_next(alloc, site, &mut rest)?;
+        let next = take_next(alloc, site, &mut rest, numbers)?;
         Ok(Track {
             site,
             life: 1,
@@ -129,13 +131,18 @@ impl<'a> Track<'a> {
     }
 
     /// Goes on to the turn after the one that was taken, in its life.
-    pub fn advance(&mut self, alloc: Global, life: u32) -> Result<(), NoMemory>
+    pub fn advance(
+        &mut self,
+        alloc: Global,
+        life: u32,
+        numbers: &FrameNumbers,
+    ) -> Result<(), NoMemory>
         ensures site { self.new.site ≡ self.old.site }
         ensures left { OnOk result (track_of self.new ≡ record { life = life; dues = dues_left self.old.rest }) }
-        ensures is { OnOk result (IsTrack self.new) }
+        ensures is { OnOk result (IsTrack numbers.now self.new) }
     {
         self.life = life;
-        self.next = take_next(alloc, self.site, &mut self.rest)?;
+        self.next = take_next(alloc, self.site, &mut self.rest, numbers)?;
         Ok(())
     }
 }

@@ -3,3 +3,5 @@ pub mod Evaluations
 pub mod Told
 pub mod Sessions
 pub mod Walked
+pub mod Playing
+pub mod Begun

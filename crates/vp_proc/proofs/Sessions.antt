@@ -17,7 +17,8 @@ use Rattle.vp_proc.specs.declared.ended.End.TheVariants as ends
 use Rattle.vp_proc.specs.declared.session.Session.{Session}
 use Rattle.vp_proc.specs.declared.walk.Mode.{Mode}
 use Rattle.vp_proc.specs.Scripts.{Script, Variables, number_in, script_from, with_variable}
-use Rattle.vp_proc.specs.Walking.{after_read}
+use Rattle.vp_proc.specs.declared.walk.Step.{Step}
+use Rattle.vp_proc.specs.Walking.{IsFailure, after_read, comes_to}
 use Rattle.vp_proc.specs.Telling.{content_in, is_written, is_committed, is_end, told}
 use Rattle.vp_proc.specs.Ran.{HasTold, WasRefused, IsDue, AsksAbort, HasAborted, HasBroken, HasRunOut, Ends, Breaks, IsWanted}
 use Rattle.vp_proc.specs.Stepping.{IsAt, IsRefused, IsToAbort, Aborts, Finishes, GoesOn}
@@ -26,6 +27,19 @@ use Rattle.vp_proc.proofs.Told.{told_more}
 -- one operation more
 abbrev pub grown : Session → Op → Session
 grown s operation = record s { ops = s.ops ++ operation ∷ [] }
+
+-- ---- what was asked
+
+pub asks_read : (s : Session) (name : List ℕ) (number : ℕ) (now new : LinkState) (answered : Result Answer AskFault) → number ≡ length s.ops + 1 → Asks s.port s.site (call.Read s.txn number name) s.turns now new answered
+    → Asks s.port s.site (call.Read s.txn (length s.ops + 1) name) s.turns now new answered
+asks_read s name number now new answered is h = subst (λ (n : ℕ). Asks s.port s.site (call.Read s.txn n name) s.turns now new answered) is h
+
+-- what is sent is a copy of the value
+pub asks_write : (s : Session) (name value sent : List ℕ) (number : ℕ) (now new : LinkState) (answered : Result Answer AskFault) → number ≡ length s.ops + 1 → sent ≡ value
+    → Asks s.port s.site (call.Write s.txn number name sent) s.turns now new answered → Asks s.port s.site (call.Write s.txn (length s.ops + 1) name value) s.turns now new answered
+asks_write s name value sent number now new answered is same h =
+    subst (λ (v : List ℕ). Asks s.port s.site (call.Write s.txn (length s.ops + 1) name v) s.turns now new answered) same
+    (subst (λ (n : ℕ). Asks s.port s.site (call.Write s.txn n name sent) s.turns now new answered) is h)
 
 module _ (s : Session) (p : Procedure) (old : LinkState) where
   abbrev AsksFor : Call → LinkState → LinkState → Result Answer AskFault → Type 0
@@ -47,6 +61,14 @@ module _ (s : Session) (p : Procedure) (old : LinkState) where
   ends_aborted (ends.Overflow line) now new due h = h
   ends_aborted (ends.Failed code) now new due h = h
   ends_aborted (ends.Refused a) now new due h = inr (inr h)
+
+  -- the script comes to an end
+  pub stop_due : (end : End) (now : LinkState) → IsFailure end → IsAt s p old (Script.stops end) now → IsToAbort s p old end now
+  stop_due (ends.Done n) now failure at = absurd failure
+  stop_due (ends.NotNumber line) now failure at = at
+  stop_due (ends.Overflow line) now failure at = at
+  stop_due (ends.Failed code) now failure at = at
+  stop_due (ends.Refused a) now failure at = absurd failure
 
   -- memory ran out in it
   abort_lost : (end : End) (new : LinkState) → AsksAbort s.port s.site s.turns p old s.ops end new (Err faults.NoMemory) → Breaks s.port s.site s.turns p old faults.NoMemory new
@@ -79,6 +101,11 @@ module _ (s : Session) (p : Procedure) (old : LinkState) where
     commit_broken fault asks = inr (inl (record { txn = s.txn; ops = s.ops; left = Script.gives number; now = now; has_told = at; wanted = tt; asks = asks }))
 
   -- ---- between two calls
+
+  -- this is the step
+  pub at_step : (line : ℕ) (vars : Variables) (m : Mode) (rest : List Statement) (step step' : Step) (now : LinkState) → step ≡ step' → IsAt s p old (comes_to line vars m rest step) now
+      → IsAt s p old (comes_to line vars m rest step') now
+  at_step line vars m rest step step' now is at = subst (λ (t : Step). IsAt s p old (comes_to line vars m rest t) now) is at
 
   pub ran_out : (left : Script) (now : LinkState) → IsAt s p old left now → Breaks s.port s.site s.turns p old faults.NoMemory now
   ran_out left now at = inr (inr (refl, record { txn = s.txn; ops = s.ops; last = inl (left, at) }))

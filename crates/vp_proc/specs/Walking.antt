@@ -5,6 +5,7 @@ use Rattle.vp_procedure.specs.declared.procedure.Statement.{Statement}
 use Rattle.vp_base.specs.Words.{IsName, IsValue}
 use Rattle.vp_catalog.specs.Document.{IsCatalogue}
 use Rattle.vp_procedure.specs.Procedures.{IsLetter, IsStatement}
+use Rattle.vp_proc.specs.declared.ended.End.{End}
 use Rattle.vp_proc.specs.declared.ended.End.TheVariants as ends
 use Rattle.vp_proc.specs.declared.walk.Mode.{Mode}
 use Rattle.vp_proc.specs.declared.walk.Mode.TheVariants as mode
@@ -17,10 +18,17 @@ use Rattle.vp_proc.specs.Scripts.{Script, Variables, script_from, with_number, w
 abbrev pub IsSome : Statement → Type 0
 IsSome s = (catalogue : Catalogue) × IsCatalogue catalogue × IsStatement catalogue s
 
+-- It is an end without a result to which a statement comes.
+abbrev pub IsFailure : End → Type 0
+IsFailure (ends.Done number) = ⊥
+IsFailure (ends.Refused a) = ⊥
+IsFailure end = ⊤
+
 -- The letter is one, and the call of the step may be sent.
 abbrev pub IsStep : Step → Type 0
 IsStep (steps.Read var name rec) = IsLetter var × IsName name name
 IsStep (steps.Write name rec value) = IsName name name × IsValue value value
+IsStep (steps.Stop end) = IsFailure end
 IsStep step = ⊤
 
 abbrev pub depth_of : Mode → ℕ

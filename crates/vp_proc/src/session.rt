@@ -1,6 +1,6 @@
 //! The transaction of a procedure, and its calls.
 
-ghost use Rattle.std.specs.Prelude.{◌≡◌, ◌+◌, ◌<◌, ◌^◌, [], length, IsTrue, IfOk, OnErr, List, Option, Some, ℕ};
+ghost use Rattle.std.specs.Prelude.{◌≡◌, ◌+◌, ◌<◌, ◌≤◌, ◌^◌, [], length, IsTrue, IfOk, OnErr, List, Option, Some, ℕ};
 ghost use Rattle.vp_base.specs.Identifiers.{IsTxn};
 ghost use Rattle.vp_base.specs.Words.{IsName, IsValue};
 ghost use Rattle.vp_outside.specs.Links.{LinkState, StaysBound};
@@ -111,6 +111,7 @@ impl Session {
         requires procedure { IsProcedure procedure.now }
         ensures finishes { (old : LinkState) → IsAt self.old procedure.now old (script procedure.now) (L.state link.old)
             → Finishes self.new procedure.now old (L.state link.new) result }
+        ensures same { self.new ≡ record self.old { ops = self.new.ops } }
         ensures stays { StaysBound (L.state link.old) (L.state link.new) }
     {
         let mut walk = Walk::new(procedure.first);
@@ -243,7 +244,7 @@ impl Session {
     fn commit<L: Link>(&self, alloc: Global, link: &mut L, number: u64) -> Result<End, AskFault>
         requires bound { IsTrue (L.state link.old).bound }
         requires txn { IsTxn self.now.txn }
-        requires room { length self.now.ops < 2 ^ 16 }
+        requires room { length self.now.ops ≤ 2 ^ 16 }
         ensures finishes { (p : Program) (old : LinkState) → IsAt self.now p old (Script.gives number) (L.state link.old)
             → Finishes self.now p old (L.state link.new) result }
         ensures stays { StaysBound (L.state link.old) (L.state link.new) }
@@ -264,7 +265,7 @@ impl Session {
     fn refuse<L: Link>(&self, alloc: Global, link: &mut L, answer: Answer) -> Result<End, AskFault>
         requires bound { IsTrue (L.state link.old).bound }
         requires txn { IsTxn self.now.txn }
-        requires room { length self.now.ops < 2 ^ 16 }
+        requires room { length self.now.ops ≤ 2 ^ 16 }
         ensures finishes { (p : Program) (old : LinkState) → IsRefused self.now p old answer (L.state link.old)
             → Finishes self.now p old (L.state link.new) result }
         ensures stays { StaysBound (L.state link.old) (L.state link.new) }
@@ -279,7 +280,7 @@ impl Session {
     fn stop<L: Link>(&self, alloc: Global, link: &mut L, end: End) -> Result<End, AskFault>
         requires bound { IsTrue (L.state link.old).bound }
         requires txn { IsTxn self.now.txn }
-        requires room { length self.now.ops < 2 ^ 16 }
+        requires room { length self.now.ops ≤ 2 ^ 16 }
         ensures finishes { (p : Program) (old : LinkState) → IsToAbort self.now p old end (L.state link.old)
             → Finishes self.now p old (L.state link.new) result }
         ensures stays { StaysBound (L.state link.old) (L.state link.new) }
@@ -292,7 +293,7 @@ impl Session {
     fn abort<L: Link>(&self, alloc: Global, link: &mut L) -> Result<(), NoMemory>
         requires bound { IsTrue (L.state link.old).bound }
         requires txn { IsTxn self.now.txn }
-        requires room { length self.now.ops < 2 ^ 16 }
+        requires room { length self.now.ops ≤ 2 ^ 16 }
         ensures aborts { (p : Program) (old : LinkState) (end : Ending) → IsToAbort self.now p old end (L.state link.old)
             → Aborts self.now p old end (L.state link.new) result }
         ensures stays { StaysBound (L.state link.old) (L.state link.new) }
@@ -309,7 +310,7 @@ impl Session {
 
     /// The number of the next call.
     fn next_number(&self) -> CallNo
-        requires { length self.now.ops < 2 ^ 16 }
+        requires { length self.now.ops ≤ 2 ^ 16 }
         ensures { result ≡ length self.now.ops + 1 }
     {
         match CallNo::new(self.ops.as_slice().len() as u32 + 1) {

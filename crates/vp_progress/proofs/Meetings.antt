@@ -1,16 +1,16 @@
 -- Sites that are mended come together, whatever the others do: each free record is unlocked at each of them.
 use Rattle.std.proofs.Common.{◌≡◌, ◌≢◌, ◌⊎◌, ◌∙◌, ap, sym, subst, ℕ, Bool, true, false, List, [], ◌∷◌, refl, arith, ⊎_elim}
-use Rattle.std.specs.Prelude.{Option, Some, None, ◌&&◌, ◌==◌, not}
+use Rattle.std.specs.Prelude.{Option, Some, None, ◌==◌, not}
 use Rattle.std.specs.List.{list_any}
 use Rattle.vp_model.specs.Types.{View, Owner, Lock, Part, Live, Commit, Doubt, Refreshing}
 use Rattle.vp_model.specs.Types.owner
 use Rattle.vp_model.specs.Words.{has, keys}
-use Rattle.vp_model.specs.Catalogue.{Catalogue, sites_of, accessible}
+use Rattle.vp_model.specs.Catalogue.{Catalogue, sites_of}
 use Rattle.vp_model.specs.Durable.{DurableState}
 use Rattle.vp_model.specs.Site.{SiteState}
 use Rattle.vp_model.specs.Refresh.{refreshing_of}
 use Rattle.vp_model.specs.World.{WorldState, Schedule, place_of, site_of}
-use Rattle.vp_laws.proofs.Lists.Members.{Has, has_none, has_first, has_more, has_of, contains, has_test, has_from_test, any_false, any_of, both_true, not_true}
+use Rattle.vp_laws.proofs.Lists.Members.{Has, has_none, has_first, has_more, has_of, contains, has_test, has_from_test, any_false, any_of, not_true}
 use Rattle.vp_laws.proofs.Lists.Numbers.{eq_self}
 use Rattle.vp_laws.proofs.Table.Locks.{LocksAt}
 use Rattle.vp_laws.proofs.Worlds.Scenes.{scene_of, kept_at}
@@ -40,19 +40,19 @@ module _ (catalogue : Catalogue) (ns : List ℕ) (journal : List Commit) where
   abbrev Clear : WorldState → Type 0
   Clear w = (q : ℕ) → Has ns q → (c : Doubt) → Has (doubts_at (site_of w q)) c → Has ns c.txn.site → ⊥
 
-  -- the record is usable among these sites, and none is in doubt about it
+  -- none of these sites is in doubt about the record
   abbrev wanted : WorldState → ℕ → Bool
-  wanted w rec = accessible catalogue rec ns && not (list_any (λ q. any_writes rec (doubts_at (site_of w q))) ns)
+  wanted w rec = not (list_any (λ q. any_writes rec (doubts_at (site_of w q))) ns)
 
   certain : (w : WorldState) (q rec : ℕ) → Has ns q → wanted w rec ≡ true → any_writes rec (doubts_at (site_of w q)) ≡ false
-  certain w q rec h e = any_false (λ (q : ℕ). any_writes rec (doubts_at (site_of w q))) ns (not_true _ (both_true (accessible catalogue rec ns) _ e).1) q h
+  certain w q rec h e = any_false (λ (q : ℕ). any_writes rec (doubts_at (site_of w q))) ns (not_true _ e) q h
 
   abbrev Prepared : View → WorldState → WorldState → Type 0
   Prepared v from w = Ready catalogue ns journal v (λ k. doubts_at (site_of from k)) (wanted from) (certain from) w
 
   -- a free record is wanted
   free_wanted : (v : View) (from w : WorldState) → Prepared v from w → (rec : ℕ) → IsFree catalogue ns w rec → wanted from rec ≡ true
-  free_wanted v from w f rec free = rw (free.enough, none) refl
+  free_wanted v from w f rec free = rw none refl
     where
       each : (q : ℕ) → Has ns q → any_writes rec (doubts_at (site_of from q)) ≡ false
       each q h = let g = f.sure.quiet.holds q h in ap (any_writes rec) (sym (f.sure.same q) ∙ ap doubts_at g.up) ∙ free.certain q g.at (has_test ns q h) g.up

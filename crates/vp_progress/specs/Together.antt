@@ -2,8 +2,8 @@
 use Rattle.std.specs.Prelude.{◌≡◌, ◌≢◌, ℕ, ◌<◌, ◌≤◌, ◌^◌, ◌-◌, true, false, List, [], length, None, Some}
 use Rattle.std.specs.List.{Contains, AllByRecursion}
 use Rattle.vp_model.specs.Types.{View, Lock, Doubt}
-use Rattle.vp_model.specs.Words.{has}
-use Rattle.vp_model.specs.Catalogue.{Catalogue, find_record, accessible}
+use Rattle.vp_model.specs.Words.{has, value_at}
+use Rattle.vp_model.specs.Catalogue.{Catalogue, find_record, holders}
 use Rattle.vp_model.specs.Site.{SiteState}
 use Rattle.vp_model.specs.Refresh.{is_doubtful, refreshing_of}
 use Rattle.vp_model.specs.World.{WorldState, Schedule, site_of, is_cut}
@@ -17,9 +17,10 @@ pub record IsIdle (sites : List ℕ) (v : View) (x : SiteState) : Type 0 where
   pub parts : x.parts ≡ []
   pub doubts : (d : Doubt) → Contains x.doubts d → has sites d.txn.site ≡ false
 
--- More than half of the record's weight is at these sites, and none of them is in doubt about a write of it.
+-- One of these sites holds the record, none of them has a bar on it, and none is in doubt about a change of it.
 pub record IsFree (catalogue : Catalogue) (sites : List ℕ) (w : WorldState) (rec : ℕ) : Type 0 where
-  pub enough : accessible catalogue rec sites ≡ true
+  pub holder : (k : ℕ) × Contains (holders catalogue rec) k × (has sites k ≡ true)
+  pub unbarred : (q : ℕ) (x : SiteState) → has sites q ≡ true → site_of w q ≡ Some x → value_at rec x.bars ≡ None
   pub certain : (q : ℕ) (x : SiteState) → has sites q ≡ true → site_of w q ≡ Some x → is_doubtful x rec ≡ false
 
 -- No one has a lock on it here, and it is not under refresh.

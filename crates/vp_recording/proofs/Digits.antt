@@ -1,5 +1,5 @@
 -- Digits of bytes, and pairs of them.
-use Rattle.std.proofs.Common.{◌≡◌, ℕ, ◌+◌, ◌*◌, ◌/◌, ◌%◌, ◌<◌, ◌≤◌, zero, suc, Bool, true, false, ◌&&◌, ◌||◌, not, List, ◌∷◌, [], length, slice_index, refl, sym, subst, arith, ⊎_elim}
+use Rattle.std.proofs.Common.{◌≡◌, ℕ, ◌+◌, ◌*◌, ◌/◌, ◌%◌, ◌<◌, ◌≤◌, zero, suc, Bool, true, false, ◌&&◌, ◌||◌, not, List, ◌∷◌, [], ◌++◌, length, get_or, take, slice_index, refl, ap, sym, subst, ◌∙◌, arith, ⊎_elim}
 use Rattle.std.specs.Prelude.{◌==◌, nat_lt}
 use Rattle.std.specs.List.{AllByRecursion}
 use Rattle.std.proofs.lemmas.Bool.{and_parts, cases_lt, eqb-true, ltb-true}
@@ -109,3 +109,27 @@ written_are (b ∷ bytes) all =
       bytes_are = rw (high.1, low.1, rest.bytes_are, joined b) refl;
       count = (let n = rest.count in omega (arith, n));
     }
+
+-- ---- pairs one after the other
+
+pub pairs_more : (digits : List ℕ) (k : ℕ) → 2 * k + 1 < length digits
+    → bytes_of (take (2 * (k + 1)) digits) ≡ bytes_of (take (2 * k) digits) ++ (digit_value (get_or digits (2 * k) 0) * 16 + digit_value (get_or digits (2 * k + 1) 0)) ∷ []
+pairs_more [] k lt = absurd (omega (arith, lt))
+pairs_more (a ∷ []) k lt = absurd (omega (arith, lt))
+pairs_more (a ∷ b ∷ digits) zero lt = refl
+pairs_more (a ∷ b ∷ digits) (suc k) lt =
+    let all : 2 * (suc k + 1) ≡ suc (suc (2 * (k + 1))) = omega arith in
+    let before : suc (suc (2 * k)) ≡ 2 * suc k = omega arith in
+    let low : suc (suc (2 * k + 1)) ≡ 2 * suc k + 1 = omega arith in
+    ap (λ n. bytes_of (take n (a ∷ b ∷ digits))) all
+    ∙ ap (λ bytes. (digit_value a * 16 + digit_value b) ∷ bytes) (pairs_more digits k (omega (arith, lt)))
+    ∙ ap (λ n. bytes_of (take n (a ∷ b ∷ digits)) ++ (digit_value (get_or (a ∷ b ∷ digits) n 0) * 16 + digit_value (get_or (a ∷ b ∷ digits) (suc (suc (2 * k + 1))) 0)) ∷ []) before
+    ∙ ap (λ n. bytes_of (take (2 * suc k) (a ∷ b ∷ digits)) ++ (digit_value (get_or (a ∷ b ∷ digits) (2 * suc k) 0) * 16 + digit_value (get_or (a ∷ b ∷ digits) n 0)) ∷ []) low
+
+-- a last digit without another spells nothing
+pub pairs_whole : (digits : List ℕ) → bytes_of (take (2 * (length digits / 2)) digits) ≡ bytes_of digits
+pairs_whole [] = refl
+pairs_whole (a ∷ []) = refl
+pairs_whole (a ∷ b ∷ digits) =
+    let e : 2 * (length (a ∷ b ∷ digits) / 2) ≡ suc (suc (2 * (length digits / 2))) = omega arith in
+    ap (λ n. bytes_of (take n (a ∷ b ∷ digits))) e ∙ ap (λ bytes. (digit_value a * 16 + digit_value b) ∷ bytes) (pairs_whole digits)

@@ -1,12 +1,9 @@
 -- The digits of a datagram are read exactly.
-use Rattle.std.proofs.Common.{◌≡◌, ℕ, ◌+◌, ◌-◌, ◌*◌, ◌%◌, ◌<◌, ◌≤◌, zero, suc, Bool, true, false, cond, List, ◌∷◌, [], ◌++◌, length, Option, Some, None, Ok, Err, refl, ap, sym, subst, ◌∙◌, arith, append-nil, length-append, length-drop, get_or, take, drop, ⊎_elim, Result}
+use Rattle.std.proofs.Common.{◌≡◌, ℕ, ◌+◌, ◌-◌, ◌*◌, ◌%◌, ◌<◌, ◌≤◌, Bool, true, false, cond, List, ◌∷◌, [], ◌++◌, length, Option, Some, None, Ok, Err, refl, ap, sym, subst, ◌∙◌, arith, append-nil, length-append, length-drop, get_or, take, drop, ⊎_elim}
 use Rattle.std.specs.Prelude.{nat_lt, ◌&&◌}
-use Rattle.std.specs.List.{AllByRecursion}
 use Rattle.std.proofs.lemmas.Bool.{and_parts, and_from, lt-ltb, ltb-true, cases_lt, false≢true}
 use Rattle.std.proofs.lemmas.List.{drop_more, take_more, length-take-le, drop_all}
-use Rattle.hex.specs.Hex.{encode_lower, decode_of, IsBytes}
-use Rattle.hex.specs.declared.error.FromHexError.{FromHexError}
-use Rattle.hex.proofs.HexLemmas.{decode_of-encode_lower}
+use Rattle.hex.specs.Hex.{encode_lower}
 use Rattle.vp_text.specs.Meaning.{Begins}
 use Rattle.vp_text.specs.Reading.{scan, word_step, whole_reading}
 use Rattle.vp_text.proofs.Exact.{Exact}
@@ -201,34 +198,9 @@ bytes_read bytes n le some even stops h =
     bytes_ends bytes n le stops h ∙ ap (λ (o : Option (List ℕ)). whole_reading o (drop n bytes))
     (even_done (take n bytes) (omega (arith, long, some)) (λ odd. even (ap (λ (k : ℕ). k % 2) (sym long) ∙ odd)))
 
-small_bytes : (xs : List ℕ) → AllByRecursion (λ b. b < 256) xs → IsBytes xs
-small_bytes [] h i = omega arith
-small_bytes (x ∷ xs) h zero = h.0
-small_bytes (x ∷ xs) h (suc i) = small_bytes xs h.1 i
-
-abbrev decoded_as : List ℕ → Result (List ℕ) FromHexError
-decoded_as a = Ok a
-
--- decoding gives these bytes
-pub bytes_decoded : (bytes : List ℕ) (n : ℕ) (decoded : List ℕ) → n ≤ length bytes → (n ≡ 0 → ⊥) → (n % 2 ≡ 1 → ⊥) → AreDigits (take n bytes) → decode_of (take n bytes) ≡ Ok decoded → bytes_of (take n bytes) ≡ decoded
-bytes_decoded bytes n decoded le some even all e =
-    let long : length (take n bytes) ≡ n = length-take-le n bytes le in
-    let paired = paired_even (take n bytes) (λ odd. even (ap (λ (k : ℕ). k % 2) (sym long) ∙ odd)) in
-    let a = pairs_are (take n bytes) all paired in
-    let z : decode_of (encode_lower (bytes_of (take n bytes))) ≡ Ok (bytes_of (take n bytes)) = decode_of-encode_lower (bytes_of (take n bytes)) (small_bytes (bytes_of (take n bytes)) a.bytes_are) in
-    let y : decoded_as (bytes_of (take n bytes)) ≡ decoded_as decoded = sym z ∙ ap decode_of a.text ∙ e in
-    cc
-  where
-    paired_even : (p : List ℕ) → (length p % 2 ≡ 1 → ⊥) → is_paired p ≡ true
-    paired_even p n = go (is_paired p) refl
-      where
-        go : (b : Bool) → is_paired p ≡ b → b ≡ true
-        go true t = refl
-        go false t = absurd (let r = odd_length p t in let z = r.1 in n (omega (arith, z)))
-
-pub bytes_done : (cursor text : List ℕ) (n : ℕ) (decoded : List ℕ) → text ≡ cursor → n ≤ length text → (n ≡ 0 → ⊥) → (n % 2 ≡ 1 → ⊥) → AreDigits (take n text) → StopsAt text n → bytes_from text n → decode_of (take n text) ≡ Ok decoded
+pub bytes_done : (cursor text : List ℕ) (n : ℕ) (decoded : List ℕ) → text ≡ cursor → n ≤ length text → (n ≡ 0 → ⊥) → (n % 2 ≡ 1 → ⊥) → StopsAt text n → bytes_from text n → decoded ≡ bytes_of (take n text)
     → bytes_at cursor ≡ Ok (decoded, drop n cursor)
-bytes_done cursor text n decoded same le some even all stops h e =
+bytes_done cursor text n decoded same le some even stops h e =
     ap bytes_at (sym same) ∙ bytes_read text n le some even stops h
-    ∙ ap (λ (bytes : List ℕ). Ok (bytes, drop n text)) (bytes_decoded text n decoded le some even all e)
+    ∙ ap (λ (bytes : List ℕ). Ok (bytes, drop n text)) (sym e)
     ∙ ap (λ (text : List ℕ). Ok (decoded, drop n text)) same

@@ -7,6 +7,7 @@ ghost use Rattle.vp_recording.specs.LineReading.{line_at};
 ghost use Rattle.vp_recording.specs.Document.{Answered, IsOnly, NextLine, is_owed};
 ghost use Rattle.vp_recording.specs.Recordings.{AreOfNodes};
 
+use crate::byte_store::ByteStore;
 use crate::draft::{RecordingDraft, RecordingSet};
 use crate::fault::RecordingFault;
 use crate::line::RecordingLine;
@@ -17,7 +18,7 @@ use vp_text::Cursor;
 
 /// The next line, which is allowed after what the lines say so far.
 fn next_line(
-    alloc: Global,
+    store: &mut ByteStore,
     cursor: &mut Cursor,
     draft: &RecordingDraft,
     line: usize,
@@ -28,7 +29,7 @@ fn next_line(
     ensures { NextLine draft.now line cursor.old cursor.new result }
 {
     let here = cursor.left();
-    match parse_line(alloc, cursor, draft) {
+    match parse_line(store, cursor, draft) {
         Ok(next) => Ok(next),
         Err(LineFault::NoMemory) => Err(RecordingFault::NoMemory),
         Err(LineFault::Unexpected(e)) => Err(RecordingFault::BadLine {
@@ -52,11 +53,12 @@ pub fn parse(alloc: Global, text: &[u8]) -> Result<RecordingSet, RecordingFault>
     ensures only { IsOnly text.now result }
     ensures nodes { IfOk result (λ it. IsCatalogue it.catalog × AreOfNodes it.catalog it.recordings) }
 {
+    let mut store = ByteStore::new(alloc);
     let mut draft = RecordingDraft::new(alloc);
     let mut cursor = Cursor::new(text);
     let mut line = 1;
     while owes_line(&cursor, &draft) {
-        let next = next_line(alloc, &mut cursor, &draft, line)?;
+        let next = next_line(&mut store, &mut cursor, &draft, line)?;
         draft.add(alloc, next, line)?;
         line += 1;
     }

@@ -1,13 +1,15 @@
 //! Reading datagrams in hexadecimal.
 
-ghost use Rattle.std.specs.Prelude.{◌≡◌};
+ghost use Rattle.std.specs.Prelude.{◌≡◌, true, IfOk};
+ghost use Rattle.std.specs.List.{AllByRecursion};
 ghost use Rattle.vp_text.specs.Reading.{Tries};
 ghost use Rattle.vp_base.specs.Faults.{line_left};
-ghost use Rattle.vp_recording.specs.Hex.{is_digit, bytes_at};
+ghost use Rattle.vp_recording.specs.Hex.{is_digit, digit_value, bytes_of, bytes_at};
 
+use crate::byte_store::ByteStore;
 use bytes::Bytes;
 use std::alloc::Global;
-use vp_base::LineFault;
+use vp_base::{LineFault, NoMemory};
 use vp_text::{Cursor, Unexpected};
 
 /// The most digits of a datagram.
@@ -19,8 +21,35 @@ fn is_digit(byte: u8) -> bool
     byte.is_ascii_digit() || (b'a' <= byte && byte <= b'f')
 }
 
+/// The value of a digit.
+fn digit_value(digit: u8) -> u8
+    requires { is_digit digit ≡ true }
+    ensures { result ≡ digit_value digit }
+{
+    if digit <= b'9' {
+        digit - b'0'
+    } else {
+        digit - b'a' + 10
+    }
+}
+
+/// The bytes that the digits spell, two by two.
+fn decode(alloc: Global, digits: &[u8]) -> Result<Vec<u8>, NoMemory>
+    requires { AllByRecursion (λ c. is_digit c ≡ true) digits.now }
+    ensures { IfOk result (λ bytes. bytes.items ≡ bytes_of digits.now) }
+{
+    let count = digits.len() / 2;
+    let mut bytes = Vec::with_capacity(alloc, count)?;
+    for k in 0..count {
+        let high = digit_value(digits[2 * k]);
+        let low = digit_value(digits[2 * k + 1]);
+        bytes.push(high * 16 + low)?;
+    }
+    Ok(bytes)
+}
+
 /// Takes a datagram of 1 to 16,384 bytes, as long as its digits go.
-pub fn parse_bytes(alloc: Global, cursor: &mut Cursor) -> Result<Bytes, LineFault>
+pub fn parse_bytes(store: &mut ByteStore, cursor: &mut Cursor) -> Result<Bytes, LineFault>
     ensures { Tries (λ bytes. bytes) line_left result cursor.new (bytes_at cursor.old) }
 {
     let text = cursor.rest();
@@ -33,10 +62,8 @@ pub fn parse_bytes(alloc: Global, cursor: &mut Cursor) -> Result<Bytes, LineFaul
             left: text.len() - count,
         }));
     }
-    let Ok(frame) = hex::decode(alloc, &text[..count]) else {
-        return Err(LineFault::NoMemory);
-    };
-    let bytes = Bytes::copy_from_slice(alloc, &frame)?;
+    let bytes = decode(store.allocator(), &text[..count])?;
+    let frame = store.keep(&bytes)?;
     cursor.advance(count);
-    Ok(bytes)
+    Ok(frame)
 }

@@ -1,6 +1,7 @@
 //! The recordings of nodes, and their text.
 #![tactic(auto)]
 
+mod byte_store;
 mod document;
 mod draft;
 mod fault;

@@ -6,11 +6,11 @@ ghost use Rattle.vp_base.specs.Faults.{line_left};
 ghost use Rattle.vp_recording.specs.Drafts.{life_before};
 ghost use Rattle.vp_recording.specs.LineReading as reading;
 
+use crate::byte_store::ByteStore;
 use crate::draft::RecordingDraft;
 use crate::hex_reading::parse_bytes;
 use crate::line::RecordingLine;
 use bytes::Bytes;
-use std::alloc::Global;
 use vp_base::{LineFault, SiteId};
 use vp_catalog::parse_site;
 use vp_heads::parse_head;
@@ -31,11 +31,11 @@ fn begins_with(cursor: &Cursor, byte: u8) -> bool
 
 /// A word, a datagram and the end of the line.
 #[tactic(auto, unfolding(crate::specs::LineReading::frame_at))]
-fn parse_frame(alloc: Global, cursor: &mut Cursor, word: &[u8]) -> Result<Bytes, LineFault>
+fn parse_frame(store: &mut ByteStore, cursor: &mut Cursor, word: &[u8]) -> Result<Bytes, LineFault>
     ensures { Tries (λ frame. frame) line_left result cursor.new (reading.frame_at word.now cursor.old) }
 {
     cursor.literal(word)?;
-    let frame = parse_bytes(alloc, cursor)?;
+    let frame = parse_bytes(store, cursor)?;
     cursor.literal(b"\n")?;
     Ok(frame)
 }
@@ -53,26 +53,26 @@ fn parse_count(cursor: &mut Cursor, word: &[u8], least: u32, most: u32) -> Resul
 }
 
 #[tactic(auto, unfolding(crate::specs::LineReading::in_at))]
-fn parse_in(alloc: Global, cursor: &mut Cursor) -> Result<RecordingLine, LineFault>
+fn parse_in(store: &mut ByteStore, cursor: &mut Cursor) -> Result<RecordingLine, LineFault>
     ensures { Tries (λ line. line) line_left result cursor.new (reading.in_at cursor.old) }
 {
-    let frame = parse_frame(alloc, cursor, b"in ")?;
+    let frame = parse_frame(store, cursor, b"in ")?;
     Ok(RecordingLine::In { frame })
 }
 
 #[tactic(auto, unfolding(crate::specs::LineReading::out_at))]
-fn parse_out(alloc: Global, cursor: &mut Cursor) -> Result<RecordingLine, LineFault>
+fn parse_out(store: &mut ByteStore, cursor: &mut Cursor) -> Result<RecordingLine, LineFault>
     ensures { Tries (λ line. line) line_left result cursor.new (reading.out_at cursor.old) }
 {
-    let frame = parse_frame(alloc, cursor, b"out ")?;
+    let frame = parse_frame(store, cursor, b"out ")?;
     Ok(RecordingLine::Out { frame })
 }
 
 #[tactic(auto, unfolding(crate::specs::LineReading::stray_at))]
-fn parse_stray(alloc: Global, cursor: &mut Cursor) -> Result<RecordingLine, LineFault>
+fn parse_stray(store: &mut ByteStore, cursor: &mut Cursor) -> Result<RecordingLine, LineFault>
     ensures { Tries (λ line. line) line_left result cursor.new (reading.stray_at cursor.old) }
 {
-    parse_frame(alloc, cursor, b"stray ")?;
+    parse_frame(store, cursor, b"stray ")?;
     Ok(RecordingLine::Stray)
 }
 
@@ -135,20 +135,20 @@ fn parse_ending(cursor: &mut Cursor, sites: &[SiteId]) -> Result<RecordingLine, 
 /// A line of a block that goes on but `out`, or the line `node`.
 #[tactic(auto, unfolding(crate::specs::LineReading::within_at))]
 fn parse_within(
-    alloc: Global,
+    store: &mut ByteStore,
     cursor: &mut Cursor,
     sites: &[SiteId],
 ) -> Result<RecordingLine, LineFault>
     ensures { Tries (λ line. line) line_left result cursor.new (reading.within_at sites.now cursor.old) }
 {
     if begins_with(cursor, b'i') {
-        return parse_in(alloc, cursor);
+        return parse_in(store, cursor);
     }
     if begins_with(cursor, b'b') {
         return parse_bad(cursor);
     }
     if begins_with(cursor, b's') {
-        return parse_stray(alloc, cursor);
+        return parse_stray(store, cursor);
     }
     parse_ending(cursor, sites)
 }
@@ -156,22 +156,22 @@ fn parse_within(
 /// A line of a block after a turn's, or the line `node`.
 #[tactic(auto, unfolding(crate::specs::LineReading::after_turn_at))]
 fn parse_after_turn(
-    alloc: Global,
+    store: &mut ByteStore,
     cursor: &mut Cursor,
     sites: &[SiteId],
 ) -> Result<RecordingLine, LineFault>
     ensures { Tries (λ line. line) line_left result cursor.new (reading.after_turn_at sites.now cursor.old) }
 {
     if begins_with(cursor, b'o') {
-        return parse_out(alloc, cursor);
+        return parse_out(store, cursor);
     }
-    parse_within(alloc, cursor, sites)
+    parse_within(store, cursor, sites)
 }
 
 /// A line where no `start` has to come.
 #[tactic(auto, unfolding(crate::specs::LineReading::free_at))]
 fn parse_free(
-    alloc: Global,
+    store: &mut ByteStore,
     cursor: &mut Cursor,
     draft: &RecordingDraft,
 ) -> Result<RecordingLine, LineFault>
@@ -182,27 +182,27 @@ fn parse_free(
         return parse_node(cursor, sites);
     }
     if draft.turn.is_some() {
-        return parse_after_turn(alloc, cursor, sites);
+        return parse_after_turn(store, cursor, sites);
     }
-    parse_within(alloc, cursor, sites)
+    parse_within(store, cursor, sites)
 }
 
 #[tactic(auto, unfolding(crate::specs::LineReading::head_line_at))]
 fn parse_head_line(
-    alloc: Global,
+    store: &mut ByteStore,
     cursor: &mut Cursor,
     draft: &RecordingDraft,
 ) -> Result<RecordingLine, LineFault>
     ensures { Tries (λ line. line) line_left result cursor.new (reading.head_line_at draft.now cursor.old) }
 {
-    let line = parse_head(alloc, cursor, &draft.head.catalog, KEY)?;
+    let line = parse_head(store.allocator(), cursor, &draft.head.catalog, KEY)?;
     Ok(RecordingLine::Head(line))
 }
 
 /// Takes the next line, after what the lines before it say.
 #[tactic(auto, unfolding(crate::specs::LineReading::line_at))]
 pub fn parse_line(
-    alloc: Global,
+    store: &mut ByteStore,
     cursor: &mut Cursor,
     draft: &RecordingDraft,
 ) -> Result<RecordingLine, LineFault>
@@ -210,10 +210,10 @@ pub fn parse_line(
     ensures { Tries (λ line. line) line_left result cursor.new (reading.line_at draft.now cursor.old) }
 {
     if !draft.head.opened {
-        return parse_head_line(alloc, cursor, draft);
+        return parse_head_line(store, cursor, draft);
     }
     match draft.named {
         Some(site) => parse_start(cursor, draft.lives[usize::from(site.get()) - 1]),
-        None => parse_free(alloc, cursor, draft),
+        None => parse_free(store, cursor, draft),
     }
 }

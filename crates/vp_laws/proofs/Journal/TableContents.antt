@@ -112,6 +112,15 @@ module _ (catalogue : Catalogue) (rec : ℕ) where
       has_more _ _ t (mapped_keeps (λ (e : Commit). value_at rec e.tables) (filter (λ (e : Commit). view_before e.view view) journal) e t
       (filter_keeps (λ (e : Commit). view_before e.view view) journal e h (test_above e.view view low)) gave)
 
+  -- each is the catalogue's or was given by an entry
+  pub tables_from : (journal : List Commit) (view : ViewId) (t : Table) → Has (tables_below catalogue journal rec view) t → (weights_of catalogue rec ≡ t) ⊎ ((e : Commit) × Has journal e × (value_at rec e.tables ≡ Some t))
+  tables_from journal view t h = ⊎_elim
+      (λ first. inl first)
+      (λ later.
+      let q = mapped_from (λ (e : Commit). value_at rec e.tables) (filter (λ (e : Commit). view_before e.view view) journal) t later in
+      inr (q.0, (filter_has (λ (e : Commit). view_before e.view view) journal q.0 q.1).0, q.2))
+      (has_cons (weights_of catalogue rec) _ t h)
+
   -- they stay among them as the journal grows
   pub tables_grow : (journal more : List Commit) (view : ViewId) (t : Table) → Has (tables_below catalogue journal rec view) t → Has (tables_below catalogue (journal ++ more) rec view) t
   tables_grow journal more view t h = ⊎_elim

@@ -3,7 +3,7 @@ use Rattle.std.proofs.Common.{◌≡◌, ℕ, List, [], ◌∷◌, refl, sym, �
 use Rattle.std.specs.Prelude.{nat_eq}
 use Rattle.std.specs.List.{IsDistinct}
 use Rattle.std.proofs.lemmas.Bool.{eq-eqb, false≢true}
-use Rattle.vp_model.specs.Catalogue.{Catalogue, sites_of}
+use Rattle.vp_model.specs.Catalogue.{Catalogue, holders, sites_of}
 use Rattle.vp_catalog.specs.Document.{IsCatalogueSoFar}
 use Rattle.vp_catalog.proofs.Apart.{sites_differ}
 use Rattle.vp_laws.specs.Catalogues.{AreApart, IsWhole}

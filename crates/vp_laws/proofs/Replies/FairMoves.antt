@@ -431,6 +431,9 @@ module _ (catalogue : Catalogue) (world : WorldState) (past : List Moment) (m0 :
   one_of_three false false true h = refl
   one_of_three false false false h = ⊎_elim (λ a. let z = a in cc) (λ q. ⊎_elim (λ b. let z = b in cc) (λ c. let z = c in cc) q) h
 
+  weighs_one : (name : List ℕ) (rec : ℕ) (v : View) (i n : ℕ) → x.held ≡ Some v → nat_le (2 * i) n ≡ true → find_record catalogue name ≡ Some rec → ((option_map_or (sums_are i n (members x)) (table_in m0.line.event) false ≡ true) ⊎ ((bars catalogue m0.before.journal rec i n x ≡ true) ⊎ (held_by_none catalogue rec i n x ≡ true))) → weighs catalogue m0 name i n x ≡ true
+  weighs_one name rec v i n held up_to found h = weighs_when name rec v i n held up_to found (one_of_three (option_map_or (sums_are i n (members x)) (table_in m0.line.event) false) (bars catalogue m0.before.journal rec i n x) (held_by_none catalogue rec i n x) h)
+
   none_half : (n : ℕ) → nat_le (2 * 0) n ≡ true
   none_half n = grind (arith, nat_tests)
 
@@ -460,7 +463,7 @@ module _ (catalogue : Catalogue) (world : WorldState) (past : List Moment) (m0 :
           let is : (weight_inside (members_in x.held) table, weight_total table) ≡ weights = cc in
           let sums : option_map_or (sums_are (weight_inside (members_in x.held) table) (weight_total table) (members x)) (table_in m0.line.event) false ≡ true = rw own (sums_self table (members_in x.held)) in
           subst (λ (q : ℕ × ℕ). weighs catalogue m0 name q.0 q.1 x ≡ true) is
-          (weighs_when name rec v.0 (weight_inside (members_in x.held) table) (weight_total table) v.1 (half (weight_inside (members_in x.held) table) (weight_total table) f) found (one_of_three _ _ _ (inl sums)))
+          (weighs_one name rec v.0 (weight_inside (members_in x.held) table) (weight_total table) v.1 (half (weight_inside (members_in x.held) table) (weight_total table) f) found (inl sums))
 
       by_none : (b : Bool) → list_any (has (members_in x.held)) (holders catalogue rec) ≡ b → cond b None (Some (0, total catalogue rec)) ≡ Some weights → weighs catalogue m0 name weights.0 weights.1 x ≡ true
       by_none true f e = cc
@@ -468,7 +471,7 @@ module _ (catalogue : Catalogue) (world : WorldState) (past : List Moment) (m0 :
           let is : (0, total catalogue rec) ≡ weights = cc in
           let none : held_by_none catalogue rec 0 (total catalogue rec) x ≡ true = rw (f, eq_self (total catalogue rec)) refl in
           subst (λ (q : ℕ × ℕ). weighs catalogue m0 name q.0 q.1 x ≡ true) is
-          (weighs_when name rec v.0 0 (total catalogue rec) v.1 (none_half (total catalogue rec)) found (one_of_three _ _ _ (inr (inr none))))
+          (weighs_one name rec v.0 0 (total catalogue rec) v.1 (none_half (total catalogue rec)) found (inr (inr none)))
 
       by_bar : (bar : Option (ℕ × ℕ)) → value_at rec x.bars ≡ bar → first_some bar (short_of_holders catalogue rec (members_in x.held)) ≡ Some weights → weighs catalogue m0 name weights.0 weights.1 x ≡ true
       by_bar None f e = by_none (list_any (has (members_in x.held)) (holders catalogue rec)) refl e
@@ -476,7 +479,7 @@ module _ (catalogue : Catalogue) (world : WorldState) (past : List Moment) (m0 :
           let same : bar ≡ weights = cc in
           let b = bar_holds rec v.0 bar v.1 f in
           let barred : bars catalogue m0.before.journal rec bar.0 bar.1 x ≡ true = subst (λ (v : WorldState). bars catalogue v.journal rec bar.0 bar.1 x ≡ true) (sym is.before) b.0 in
-          subst (λ (q : ℕ × ℕ). weighs catalogue m0 name q.0 q.1 x ≡ true) same (weighs_when name rec v.0 bar.0 bar.1 v.1 b.1 found (one_of_three _ _ _ (inr (inl barred))))
+          subst (λ (q : ℕ × ℕ). weighs catalogue m0 name q.0 q.1 x ≡ true) same (weighs_one name rec v.0 bar.0 bar.1 v.1 b.1 found (inr (inl barred)))
 
       go : (a : Deed) → Tries p.call rec a → (o : Option (ℕ × ℕ)) → short_by a (members_in x.held) ≡ o → first_some o (first_some (value_at rec x.bars) (short_of_holders catalogue rec (members_in x.held))) ≡ Some weights → weighs catalogue m0 name weights.0 weights.1 x ≡ true
       go a from None q e = by_bar (value_at rec x.bars) refl e

@@ -136,12 +136,7 @@ pub conflict_is : (rec : ℕ) (exclusive : Bool) (txn : TxnId) (locks : List Loc
 conflict_is rec exclusive txn locks holder h e = some_at IsOwner _ holder (least_is None _ tt (all_filter IsLock _ locks h)) e
 
 pub bar_is : (rec : ℕ) (bar : ℕ × ℕ) (bars : Bars) → AllByRecursion IsBar bars → value_at rec bars ≡ Some bar → (bar.0 < 2 ^ 32) × (bar.1 < 2 ^ 32)
-bar_is rec bar [] h e = cc
-bar_is rec bar (b ∷ bars) h e = go (b.0 == rec) e
-  where
-    go : (c : Bool) → option_map (λ (p : ℕ × (ℕ × ℕ)). p.1) (cond c (Some b) (find (λ (p : ℕ × (ℕ × ℕ)). p.0 == rec) bars)) ≡ Some bar → (bar.0 < 2 ^ 32) × (bar.1 < 2 ^ 32)
-    go true q = let same : b.1 ≡ bar = cc in subst (λ (k : ℕ × ℕ). (k.0 < 2 ^ 32) × (k.1 < 2 ^ 32)) same h.0
-    go false q = bar_is rec bar bars h.1 q
+bar_is rec bar bars h e = let q = value_has rec bars bar e in subst (λ (b : ℕ × ℕ). (b.0 < 2 ^ 32) × (b.1 < 2 ^ 32)) q.2 (all_at IsBar bars h q.0 q.1)
 
 -- ---- copies
 

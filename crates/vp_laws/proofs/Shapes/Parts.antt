@@ -4,6 +4,8 @@ use Rattle.std.specs.Prelude.{Option, Some, None, IfSome, filter, not, option_ma
 use Rattle.std.specs.List.{AllByRecursion}
 use Rattle.vp_base.specs.Identifiers.{IsView, IsTxn}
 use Rattle.vp_bytes.specs.Fields.{IsSite, IsRecord, IsMaybeView, IsRequest}
+use Rattle.vp_contents.specs.Tables.{IsMaybeTable}
+use Rattle.vp_contents.specs.declared.version.Version.TheVariants as versions
 use Rattle.vp_base.specs.Calls.{IsNumbered}
 use Rattle.vp_catalog.specs.Document.{IsCatalogue}
 use Rattle.vp_model.specs.Types.{Change, ViewId, TxnId, View, Stored, Message, Input, Part, Refreshing, Doubt, Sent}
@@ -62,7 +64,7 @@ module _ (catalogue : Catalogue) (k : IsCatalogue catalogue) (x : SiteState) (sx
   takes_newer r own o n i p =
       let best = newest own r.answers in
       let a = with_copies catalogue x o p (replace_at r.rec best) (replace_is catalogue o.site.id r.rec best o.site.here.copies i p.site_is.copies_are) in
-      let bar = (weight_inside (members o.site) (judging catalogue r own), weight_total (judging catalogue r own)) in
+      let bar : ℕ × ℕ = (weight_inside (members o.site) (judging catalogue r own), weight_total (judging catalogue r own)) in
       take-cases F catalogue r own o (with_gives catalogue x _ a _ (gives_entry x.id _ a.gives (log_record.Copy r.rec best) (n, i))) p
       (with_bars catalogue x o p (with_bar r.rec (judging catalogue r own) (members o.site)) (all_put IsBar (λ (a : ℕ × (ℕ × ℕ)) (b : ℕ × (ℕ × ℕ)). a.0 == b.0) (λ (a : ℕ × (ℕ × ℕ)) (b : ℕ × (ℕ × ℕ)). nat_lt a.0 b.0) (r.rec, bar) o.site.here.bars (sums_fit r.rec best.table (members o.site) i.1) p.site_is.bars_are))
 
@@ -133,7 +135,7 @@ module _ (catalogue : Catalogue) (k : IsCatalogue catalogue) (x : SiteState) (sx
       (m.0, (m.1, i))
   back_is from _ (SendsBack.refuse_view txn view number a e) = (numbered txn view number (asks_is from txn view number a), now_is x.held sx.views_are.held_is)
   back_is from _ (SendsBack.refuse_lock txn view number rec exclusive holder r e n c) = (numbered txn view number (requests_is from txn view number rec exclusive r), conflict_is rec exclusive txn x.here.locks holder sx.locks_are c)
-  back_is from _ (SendsBack.refuse_bar txn view number rec exclusive bar r e n b) = let q = bar_is rec bar x.here.bars sx.bars_are b in (numbered txn view number (requests_is from txn view number rec exclusive r), (refl, q.0, q.1))
+  back_is from _ (SendsBack.refuse_bar txn view number rec exclusive bar r e n b) = let q = bar_is rec bar x.here.bars sx.bars_are b in (numbered txn view number (requests_is from txn view number rec exclusive r), (tt, q.0, q.1))
   back_is from _ (SendsBack.doubt_again txn view number reads writes c e n d) = (came_is given from (message.Prepare txn view number reads writes) came c).1.0.0
   back_is from _ (SendsBack.vote_again txn view number reads writes part c e n f v) = (part_of_is txn part f).0
   back_is from _ (SendsBack.answer_inquiry txn c s n) = (came_is given from (message.Inquire txn) came c).1

@@ -1,6 +1,6 @@
 -- A step that refuses a call before it is done changes nothing: no other move gives such a reply.
 use Rattle.std.proofs.Common.{length, ◌≡◌, ◌∙◌, ap, subst, ℕ, Bool, true, false, List, [], ◌∷◌, ◌++◌, refl, arith}
-use Rattle.std.specs.Prelude.{◌||◌, nat_le, Option, Some, None}
+use Rattle.std.specs.Prelude.{◌||◌, nat_le, not, Option, Some, None}
 use Rattle.std.specs.List.{Contains, list_any}
 use Rattle.vp_model.specs.Types.{Change, TxnId, View, Stored, Owner, Call, Answer, Reply, Input, Pending, Live, Ending, Finished, Refreshing, Doubt}
 use Rattle.vp_base.specs.declared.site.Ending.TheVariants.{Inaccessible, Committed, Aborted, LockHeld, ViewChanged, TimedOut}
@@ -145,7 +145,7 @@ module _ (catalogue : Catalogue) (x : SiteState) (given : Input) where
       of_record name asked use_record used = by_option Q _ (find_record catalogue name) _
           (λ rec e. by_test Q (is_bad_table catalogue (asked rec)) _ _ (λ bad. k.only _ _)
           (λ table. by_test Q (nat_le 64 (length t.answers) || is_too_large t (asked rec)) _ _ (λ many. k.only _ _)
-          (λ fits. by_option Q _ (short catalogue x.held rec (asked rec)) _ (λ weights s. k.only _ _) (λ enough. used rec))))
+          (λ fits. by_option Q _ (short catalogue x.held x.bars rec (asked rec)) _ (λ weights s. k.only _ _) (λ enough. used rec))))
           (λ none. k.only _ _)
 
       of_new_change : (name : List ℕ) (asked : ℕ → Deed) → Q (new_change catalogue x.id x.held t p name asked (lent_at x))
@@ -350,8 +350,8 @@ steps catalogue x input.Probe = Steps.done (no_refusal catalogue x input.Probe (
 pub refusals_change_nothing : RefusalsChangeNothing
 refusals_change_nothing catalogue x given r there refused = go (step catalogue x given) (steps catalogue x given) there
   where
-    go : (o : Stepped) → Steps catalogue x given o → Contains o.effects.replies r → o ≡ only_this catalogue x r
+    go : (o : Stepped) → Steps catalogue x given o → Contains o.effects.replies r → o ≡ only_this catalogue x given r
     go o (Steps.only words port e) h =
         let same : (record { to = port; answer = words }) ≡ r = has_one_is _ r (has_of _ r (subst (λ (o : Stepped). Contains o.effects.replies r) e h)) in
-        e ∙ ap (only_this catalogue x) same
+        e ∙ ap (only_this catalogue x given) same
     go o (Steps.done d) h = absurd (let z = any_false (refuses given) o.effects.replies d r (has_of _ r h) in cc)

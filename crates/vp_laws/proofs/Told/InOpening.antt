@@ -9,6 +9,7 @@ use Rattle.vp_model.specs.Site.{SiteState}
 use Rattle.vp_model.specs.Step.{step}
 use Rattle.vp_model.specs.World.{WorldState, Moved, Moment, Run, Schedule, moment, next, one_step, site_of, site_step, journal_of}
 use Rattle.vp_model.specs.OneCopy.{serial, views_of, in_view, order}
+use Rattle.vp_laws.specs.Catalogues.{IsWhole}
 use Rattle.vp_laws.specs.OneView.{StaysInOpening, PlaysAsCommitted}
 use Rattle.vp_laws.proofs.Lists.Members.{Has, has_left, has_right, has_one, has_first, has_more, has_cases, contains}
 use Rattle.vp_laws.proofs.Lists.Views.{same_from}
@@ -90,10 +91,10 @@ opening_lasts catalogue = record {
   steps = λ number e run h. (one_step-told catalogue number e run h.0, entries_on catalogue number e run h);
 }
 
-pub plays_as_committed : (s : Schedule) → StaysInOpening s → PlaysAsCommitted s
-plays_as_committed s stays =
+pub plays_as_committed : (s : Schedule) → IsWhole s.catalogue → StaysInOpening s → PlaysAsCommitted s
+plays_as_committed s whole stays =
     let entries = (run-keeps s.catalogue (RunOpening s.catalogue) (opening_lasts s.catalogue) s.events).1 (λ m h site x v up held. stays m site x v (contains _ m h) up held) in
     record {
-      serial = subst (λ (es : List Commit). IsSome (serial (start_values s.catalogue) es)) (ordered (journal_of s) entries) (serial_played s);
+      serial = subst (λ (es : List Commit). IsSome (serial (start_values s.catalogue) es)) (ordered (journal_of s) entries) (serial_played s whole);
       told = record { operations = operations_told s; once = committed_once s };
     }

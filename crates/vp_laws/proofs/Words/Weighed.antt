@@ -104,15 +104,12 @@ module _ (catalogue : Catalogue) (w : WorldState) (inv : Invariant catalogue (sc
   copy_table : (s : ℕ) (x : SiteState) (v : View) → plain_at (scene_of w) s ≡ Some x → x.held ≡ Some v → tables_true_in catalogue w.journal x v ≡ true
   copy_table s x v up held = all_from _ x.copies (λ copy h. go copy h (is_readable x copy.0) refl)
     where
-      abbrev left : ℕ → Table
-      left rec = table_after catalogue rec (upto v.id (order w.journal))
-
-      go : (copy : ℕ × Stored) → Has x.copies copy → (readable : Bool) → is_readable x copy.0 ≡ readable → cond readable (same_table (table_or catalogue copy.0 copy.1.table) (left copy.0)) true ≡ true
+      go : (copy : ℕ × Stored) → Has x.copies copy → (readable : Bool) → is_readable x copy.0 ≡ readable → cond readable (same_table (table_or catalogue copy.0 copy.1.table) (table_after catalogue copy.0 (upto v.id (order w.journal)))) true ≡ true
       go copy h false e = refl
       go copy h true e =
           let t = both_true (is_open x copy.0) (not (list_any (is_locked copy.0) x.locks)) e in
           let value = readable_content catalogue w inv s x up v held copy.0 copy.1 h t.0 (not_true (list_any (is_locked copy.0) x.locks) t.1) in
-          let same : table_or catalogue copy.0 copy.1.table ≡ left copy.0 = content_table catalogue copy.0 w.journal v.id (content_of copy.1) value ∙ sym (table_same catalogue copy.0 (upto v.id (order w.journal))) in
+          let same : table_or catalogue copy.0 copy.1.table ≡ table_after catalogue copy.0 (upto v.id (order w.journal)) = content_table catalogue copy.0 w.journal v.id (content_of copy.1) value ∙ sym (table_same catalogue copy.0 (upto v.id (order w.journal))) in
           subst (λ (t : Table). same_table (table_or catalogue copy.0 copy.1.table) t ≡ true) same (same_table-self (table_or catalogue copy.0 copy.1.table))
 
   site_tables : (s : ℕ) (x : SiteState) → plain_at (scene_of w) s ≡ Some x → tables_true_at catalogue w.journal x ≡ true

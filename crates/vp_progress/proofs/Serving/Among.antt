@@ -4,8 +4,9 @@ use Rattle.std.specs.Prelude.{Some}
 use Rattle.std.specs.List.{Contains, AllByRecursion, list_any}
 use Rattle.vp_text.proofs.Items.{all_each}
 use Rattle.vp_model.specs.Types.{Doubt, Commit}
-use Rattle.vp_model.specs.Words.{has, keys}
-use Rattle.vp_model.specs.Site.{SiteState}
+use Rattle.vp_model.specs.Words.{has, keys, value_at}
+use Rattle.vp_model.specs.Catalogue.{holders}
+use Rattle.vp_model.specs.Site.{Bars, SiteState}
 use Rattle.vp_model.specs.Refresh.{refreshing_of}
 use Rattle.vp_model.specs.World.{WorldState, Schedule, site_of}
 use Rattle.vp_laws.proofs.Lists.Members.{Has, contains, has_of, has_test, has_from_test}
@@ -21,7 +22,7 @@ use Rattle.vp_progress.proofs.Serving.Sites.{Rest, IsResting}
 use Rattle.vp_progress.proofs.Serving.Worlds.{IsUnused}
 use Rattle.vp_progress.proofs.Serving.Commits.{Committed}
 use Rattle.vp_progress.proofs.Serving.Begun.{Resting, Grantable, serves_all}
-use Rattle.vp_progress.proofs.Serving.Served.{same_accessible, rest_in, rest_of}
+use Rattle.vp_progress.proofs.Serving.Served.{rest_in, rest_of}
 
 one_state : (k : ℕ) (x y : SiteState) (w : WorldState) → site_of w k ≡ Some x → site_of w k ≡ Some y → x ≡ y
 one_state k x y w a b = let z = sym a ∙ b in grind (arith, z)
@@ -36,7 +37,7 @@ module _ (s : Schedule) (ns : List ℕ) (q : ℕ) (t : AreTogether s.catalogue n
   members : (k : ℕ) → Has ns k → Has t.view.members k
   members k m = has_from_test t.view.members k (t.members k ∙ has_test ns k m)
 
-  rests_as : (k : ℕ) (x : SiteState) → site_of w k ≡ Some x → rest_of w k ≡ record { locks = x.locks; refresh = x.refresh; doubts = x.doubts }
+  rests_as : (k : ℕ) (x : SiteState) → site_of w k ≡ Some x → rest_of w k ≡ record { locks = x.locks; refresh = x.refresh; doubts = x.doubts; bars = x.bars }
   rests_as k x up = ap rest_in up
 
   resting : Resting s.catalogue ns t.view q (has_from_test ns q here) (rest_of w) among members w.journal w
@@ -44,32 +45,38 @@ module _ (s : Schedule) (ns : List ℕ) (q : ℕ) (t : AreTogether s.catalogue n
     known = in_last s.catalogue (Known s.catalogue) (known_last s.catalogue) s.events;
     joined = λ a b m n. t.joined a b (has_test ns a m) (has_test ns b n);
     same = refl;
-    rests = λ k m. let x = t.idle k (has_test ns k m) in (x.0, x.1, subst (λ (r : Rest). IsResting t.view r x.0) (sym (rests_as k x.0 x.1)) (record { held = x.2.held; live = x.2.live; parts = x.2.parts; refresh = refl; doubts = refl; locks = λ l there. there }));
+    rests = λ k m. let x = t.idle k (has_test ns k m) in (x.0, x.1, subst (λ (r : Rest). IsResting t.view r x.0) (sym (rests_as k x.0 x.1)) (record { held = x.2.held; live = x.2.live; parts = x.2.parts; refresh = refl; doubts = refl; bars = refl; locks = λ l there. there }));
   }
 
   unused : (rec : ℕ) → IsFree s.catalogue ns w rec → IsUnused s.catalogue ns t.view q (rest_of w) among rec
   unused rec f = record {
-    enough = same_accessible s.catalogue rec t.view.members ns t.members f.enough;
+    holder = let h = f.holder in (h.0, has_of (holders s.catalogue rec) h.0 h.1, members h.0 (has_from_test ns h.0 h.2));
+    unbarred = λ k m. let x = t.idle k (has_test ns k m) in ap (λ (r : Rest). value_at rec r.bars) (rests_as k x.0 x.1) ∙ f.unbarred k x.0 (has_test ns k m) x.1;
     unlocked = λ k l m there.
         let x = t.idle k (has_test ns k m) in
         (t.free k rec x.0 (has_test ns k m) x.1 f).unlocked l (contains x.0.locks l (subst (λ (r : Rest). Has r.locks l) (rests_as k x.0 x.1) there));
     quiet = λ k m. let x = t.idle k (has_test ns k m) in ap (λ (r : Rest). refreshing_of rec r.refresh) (rests_as k x.0 x.1) ∙ (t.free k rec x.0 (has_test ns k m) x.1 f).refreshed;
   }
 
-  -- each site has just the doubts that it had, and at most the locks
+  -- each site has just the doubts and the bars that it had, and at most the locks
   module _ (entry : Commit) (new : WorldState) (c : Committed s.catalogue ns t.view q (has_from_test ns q here) (rest_of w) among members w.journal entry new) where
     same_doubts : (k : ℕ) (x y : SiteState) → Has ns k → site_of w k ≡ Some x → site_of new k ≡ Some y → y.doubts ≡ x.doubts
     same_doubts k x y m up now = let r = c.rests k m in ap (λ (z : SiteState). z.doubts) (one_state k y r.0 new now r.1) ∙ r.2.doubts ∙ ap (λ (r : Rest). r.doubts) (rests_as k x up)
 
+    same_bars : (k : ℕ) (x y : SiteState) → Has ns k → site_of w k ≡ Some x → site_of new k ≡ Some y → y.bars ≡ x.bars
+    same_bars k x y m up now = let r = c.rests k m in ap (λ (z : SiteState). z.bars) (one_state k y r.0 new now r.1) ∙ r.2.bars ∙ ap (λ (r : Rest). r.bars) (rests_as k x up)
+
     still_free : (rec : ℕ) → IsFree s.catalogue ns w rec → IsFree s.catalogue ns new rec
     still_free rec f = record {
-      enough = f.enough;
+      holder = f.holder;
+      unbarred = λ k y m now. let x = t.idle k m in ap (λ (bars : Bars). value_at rec bars) (same_bars k x.0 y (has_from_test ns k m) x.1 now) ∙ f.unbarred k x.0 m x.1;
       certain = λ k y m now. let x = t.idle k m in ap (list_any (λ (d : Doubt). has (keys d.writes) rec)) (same_doubts k x.0 y (has_from_test ns k m) x.1 now) ∙ f.certain k x.0 m x.1;
     }
 
     was_free : (rec : ℕ) → IsFree s.catalogue ns new rec → IsFree s.catalogue ns w rec
     was_free rec f = record {
-      enough = f.enough;
+      holder = f.holder;
+      unbarred = λ k x m up. let r = c.rests k (has_from_test ns k m) in ap (λ (bars : Bars). value_at rec bars) (sym (same_bars k x r.0 (has_from_test ns k m) up r.1)) ∙ f.unbarred k r.0 m r.1;
       certain = λ k x m up. let r = c.rests k (has_from_test ns k m) in ap (list_any (λ (d : Doubt). has (keys d.writes) rec)) (sym (same_doubts k x r.0 (has_from_test ns k m) up r.1)) ∙ f.certain k r.0 m r.1;
     }
 

@@ -181,7 +181,7 @@ module _ (catalogue : Catalogue) (ns : List ℕ) (v : View) (q : ℕ) (lead : Ha
         joined = still_joined catalogue ns v q rest among w new q f.at _ f.joined d;
         same = same_journal catalogue ns v q rest among w new q f.at _ journal (entry_of t ∷ []) f.same d g.commits;
         site = λ k here. ⊎_elim
-            (λ (own : k ≡ q). inl (subst (λ (k : ℕ). RestsAt k new) (sym own) (_, d.acted.now, record { held = f.leads.held; live = g.live; parts = f.leads.parts; refresh = f.leads.refresh; doubts = f.leads.doubts; locks = g.locks })))
+            (λ (own : k ≡ q). inl (subst (λ (k : ℕ). RestsAt k new) (sym own) (_, d.acted.now, record { held = f.leads.held; live = g.live; parts = f.leads.parts; refresh = f.leads.refresh; doubts = f.leads.doubts; bars = g.bars; locks = g.locks })))
             (λ other. elsewhere k here other l g id (has t.parts k) refl)
             (same_site k q);
       }

@@ -22,42 +22,43 @@ changed t now live e n = let self = same_txn-self t.txn in rw (e, n, self) refl
 module _ (r : Rest) (t : Live) (l : Lent) (h : LeadsOn r t l) where
   pub completes : (p : Pending) (deed : Deed) → LeadsOn r (done t p deed) (complete t p deed l)
   unfolding complete
-  completes p deed = record { live = changed t (done t p deed) l.live h.live refl; locks = h.locks; commits = h.commits }
+  completes p deed = record { live = changed t (done t p deed) l.live h.live refl; locks = h.locks; bars = h.bars; commits = h.commits }
 
   pub waits : (p : Pending) (sites : List ℕ) → LeadsOn r (waiting t p sites) (wait_for t p sites l)
-  waits p sites = record { live = changed t (waiting t p sites) l.live h.live refl; locks = h.locks; commits = h.commits }
+  waits p sites = record { live = changed t (waiting t p sites) l.live h.live refl; locks = h.locks; bars = h.bars; commits = h.commits }
 
   pub locks_on : (rec : ℕ) (exclusive : Bool) → LeadsOn r t (take_lock t.txn rec exclusive l)
   unfolding take_lock
-  locks_on rec exclusive = record { live = h.live; locks = takes_lock r rec exclusive t.txn l.locks h.locks; commits = h.commits }
+  locks_on rec exclusive = record { live = h.live; locks = takes_lock r rec exclusive t.txn l.locks h.locks; bars = h.bars; commits = h.commits }
 
   pub asks_read : (id : ℕ) (p : Pending) (rec k : ℕ) → LeadsOn r (reading t p rec k) (read_at id t p rec k l) × Has (read_at id t p rec k l).effects.messages (letter id k (message.ReadRequest t.txn t.view p.number rec))
   unfolding read_at
-  asks_read id p rec k = (record { live = changed t (reading t p rec k) l.live h.live refl; locks = h.locks; commits = h.commits }, has_right l.effects.messages _ _ (has_one _))
+  asks_read id p rec k = (record { live = changed t (reading t p rec k) l.live h.live refl; locks = h.locks; bars = h.bars; commits = h.commits }, has_right l.effects.messages _ _ (has_one _))
 
   pub asks_writes : (id : ℕ) (p : Pending) (rec : ℕ) (sites : List ℕ) → LeadsOn r (writing t p sites) (write_at id t p rec sites l) × ((k : ℕ) → Has sites k → Has (write_at id t p rec sites l).effects.messages (letter id k (message.WriteRequest t.txn t.view p.number rec)))
   unfolding write_at
-  asks_writes id p rec sites = (record { live = changed t (writing t p sites) l.live h.live refl; locks = h.locks; commits = h.commits }, (λ k there. has_right l.effects.messages _ _ (mapped_has (λ (q : ℕ). letter id q (message.WriteRequest t.txn t.view p.number rec)) sites k there)))
+  asks_writes id p rec sites = (record { live = changed t (writing t p sites) l.live h.live refl; locks = h.locks; bars = h.bars; commits = h.commits }, (λ k there. has_right l.effects.messages _ _ (mapped_has (λ (q : ℕ). letter id q (message.WriteRequest t.txn t.view p.number rec)) sites k there)))
 
   pub asks_votes : (catalogue : Catalogue) (id : ℕ) (p : Pending) → LeadsOn r (waiting t p t.parts) (prepare_parts catalogue id t p l) × ((k : ℕ) → Has t.parts k → Has (prepare_parts catalogue id t p l).effects.messages (letter id k (prepare_for catalogue t p k)))
   unfolding prepare_parts
-  asks_votes catalogue id p = (record { live = changed t (waiting t p t.parts) l.live h.live refl; locks = h.locks; commits = h.commits }, (λ k there. has_right l.effects.messages _ _ (mapped_has (λ (q : ℕ). letter id q (prepare_for catalogue t p q)) t.parts k there)))
+  asks_votes catalogue id p = (record { live = changed t (waiting t p t.parts) l.live h.live refl; locks = h.locks; bars = h.bars; commits = h.commits }, (λ k there. has_right l.effects.messages _ _ (mapped_has (λ (q : ℕ). letter id q (prepare_for catalogue t p q)) t.parts k there)))
 
 -- the transaction begins
-pub leads_begun : (r : Rest) (txn : TxnId) (port : ℕ) (view : ViewId) (l : Lent) → l.live ≡ [] → ((a : Lock) → Has l.locks a → Has r.locks a) → l.effects.commits ≡ [] → LeadsOn r (begun txn view) (start_txn txn port view l)
+pub leads_begun : (r : Rest) (txn : TxnId) (port : ℕ) (view : ViewId) (l : Lent) → l.live ≡ [] → ((a : Lock) → Has l.locks a → Has r.locks a) → l.bars ≡ r.bars → l.effects.commits ≡ [] → LeadsOn r (begun txn view) (start_txn txn port view l)
 unfolding start_txn
-leads_begun r txn port view l live locks commits = record { live = ap (λ (ts : List Live). ts ++ begun txn view ∷ []) live; locks = λ a h. inr (locks a h); commits = commits }
+leads_begun r txn port view l live locks bars commits = record { live = ap (λ (ts : List Live). ts ++ begun txn view ∷ []) live; locks = λ a h. inr (locks a h); bars = bars; commits = commits }
 
 -- the transaction commits: nothing of it is left at its site, and its parts are told
 pub record Decided (r : Rest) (id : ℕ) (t : Live) (l : Lent) : Type 0 where
   pub live : l.live ≡ []
   pub locks : (a : Lock) → Has l.locks a → Has r.locks a
+  pub bars : l.bars ≡ r.bars
   pub commits : l.effects.commits ≡ entry_of t ∷ []
   pub tells : (k : ℕ) → Has t.parts k → Has l.effects.messages (letter id k (message.Outcome t.txn true))
 
 keeps_writes : (r : Rest) (catalogue : Catalogue) (id : ℕ) (was t : Live) (l : Lent) → LeadsOn r was l → LeadsOn r was (keep_writes catalogue id t l)
 unfolding keep_writes
-keeps_writes r catalogue id was t l h = record { live = h.live; locks = h.locks; commits = h.commits }
+keeps_writes r catalogue id was t l h = record { live = h.live; locks = h.locks; bars = h.bars; commits = h.commits }
 
 pub decides : (r : Rest) (catalogue : Catalogue) (id : ℕ) (was t : Live) (l : Lent) → was.txn ≡ t.txn → LeadsOn r was l → Decided r id t (decide catalogue id t l)
 decides r catalogue id was t l named h = decide-cases (Decided r id t) catalogue id t l (λ e. ends l h) (λ e. ends (keep_writes catalogue id t l) (keeps_writes r catalogue id was t l h))
@@ -71,6 +72,7 @@ decides r catalogue id was t l named h = decide-cases (Decided r id t) catalogue
         record {
           live = ap (λ (c : CoordinatorState). c.live) e.coordinator ∙ ended l.live g.live;
           locks = λ a there. gives_back r t.txn l.locks (subst (λ (u : TxnId). OrRests r u l.locks) named g.locks) a (rw (ap (λ (h : Here). h.locks) e.here) at there);
+          bars = ap (λ (h : Here). h.bars) e.here ∙ g.bars;
           commits = decided-commits id t l ∙ ap (λ (cs : List Commit). cs ++ entry_of t ∷ []) g.commits;
           tells = λ k there. rw e.messages (has_right l.effects.messages _ _ (mapped_has (λ (q : ℕ). letter id q (message.Outcome t.txn true)) t.parts k there));
         }

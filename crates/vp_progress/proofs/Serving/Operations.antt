@@ -1,6 +1,7 @@
 -- A read or a write is done: at once, or when the holders that are asked have answered.
 use Rattle.std.proofs.Common.{◌≡◌, ◌≢◌, ◌⊎◌, ◌∙◌, ap, sym, subst, ℕ, ◌+◌, ◌*◌, ◌<◌, ◌≤◌, Bool, true, false, List, [], ◌∷◌, ◌++◌, length, refl, arith, ⊎_elim, inl, inr, length-append}
 use Rattle.std.specs.Prelude.{Option, Some, None, ◌==◌, ◌&&◌, not, nat_eq, nat_lt, nat_le, option_map, sum_by}
+use Rattle.std.specs.List.{list_any}
 use Rattle.std.proofs.lemmas.Bool.{eqb-true}
 use Rattle.std.proofs.lemmas.Bool.Decides.{nat_tests}
 use Rattle.std.proofs.lemmas.List.Sums.{fold-append}
@@ -10,16 +11,16 @@ use Rattle.vp_model.specs.Types.input
 use Rattle.vp_model.specs.Types.message
 use Rattle.vp_model.specs.Types.op
 use Rattle.vp_model.specs.Words.{first, for_each, has, is_empty, put_number, value_at}
-use Rattle.vp_model.specs.Catalogue.{Catalogue, find_record, holders, weights_of, accessible}
+use Rattle.vp_model.specs.Catalogue.{Catalogue, find_record, holders}
 use Rattle.vp_model.specs.Locks.{conflict}
-use Rattle.vp_model.specs.Site.{SiteState, Lent, begin_step, put_back}
+use Rattle.vp_model.specs.Site.{Bars, SiteState, Lent, begin_step, put_back}
 use Rattle.vp_model.specs.Transactions.{Deed, with_op, last_writes, last_changes, entry_of, with_deed, complete}
-use Rattle.vp_model.specs.Refresh.{members_in, is_usable_in, other_holders_in}
+use Rattle.vp_model.specs.Refresh.{members_in, other_holders_in}
 use Rattle.vp_model.specs.Messages.{holds_view, grant}
 use Rattle.vp_model.specs.Calls.{content_size, size_of, is_too_large, handled, change_asked, answer_read, read, read_at, change, write_at, change_elsewhere, take_lock}
 use Rattle.vp_model.specs.Step.{step}
 use Rattle.vp_model.specs.World.{WorldState}
-use Rattle.vp_laws.proofs.Lists.Members.{Has, has_none, has_one, has_one_is, has_first, has_more, has_cons, has_test, has_from_test, filter_has, filter_keeps, both_true}
+use Rattle.vp_laws.proofs.Lists.Members.{Has, has_none, has_one, has_one_is, has_first, has_more, has_cons, has_test, has_from_test, any_of, filter_has, filter_keeps, both_true}
 use Rattle.vp_laws.proofs.Lists.Changes.{put_new}
 use Rattle.vp_laws.proofs.Lists.Views.{put_keeps, put_only}
 use Rattle.vp_laws.proofs.Lists.Numbers.{differs, not_same}
@@ -29,7 +30,6 @@ use Rattle.vp_laws.proofs.Journal.Changed.{HasChanged, alters, changed_by}
 use Rattle.vp_laws.proofs.Moves.Calls.{waiting, done}
 use Rattle.vp_laws.proofs.Shapes.Live.{put_size}
 use Rattle.vp_laws.proofs.Worlds.Scenes.{scene_of}
-use Rattle.vp_laws.proofs.Copies.Force.{shared_by}
 use Rattle.vp_laws.proofs.Invariant.Held.{has_copy}
 use Rattle.vp_laws.proofs.Invariant.Known.{Known}
 use Rattle.vp_progress.specs.Going.{is_regroup, serves}
@@ -75,10 +75,6 @@ other_holder catalogue id rec k v held e h =
 pub is_other : (catalogue : Catalogue) (id rec k : ℕ) (v : View) (held : Option View) → held ≡ Some v → Has v.members k → k ≢ id → Has (holders catalogue rec) k → Has (other_holders_in catalogue id held rec) k
 is_other catalogue id rec k v held e member other holder =
     filter_keeps (λ (q : ℕ). has (members_in held) q && not (q == id)) (holders catalogue rec) k holder (rw (e, has_test v.members k member, not_same k id other) refl)
-
--- an accessible record has a holder in the view
-a_holder : (catalogue : Catalogue) (rec : ℕ) (members : List ℕ) → accessible catalogue rec members ≡ true → (k : ℕ) × Has (holders catalogue rec) k × Has members k
-a_holder catalogue rec members e = let h = shared_by (weights_of catalogue rec) members members e e in (h.0, h.1, h.2)
 
 first_of : (xs : List ℕ) (k : ℕ) → Has xs k → (j : ℕ) × (first xs ≡ Some j) × Has xs j
 first_of [] k h = absurd (has_none k h)
@@ -170,6 +166,9 @@ module _ (catalogue : Catalogue) (ns : List ℕ) (v : View) (q : ℕ) (lead : Ha
     copy_there : (stored : Stored) × (value_at rec lender.copies ≡ Some stored)
     copy_there = let o = f.others k here n in has_copy catalogue (scene_of w) k o.at o.up (f.known.views.site k o.at o.up).kept f.known.held rec holder
 
+    open_there : value_at rec lender.bars ≡ None
+    open_there = ap (λ (bars : Bars). value_at rec bars) (f.others k here n).lends.bars ∙ free.unbarred k here
+
     holds_there : holds_view lender t.view ≡ true
     holds_there = subst (λ (i : ViewId). holds_view lender i ≡ true) (sym (led_in catalogue ns v q rest among journal t missing w f).0) (holds_it lender v (f.others k here n).lends.held)
 
@@ -185,10 +184,10 @@ module _ (catalogue : Catalogue) (ns : List ℕ) (v : View) (q : ℕ) (lead : Ha
         exchanges catalogue ns v q rest among journal lead t missing w k here n f part words answer sent (subst (Gives v (rest k) t.txn lender lends q answer) (sym row) (grants_on v (rest k) t.txn lender lends t.view rec exclusive answer q))
 
     reads_there : Has w.sent (letter q k (message.ReadRequest t.txn t.view number rec)) → Gets (message.ReadAnswer t.txn number copy_there.0.value)
-    reads_there sent = granted_there false _ _ sent (grants_read catalogue lender q t.txn t.view number rec copy_there.0 holds_there (f.others k here n).lends.new copy_there.1 (free_there false))
+    reads_there sent = granted_there false _ _ sent (grants_read catalogue lender q t.txn t.view number rec copy_there.0 holds_there (f.others k here n).lends.new copy_there.1 open_there (free_there false))
 
     writes_there : Has w.sent (letter q k (message.WriteRequest t.txn t.view number rec)) → Gets (message.WriteAnswer t.txn number)
-    writes_there sent = granted_there true _ _ sent (grants_write catalogue lender q t.txn t.view number rec copy_there.0 holds_there (f.others k here n).lends.new copy_there.1 (free_there true))
+    writes_there sent = granted_there true _ _ sent (grants_write catalogue lender q t.txn t.view number rec copy_there.0 holds_there (f.others k here n).lends.new copy_there.1 open_there (free_there true))
 
   module _ (t : Live) (w : WorldState) (f : Goes t [] w) (idle : t.pending ≡ None) (few : length t.answers < 64) (name : List ℕ) (rec : ℕ) (found : find_record catalogue name ≡ Some rec) (free : Free rec) where
     abbrev x : SiteState
@@ -200,8 +199,11 @@ module _ (catalogue : Catalogue) (ns : List ℕ) (v : View) (q : ℕ) (lead : Ha
     mine : LeadsOn (rest q) t (lent_at x)
     mine = leads_first v (rest q) t x f.leads
 
-    usable : is_usable_in catalogue x.held rec ≡ true
-    usable = subst (λ (held : Option View). is_usable_in catalogue held rec ≡ true) (sym f.leads.held) free.enough
+    open_here : value_at rec x.bars ≡ None
+    open_here = ap (λ (bars : Bars). value_at rec bars) f.leads.bars ∙ free.unbarred q lead
+
+    held_here : list_any (has (members_in x.held)) (holders catalogue rec) ≡ true
+    held_here = let h = free.holder in subst (λ (held : Option View). list_any (has (members_in held)) (holders catalogue rec) ≡ true) (sym f.leads.held) (any_of (has v.members) (holders catalogue rec) h.0 h.1 (has_test v.members h.0 h.2))
 
     unlocked : (exclusive : Bool) → conflict rec exclusive t.txn x.locks ≡ None
     unlocked exclusive = rests_free (rest q) rec exclusive t.txn x.locks f.leads.locks (λ l h. free.unlocked q l lead h)
@@ -281,11 +283,11 @@ module _ (catalogue : Catalogue) (ns : List ℕ) (v : View) (q : ℕ) (lead : Ha
         p = handled 0 number (call.Read t.txn number name)
 
         row : step catalogue x (input.Call 0 (call.Read t.txn number name)) ≡ put_back (begin_step x) (read catalogue x.id x.held t p name rec (lent_at x))
-        row = reads catalogue x t number f.leads.live refl idle name rec found (few_calls (length t.answers) few) usable
+        row = reads catalogue x t number f.leads.live refl idle name rec found (few_calls (length t.answers) few) open_here held_here
 
         asks : (new : WorldState) → Known catalogue (scene_of new) → Did w new q x (step catalogue x (input.Call 0 (call.Read t.txn number name))) → value_at rec (last_writes t.ops) ≡ None → value_at rec x.copies ≡ None → Reaches new (Done t (Wish.read name))
         asks new known d e c =
-            let h = a_holder catalogue rec v.members free.enough in
+            let h = free.holder in
             let away : h.0 ≢ q = (λ (same : h.0 ≡ q). let copy = has_copy catalogue (scene_of w) q x f.up (f.known.views.site q x f.up).kept f.known.held rec (subst (Has (holders catalogue rec)) same h.1) in let z = sym c ∙ copy.1 in cc) in
             let k = first_of (other_holders_in catalogue x.id x.held rec) h.0 (is_other catalogue x.id rec h.0 v x.held f.leads.held h.2 (λ same. away (same ∙ id_is)) h.1) in
             read_asked k.0 k.2 new known (subst (Did w new q x) (row ∙ ap (put_back (begin_step x)) (read_there catalogue x.id x.held t (lent_at x) p name rec k.0 e c k.1)) d)
@@ -376,12 +378,12 @@ module _ (catalogue : Catalogue) (ns : List ℕ) (v : View) (q : ℕ) (lead : Ha
     write_done : (value : List ℕ) → size_of t + length value ≤ 15360 → Reaches w (Done t (Wish.write name value))
     write_done value small =
         change_done (Some value) (call.Write t.txn number name value) (Wish.write name value) (found, refl) (asked_of (λ rec. Deed.operates (op.Write rec (Some value))))
-        (λ rec. Deed.operates (op.Write rec (Some value))) refl refl (writes catalogue x t number f.leads.live refl idle name value rec found (few_calls (length t.answers) few) (not_too_large t rec value small) usable)
+        (λ rec. Deed.operates (op.Write rec (Some value))) refl refl (writes catalogue x t number f.leads.live refl idle name value rec found (few_calls (length t.answers) few) (not_too_large t rec value small) open_here held_here)
 
     delete_done : Reaches w (Done t (Wish.delete name))
     delete_done =
         change_done None (call.Delete t.txn number name) (Wish.delete name) (found, refl) (asked_of (λ rec. Deed.operates (op.Write rec None)))
-        (λ rec. Deed.operates (op.Write rec None)) refl refl (deletes catalogue x t number f.leads.live refl idle name rec found (few_calls (length t.answers) few) usable)
+        (λ rec. Deed.operates (op.Write rec None)) refl refl (deletes catalogue x t number f.leads.live refl idle name rec found (few_calls (length t.answers) few) open_here held_here)
 
   -- a wish of a free record is fulfilled
   pub fulfils_one : (t : Live) (w : WorldState) → Goes t [] w → t.pending ≡ None → length t.answers < 64 → (wish : Wish) → size_of t + bytes_in wish ≤ 15360 → (rec : ℕ) → find_record catalogue (name_in wish) ≡ Some rec → Free rec → Reaches w (Done t wish)

@@ -1,17 +1,18 @@
 -- Calls of a client whose transaction is the only live one of its site: which row each takes.
 use Rattle.std.proofs.Common.{◌≡◌, ◌∙◌, ap, ℕ, ◌+◌, ◌-◌, ◌^◌, Bool, true, false, List, [], ◌∷◌, length, refl, arith}
 use Rattle.std.specs.Prelude.{Option, Some, None, ◌==◌, nat_le, nat_lt}
+use Rattle.std.specs.List.{list_any}
 use Rattle.std.proofs.lemmas.Bool.Decides.{nat_tests}
 use Rattle.vp_model.specs.Types.{View, Stored, Change, Call, Pending, Live}
 use Rattle.vp_model.specs.Types.call
 use Rattle.vp_model.specs.Types.input
 use Rattle.vp_model.specs.Types.op
-use Rattle.vp_model.specs.Words.{first, is_empty, value_at}
-use Rattle.vp_model.specs.Catalogue.{Catalogue, find_record}
+use Rattle.vp_model.specs.Words.{first, has, is_empty, value_at}
+use Rattle.vp_model.specs.Catalogue.{Catalogue, find_record, holders}
 use Rattle.vp_model.specs.Locks.{conflict}
 use Rattle.vp_model.specs.Site.{Surroundings, SiteState, Lent, begin_step, surroundings, put_back}
 use Rattle.vp_model.specs.Transactions.{Deed, last_writes, last_changes, entry_of, complete, decide}
-use Rattle.vp_model.specs.Refresh.{is_usable_in, other_holders_in}
+use Rattle.vp_model.specs.Refresh.{members_in, other_holders_in}
 use Rattle.vp_model.specs.Calls.{next_txn, start_txn, begin_in, on_begin, handling, with_record, take_lock, lock_here, answer_read, read_at, read, write_at, change_elsewhere, change, new_change, is_bad_table, is_too_large, short, prepare_parts, commit, new_call, live_call, handled, on_txn_call, own_call, on_call}
 use Rattle.vp_model.specs.Step.{on_input, step}
 use Rattle.vp_model.proofs.SameTxn.{same_txn-self}
@@ -40,7 +41,7 @@ module _ (catalogue : Catalogue) (id : ℕ) (held : Option View) (t : Live) (l :
       let tests = new_number number (length t.answers) n in
       rw (e, self, tests.0, tests.1, p) refl
 
-  record_is : (p : Pending) (name : List ℕ) (asked : ℕ → Deed) (rec : ℕ) (use_record : ℕ → Lent → Lent) → find_record catalogue name ≡ Some rec → is_bad_table catalogue (asked rec) ≡ false → nat_le 64 (length t.answers) ≡ false → is_too_large t (asked rec) ≡ false → short catalogue held rec (asked rec) ≡ None
+  record_is : (p : Pending) (name : List ℕ) (asked : ℕ → Deed) (rec : ℕ) (use_record : ℕ → Lent → Lent) → find_record catalogue name ≡ Some rec → is_bad_table catalogue (asked rec) ≡ false → nat_le 64 (length t.answers) ≡ false → is_too_large t (asked rec) ≡ false → short catalogue held l.bars rec (asked rec) ≡ None
       → with_record catalogue held t p name asked use_record l ≡ use_record rec l
   unfolding with_record
   record_is p name asked rec use_record f table few small u = rw (f, table, few, small, u) refl
@@ -99,31 +100,31 @@ module _ (catalogue : Catalogue) (id : ℕ) (held : Option View) (t : Live) (l :
 -- ---- the steps
 
 module _ (catalogue : Catalogue) (x : SiteState) (t : Live) (number : ℕ) (live : x.live ≡ t ∷ []) (next : number ≡ length t.answers + 1) (idle : t.pending ≡ None) where
-  pub reads : (name : List ℕ) (rec : ℕ) → find_record catalogue name ≡ Some rec → nat_le 64 (length t.answers) ≡ false → is_usable_in catalogue x.held rec ≡ true
+  pub reads : (name : List ℕ) (rec : ℕ) → find_record catalogue name ≡ Some rec → nat_le 64 (length t.answers) ≡ false → value_at rec x.bars ≡ None → list_any (has (members_in x.held)) (holders catalogue rec) ≡ true
       → step catalogue x (input.Call 0 (call.Read t.txn number name)) ≡ put_back (begin_step x) (read catalogue x.id x.held t (handled 0 number (call.Read t.txn number name)) name rec (lent_at x))
   unfolding step on_input on_call own_call new_call
-  reads name rec f n u =
+  reads name rec f n open held =
       let words = call.Read t.txn number name in
       let p = handled 0 number words in
-      ap (put_back (begin_step x)) (call_is catalogue x.id x.held t (lent_at x) number words live next idle ∙ record_is catalogue x.id x.held t (lent_at x) p name (λ rec. Deed.operates (op.Read rec None)) rec (read catalogue x.id x.held t p name) f refl n refl (rw u refl))
+      ap (put_back (begin_step x)) (call_is catalogue x.id x.held t (lent_at x) number words live next idle ∙ record_is catalogue x.id x.held t (lent_at x) p name (λ rec. Deed.operates (op.Read rec None)) rec (read catalogue x.id x.held t p name) f refl n refl (rw (open, held) refl))
 
-  pub writes : (name value : List ℕ) (rec : ℕ) → find_record catalogue name ≡ Some rec → nat_le 64 (length t.answers) ≡ false → is_too_large t (Deed.operates (op.Write rec (Some value))) ≡ false → is_usable_in catalogue x.held rec ≡ true
+  pub writes : (name value : List ℕ) (rec : ℕ) → find_record catalogue name ≡ Some rec → nat_le 64 (length t.answers) ≡ false → is_too_large t (Deed.operates (op.Write rec (Some value))) ≡ false → value_at rec x.bars ≡ None → list_any (has (members_in x.held)) (holders catalogue rec) ≡ true
       → step catalogue x (input.Call 0 (call.Write t.txn number name value)) ≡ put_back (begin_step x) (change catalogue x.id x.held t (handled 0 number (call.Write t.txn number name value)) name (λ rec. Deed.operates (op.Write rec (Some value))) rec (lent_at x))
   unfolding step on_input on_call own_call new_call new_change
-  writes name value rec f n small u =
+  writes name value rec f n small open held =
       let words = call.Write t.txn number name value in
       let p = handled 0 number words in
       let asked : ℕ → Deed = λ rec. Deed.operates (op.Write rec (Some value)) in
-      ap (put_back (begin_step x)) (call_is catalogue x.id x.held t (lent_at x) number words live next idle ∙ record_is catalogue x.id x.held t (lent_at x) p name asked rec (change catalogue x.id x.held t p name asked) f refl n small (rw u refl))
+      ap (put_back (begin_step x)) (call_is catalogue x.id x.held t (lent_at x) number words live next idle ∙ record_is catalogue x.id x.held t (lent_at x) p name asked rec (change catalogue x.id x.held t p name asked) f refl n small (rw (open, held) refl))
 
-  pub deletes : (name : List ℕ) (rec : ℕ) → find_record catalogue name ≡ Some rec → nat_le 64 (length t.answers) ≡ false → is_usable_in catalogue x.held rec ≡ true
+  pub deletes : (name : List ℕ) (rec : ℕ) → find_record catalogue name ≡ Some rec → nat_le 64 (length t.answers) ≡ false → value_at rec x.bars ≡ None → list_any (has (members_in x.held)) (holders catalogue rec) ≡ true
       → step catalogue x (input.Call 0 (call.Delete t.txn number name)) ≡ put_back (begin_step x) (change catalogue x.id x.held t (handled 0 number (call.Delete t.txn number name)) name (λ rec. Deed.operates (op.Write rec None)) rec (lent_at x))
   unfolding step on_input on_call own_call new_call new_change
-  deletes name rec f n u =
+  deletes name rec f n open held =
       let words = call.Delete t.txn number name in
       let p = handled 0 number words in
       let asked : ℕ → Deed = λ rec. Deed.operates (op.Write rec None) in
-      ap (put_back (begin_step x)) (call_is catalogue x.id x.held t (lent_at x) number words live next idle ∙ record_is catalogue x.id x.held t (lent_at x) p name asked rec (change catalogue x.id x.held t p name asked) f refl n refl (rw u refl))
+      ap (put_back (begin_step x)) (call_is catalogue x.id x.held t (lent_at x) number words live next idle ∙ record_is catalogue x.id x.held t (lent_at x) p name asked rec (change catalogue x.id x.held t p name asked) f refl n refl (rw (open, held) refl))
 
   pub commits : step catalogue x (input.Call 0 (call.Commit t.txn number)) ≡ put_back (begin_step x) (commit catalogue x.id t (handled 0 number (call.Commit t.txn number)) (lent_at x))
   unfolding step on_input on_call own_call new_call

@@ -4,7 +4,8 @@ use Rattle.std.specs.Prelude.{Some, None}
 use Rattle.std.specs.List.{list_any}
 use Rattle.vp_model.specs.Types.{TxnId, View, Commit, Sent, Call, Message, Lock, Live}
 use Rattle.vp_model.specs.Types.input
-use Rattle.vp_model.specs.Catalogue.{Catalogue, accessible}
+use Rattle.vp_model.specs.Words.{value_at}
+use Rattle.vp_model.specs.Catalogue.{Catalogue, holders}
 use Rattle.vp_model.specs.Site.{SiteState, Lent, Stepped, begin_step, put_back}
 use Rattle.vp_model.specs.Refresh.{refreshing_of}
 use Rattle.vp_model.specs.Step.{step}
@@ -29,9 +30,10 @@ abbrev pub TakesAt : TxnId → ℕ → WorldState → Type 0
 TakesAt txn k w = (x : SiteState) × (site_of w k ≡ Some x) × Takes txn x
 
 module _ (catalogue : Catalogue) (ns : List ℕ) (v : View) (q : ℕ) (rest : ℕ → Rest) (among : (k : ℕ) → Has v.members k → Has ns k) where
-  -- the record is usable in the view, and nothing of it rests at a site
+  -- a member holds the record, no bar is on it, and nothing of it rests at a site
   pub record IsUnused (rec : ℕ) : Type 0 where
-    pub enough : accessible catalogue rec v.members ≡ true
+    pub holder : (k : ℕ) × Has (holders catalogue rec) k × Has v.members k
+    pub unbarred : (k : ℕ) → Has ns k → value_at rec (rest k).bars ≡ None
     pub unlocked : (k : ℕ) (l : Lock) → Has ns k → Has (rest k).locks l → l.rec ≢ rec
     pub quiet : (k : ℕ) → Has ns k → refreshing_of rec (rest k).refresh ≡ None
 

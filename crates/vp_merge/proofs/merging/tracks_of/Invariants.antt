@@ -10,5 +10,5 @@ abbrev pub invariant-loop-site : goal.invariant-loop-site
 invariant-loop-site l = record {
   sites : map (λ (t : Track). t.site) l.tracks.items ≡ take l.site-index (sites_of l.catalog);
   left : AllByRecursion (λ (t : Track). track_of t ≡ first_track l.recordings t.site) l.tracks.items;
-  are : AllByRecursion IsTrack l.tracks.items;
+  are : AllByRecursion (IsTrack l.numbers) l.tracks.items;
 }

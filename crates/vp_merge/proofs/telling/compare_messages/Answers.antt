@@ -27,5 +27,5 @@ loop-sent-preserved c =
           ap (λ (ys : List Sent). agrees c.args.comparison.now (map (λ (sent : Sent). frame_bytes (message_frame sent)) ys ++ made)) more
           ∙ ap (λ (ys : List (List ℕ)). agrees c.args.comparison.now (ys ++ made)) (map-append (λ (sent : Sent). frame_bytes (message_frame sent)) (take i xs) (sent ∷ []))
           ∙ agrees_more c.args.comparison.now c.loop-sent.comparison c.compare.new.self (map (λ (sent : Sent). frame_bytes (message_frame sent)) (take i xs)) frame h.compared (λ made. ap (λ (f : List ℕ). agrees c.loop-sent.comparison (f ∷ made)) (sym room) ∙ c.compare.ensures made) made;
-      noted = subst (λ (ys : List Sent). Notes c.args.first ys c.args.numbers.now c.note.new.self) (sym more) (notes_more c.args.first (take i xs) c.args.numbers.now c.loop-sent.numbers c.note.new.self sent c.deref-in-loop-sent.result.now c.loop-sent.number h.noted c.note.ensures (omega (arith, counted, many)) again);
+      noted = subst (λ (ys : List Sent). Notes c.args.first ys c.args.numbers.now c.note.new.self) (sym more) (notes_more c.args.first (take i xs) c.args.numbers.now c.loop-sent.numbers c.note.new.self sent c.deref-in-loop-sent.result.now c.loop-sent.number h.noted c.note.ensures.same c.note.ensures.noted (omega (arith, counted, many)) again);
     }

@@ -13,14 +13,14 @@ pub returns-clause-merging : goal.returns-clause-merging
 returns-clause-merging c =
     let s = c.in_ok-start.ensures in
     let ts = c.in_ok-tracks_of.ensures in
-    let fs = c.in_ok-frames_of.ensures in
+    let fs = c.in_ok-numbers.ensures in
     record {
       played = s.played;
       catalogue_is = ap (λ (k : Known). k.catalogue) s.world;
       sites = ts.sites;
       tracks_are = ts.are;
-      index = subst (IsIndex c.in_ok-frames_of.field-0) (sym (ap (λ (k : Known). k.world.sent) s.world ∙ no_sent c.args.catalog.now)) fs.index;
-      there = tracks_there c.in_ok-frames_of.field-0 c.args.recordings.now fs.there c.in_ok-tracks_of.field-0.items ts.left;
+      index = subst (IsIndex c.in_ok-numbers.numbers) (sym (ap (λ (k : Known). k.world.sent) s.world ∙ no_sent c.args.catalog.now)) fs.index;
+      there = tracks_there c.in_ok-numbers.numbers c.args.recordings.now fs.there c.in_ok-tracks_of.field-0.items ts.left;
     }
 
 pub returns-clause-state : goal.returns-clause-state
