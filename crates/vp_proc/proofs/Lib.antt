@@ -4,3 +4,4 @@ pub mod Told
 pub mod Sessions
 pub mod Walked
 pub mod Playing
+pub mod Begun

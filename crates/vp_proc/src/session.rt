@@ -111,6 +111,7 @@ impl Session {
         requires procedure { IsProcedure procedure.now }
         ensures finishes { (old : LinkState) → IsAt self.old procedure.now old (script procedure.now) (L.state link.old)
             → Finishes self.new procedure.now old (L.state link.new) result }
+        ensures same { self.new ≡ record self.old { ops = self.new.ops } }
         ensures stays { StaysBound (L.state link.old) (L.state link.new) }
     {
         let mut walk = Walk::new(procedure.first);
