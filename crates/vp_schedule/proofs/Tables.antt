@@ -215,19 +215,19 @@ step_right : (above n : ℕ) (room : above < 16) (bytes : List ℕ) → ((next :
     → IsRight (Step above) bytes (share_at above bytes >>= λ share. with_first share.0 (shares_at n share.0.0 share.1))
 step_right above n room bytes rest =
     let e = share_exact above room in
-    tail_right is_digit (one_value e) (share_goes above) others_tail no_others (right e bytes)
+    tail_right (ShareText above) (λ (w : ℕ × ℕ). Made (Others w.0) (λ ws. w ∷ ws)) is_digit (one_value e) (share_goes above) others_tail no_others (right e bytes)
     (λ w mid h. made_right (λ ws. w ∷ ws) (rest w.0 (e.ok bytes w mid h).spelled.0.higher mid))
 
-reads : (n above : ℕ) → 16 ≤ above + n → (bytes : List ℕ) → IsRight (Others above) bytes (shares_at n above bytes)
+-- a share more, or none
+reads_on : (above n : ℕ) → ((next : ℕ) → above < next → (mid : List ℕ) → IsRight (Others next) mid (shares_at n next mid)) → (bytes : List ℕ) → IsRight (Others above) bytes (shares_at (suc n) above bytes)
 unfolding shares_at
-reads zero above le bytes = none_right above bytes (no_room above bytes (omega (arith, le)))
-reads (suc n) above le bytes = go (nat_lt above 16) refl bytes
+reads_on above n rest bytes = go (nat_lt above 16) refl bytes
   where
     here : above < 16 → (bytes : List ℕ) → IsRight (Step above) bytes (share_at above bytes >>= λ share. with_first share.0 (shares_at n share.0.0 share.1))
-    here room bytes = step_right above n room bytes (λ next lt mid. reads n next (omega (arith, le, lt)) mid)
+    here room bytes = step_right above n room bytes rest
 
     spaced : nat_lt above 16 ≡ true → (c : ℕ) (cs : List ℕ) (b : Bool) → (c == 32) ≡ b
-        → IsRight (Others above) (c ∷ cs) (if b then share_at above (c ∷ cs) >>= λ share. with_first share.0 (shares_at n share.0.0 share.1) else Ok ([], c ∷ cs))
+        → IsRight (Others above) (c ∷ cs) (if b then (share_at above (c ∷ cs) >>= λ share. with_first share.0 (shares_at n share.0.0 share.1)) else Ok ([], c ∷ cs))
     spaced on c cs true is =
         let room : above < 16 = ltb-true above 16 on in
         let space : 32 ≡ c = sym (eqb-true c 32 is) in
@@ -235,14 +235,19 @@ reads (suc n) above le bytes = go (nat_lt above 16) refl bytes
     spaced on c cs false is = none_right above (c ∷ cs) (no_space above (c ∷ cs) is)
 
     spaced_or_not : nat_lt above 16 ≡ true → (bytes : List ℕ)
-        → IsRight (Others above) bytes (if begins_space bytes then share_at above bytes >>= λ share. with_first share.0 (shares_at n share.0.0 share.1) else Ok ([], bytes))
+        → IsRight (Others above) bytes (if begins_space bytes then (share_at above bytes >>= λ share. with_first share.0 (shares_at n share.0.0 share.1)) else Ok ([], bytes))
     spaced_or_not on [] = none_right above [] (no_space above [] refl)
     spaced_or_not on (c ∷ cs) = spaced on c cs (c == 32) refl
 
     go : (b : Bool) → nat_lt above 16 ≡ b → (bytes : List ℕ)
-        → IsRight (Others above) bytes (if b && begins_space bytes then share_at above bytes >>= λ share. with_first share.0 (shares_at n share.0.0 share.1) else Ok ([], bytes))
+        → IsRight (Others above) bytes (if b && begins_space bytes then (share_at above bytes >>= λ share. with_first share.0 (shares_at n share.0.0 share.1)) else Ok ([], bytes))
     go true on bytes = spaced_or_not on bytes
     go false off bytes = none_right above bytes (no_room above bytes (ltb-false above 16 off))
+
+reads : (n above : ℕ) → 16 ≤ above + n → (bytes : List ℕ) → IsRight (Others above) bytes (shares_at n above bytes)
+unfolding shares_at
+reads zero above le bytes = none_right above bytes (no_room above bytes (omega (arith, le)))
+reads (suc n) above le bytes = reads_on above n (λ next lt mid. reads n next (omega (arith, le, lt)) mid) bytes
 
 -- ---- tables
 

@@ -1,5 +1,5 @@
 -- A text, and after it one that may be empty: it goes on with a byte that the first can't go on with.
-use Rattle.std.proofs.Common.{◌≡◌, ℕ, Bool, true, false, List, [], ◌∷◌, ◌++◌, Result, Ok, refl, sym, ap, subst, ◌∙◌, append_assoc, inl, inr, ◌⊎◌}
+use Rattle.std.proofs.Common.{◌≡◌, ℕ, Bool, true, false, List, [], ◌∷◌, ◌++◌, Result, Ok, Err, refl, sym, ap, subst, ◌∙◌, append_assoc, inl, inr, ◌⊎◌}
 use Rattle.std.proofs.lemmas.List.{append-nil}
 use Rattle.std.proofs.lemmas.Bool.{false≢true}
 use Rattle.vp_text.specs.Reading.{◌>>=◌}
@@ -19,34 +19,34 @@ parts_on [] k rest h = absurd h
 parts_on (x ∷ s) k [] h = tt
 parts_on (x ∷ s) k (c ∷ rest) h = h
 
-module _ {A B : Type 0} {L : A → List ℕ → Type 0} {M : A → B → List ℕ → Type 0} (has : ℕ → Bool) (one : IsOne L) (goes : GoesOn has L) (tail : (a : A) → IsTail has (M a)) (none : (a : A) → (b : B) × M a b []) where
+-- the first text goes on, where nothing of the second was read
+record Longer {A : Type 0} (L : A → List ℕ → Type 0) (p q r : List ℕ) : Type 0 where
+  value : A
+  byte : ℕ
+  more : List ℕ
+  back : List ℕ
+  spelled : L value (p ++ byte ∷ more)
+  nothing : q ≡ []
+  is : r ≡ (byte ∷ more) ++ back
+
+module _ {A B : Type 0} (L : A → List ℕ → Type 0) (M : A → B → List ℕ → Type 0) (has : ℕ → Bool) (one : IsOne L) (goes : GoesOn has L) (tail : (a : A) → IsTail has (M a)) (none : (a : A) → (b : B) × M a b []) where
   no_shorter : (a a2 : A) (f : List ℕ) (x : ℕ) (u back v : List ℕ) (b : B) → L a2 f → L a (f ++ x ∷ u) → M a2 b back → back ≡ x ∷ v → ⊥
   no_shorter a a2 f x u back v b l k m e = false≢true (sym (tail a2 b x v (subst (M a2 b) e m)) ∙ goes a2 a f x u l k)
 
-  -- the first text goes on, where nothing of the second was read
-  record Longer (p q r : List ℕ) : Type 0 where
-    value : A
-    byte : ℕ
-    more : List ℕ
-    back : List ℕ
-    spelled : L value (p ++ byte ∷ more)
-    nothing : q ≡ []
-    is : r ≡ (byte ∷ more) ++ back
-
-  after : (a : A) (p : List ℕ) → L a p → (q more : List ℕ) (seen : B) → M a seen (q ++ more) → (c : B) (r : List ℕ) → Then L M c ((p ++ q) ++ r) → M a c (q ++ r) ⊎ Longer p q r
+  after : (a : A) (p : List ℕ) → L a p → (q more : List ℕ) (seen : B) → M a seen (q ++ more) → (c : B) (r : List ℕ) → Then L M c ((p ++ q) ++ r) → M a c (q ++ r) ⊎ Longer L p q r
   after a p la q more seen ms c r h =
       elim (cut p (q ++ r) h.front h.back (sym (append_assoc p q r) ∙ h.parts)) [
         | inl w ↦ by_rest w.0 w.1 w.2
         | inr w ↦ absurd (no_shorter a h.first h.front w.0 w.1 h.back (w.1 ++ (q ++ r)) c h.before (subst (L a) w.2 la) h.after w.3)
       ]
     where
-      by_read : (q : List ℕ) (x : ℕ) (s : List ℕ) → M a seen (q ++ more) → has x ≡ true → L h.first (p ++ x ∷ s) → q ++ r ≡ (x ∷ s) ++ h.back → Longer p q r
+      by_read : (q : List ℕ) (x : ℕ) (s : List ℕ) → M a seen (q ++ more) → has x ≡ true → L h.first (p ++ x ∷ s) → q ++ r ≡ (x ∷ s) ++ h.back → Longer L p q r
       by_read [] x s m on l e = record { value = h.first; byte = x; more = s; back = h.back; spelled = l; nothing = refl; is = e }
       by_read (d ∷ q) x s m on l e =
           let same : d ≡ x = cc in
           absurd (false≢true (sym (tail a seen d (q ++ more) m) ∙ ap has same ∙ on))
 
-      by_rest : (s : List ℕ) → h.front ≡ p ++ s → q ++ r ≡ s ++ h.back → M a c (q ++ r) ⊎ Longer p q r
+      by_rest : (s : List ℕ) → h.front ≡ p ++ s → q ++ r ≡ s ++ h.back → M a c (q ++ r) ⊎ Longer L p q r
       by_rest [] front-is back-is =
           let lf : L h.first p = subst (L h.first) (front-is ∙ append-nil p) h.before in
           inl (subst (M a c) (sym back-is) (subst (λ (v : A). M v c h.back) (one h.first a p lf la) h.after))

@@ -27,7 +27,7 @@ unfoldable pub shares_at : ℕ → ℕ → List ℕ → Result (List (ℕ × ℕ
 shares_at zero above bytes = Ok ([], bytes)
 shares_at (suc n) above bytes =
     if goes_on above bytes
-    then share_at above bytes >>= λ share. with_first share.0 (shares_at n share.0.0 share.1)
+    then (share_at above bytes >>= λ share. with_first share.0 (shares_at n share.0.0 share.1))
     else Ok ([], bytes)
 
 unfoldable pub table_at : List ℕ → Result (List (ℕ × ℕ) × List ℕ) ℕ
