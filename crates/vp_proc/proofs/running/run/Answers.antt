@@ -1,4 +1,4 @@
-use Rattle.std.proofs.Common.{◌≡◌, ◌∙◌, refl, sym, inl}
+use Rattle.std.proofs.Common.{◌∙◌, refl, sym, inl}
 use Rattle.std.proofs.lemmas.Result.{err_from_is_err_and}
 use Rattle.vp_proc.specs.declared.ended.End.TheVariants as ends
 use Rattle.vp_proc.proofs.Begun.{fresh_at, fresh_txn, its_end, its_fault}
