@@ -266,9 +266,10 @@ impl Stepped {
     }
 }
 
-/// Lists the records of these copies.
-fn records_of(alloc: Global, copies: &[(RecId, Stored)]) -> Result<Vec<RecId>, NoMemory>
-    ensures { IfOk result (λ recs. recs.items ≡ keys copies.now) }
+/// Lists the records of these pairs.
+fn records_of<V>(alloc: Global, pairs: &[(RecId, V)]) -> Result<Vec<RecId>, NoMemory>
+    ensures { IfOk result (λ recs. recs.items ≡ keys pairs.now) }
 {
-    Ok(copies.iter().map(|copy| copy.0).collect(alloc)?)
+    let recs = pairs.iter().map(|pair| pair.0);
+    Ok(recs.collect(alloc)?)
 }
