@@ -27,6 +27,7 @@ SAID = [
     (TRUST, "compare_recover.py", "{inputs:,} inputs | {found}"),
     (TRUST, "compare_logs.py", "{inputs:,} schedules with {logs:,} logs | {found}"),
     (TRUST, "compare_merge.py", "{inputs:,} recorded runs | {found}"),
+    (TRUST, "compare_proc.py", "{inputs:,} procedures, {at_nodes:,} of them at three nodes | {found}"),
     (TRUST, "compare_check.py", "{inputs:,} histories | {found}"),
     (TRUST, "compare_generate.py", "{inputs:,} seeds | {found}"),
     (TRUST, "compare_stops.py", "{stops:,} stops in {inputs:,} schedules; of {looked_at:,} of them {appends:,} were in the append of a batch,"
@@ -57,6 +58,8 @@ SAID = [
     (README, "compare_merge.py", "{inputs:,} runs: {found}; {merged:,} are merged into {events:,} events, {unsent:,} `unsent`, {unlike:,} `differs`, {bad:,} bad |"),
     (README, "compare_stops.py", "{stops:,} stops in {inputs:,} schedules: {found}; of {looked_at:,} of them {appends:,} were in the append of a batch,"
      " which {left:,} left in the log |"),
+    (README, "compare_proc.py", "{inputs:,} procedures: {found}; {done:,} are done over told answers, {bad:,} refused at a line; {at_nodes:,} at three nodes, {done_there:,} of them done |"),
+    (README, "run_examples.py", "{inputs:,} runs, each as the page says |"),
     (README, "refuse_memory.py", "{inputs:,} runs, each as it must be; {cut:,} were cut short with status 3, {done:,} came to their end all the same |"),
     (README, "damaged_inputs.py", "{inputs:,} inputs each, each with an end that it may have; of {looked_at:,} of them {done:,} were done, {refused:,} refused at a line, {no_site:,} had no such site,"
      " {differ:,} differed |"),

@@ -21,8 +21,8 @@ use crate::requests::{Prepare, Request};
 use std::alloc::Global;
 use std::marker::Model;
 use vp_base::{
-    Bars, Change, CopyOf, Doubt, InDoubt, Lock, LogRecord, NoMemory, Owner, Part, RecId, TxnId, Txns,
-    View, ViewId, Writes,
+    Bars, Change, CopyOf, Doubt, InDoubt, Lock, LogRecord, NoMemory, Owner, Part, RecId, TxnId,
+    Txns, View, ViewId, Writes,
 };
 use vp_lists::{copy_all, find_bar};
 use vp_locks::{Keeps, Locks};

@@ -1,5 +1,5 @@
 -- A session from its beginning to its end.
-use Rattle.std.proofs.Common.{◌≡◌, ◌∙◌, ℕ, [], Option, Some, None, refl, sym, ap, subst}
+use Rattle.std.proofs.Common.{◌≡◌, ◌∙◌, ℕ, [], Some, refl, sym, ap, subst}
 use Rattle.std.specs.Prelude.{Ok}
 use Rattle.vp_base.specs.Identifiers.{IsTxn}
 use Rattle.vp_model.specs.Types.{TxnId, Answer}

@@ -1,14 +1,14 @@
 -- The loop over the statements of a procedure.
-use Rattle.std.proofs.Common.{◌≡◌, ◌∙◌, ◌+◌, ◌≤◌, ◌<◌, ℕ, zero, suc, List, [], ◌∷◌, Bool, length, drop, get_or, Option, Some, None, refl, sym, ap, subst, arith}
-use Rattle.std.specs.Prelude.{Result, Ok, Err}
+use Rattle.std.proofs.Common.{◌≡◌, ◌∙◌, ◌+◌, ◌≤◌, ◌<◌, ℕ, zero, suc, List, [], ◌∷◌, Bool, length, drop, get_or, Option, None, refl, sym, ap, subst, arith}
+use Rattle.std.specs.Prelude.{Result, Ok}
 use Rattle.std.proofs.lemmas.List.{drop_all, drop_more}
 use Rattle.vp_model.specs.Catalogue.{Catalogue}
+use Rattle.vp_catalog.specs.Document.{AreSites}
 use Rattle.vp_outside.specs.Links.{LinkState, StaysBound}
 use Rattle.vp_client.specs.declared.asking.AskFault.{AskFault}
 use Rattle.vp_procedure.specs.declared.procedure.Procedure.{Procedure}
 use Rattle.vp_procedure.specs.declared.procedure.Statement.{Statement}
 use Rattle.vp_procedure.specs.Procedures.{AreStatements, IsProcedure, IsStatement, opened_by}
-use Rattle.vp_procedure.proofs.Steps.{sites_most}
 use Rattle.vp_proc.specs.declared.ended.End.{End}
 use Rattle.vp_proc.specs.declared.ended.End.TheVariants as ends
 use Rattle.vp_proc.specs.declared.session.Session.{Session}
@@ -37,6 +37,13 @@ past p ss i s same below at =
     let within = subst (λ (l : List Statement). i < length l) same below in
     let there = subst (λ (l : List Statement). s ≡ get_or l i s) same at in
     drop_more p.statements i s within ∙ ap (λ (t : Statement). t ∷ drop (i + 1) p.statements) (sym there)
+
+sites_most : (above : ℕ) (sites : List (ℕ × ℕ)) → AreSites above sites → above ≤ 16 → above + length sites ≤ 16
+sites_most above [] h low = omega (arith, low)
+sites_most above (s ∷ sites) h low =
+    let more = sites_most s.0 sites h.1 h.0.fits in
+    let higher = h.0.higher in
+    omega (arith, more, higher)
 
 -- lines have small numbers
 pub first_small : (p : Procedure) → IsProcedure p → p.first ≤ 274

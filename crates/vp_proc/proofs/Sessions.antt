@@ -1,5 +1,5 @@
 -- The steps of a session: what comes of the answer to a call.
-use Rattle.std.proofs.Common.{◌≡◌, ◌≢◌, ◌∙◌, ◌+◌, ℕ, List, [], ◌∷◌, ◌++◌, length, Bool, true, false, Option, Some, None, refl, sym, ap, subst, option_map, inl, inr}
+use Rattle.std.proofs.Common.{◌≡◌, ◌≢◌, ◌+◌, ℕ, List, [], ◌∷◌, ◌++◌, length, true, false, Option, Some, None, refl, ap, subst, option_map, inl, inr}
 use Rattle.std.specs.Prelude.{Result, Ok, Err}
 use Rattle.std.proofs.lemmas.Bool.{false≢true}
 use Rattle.vp_model.specs.Types.{Op, Answer, Call}
@@ -20,8 +20,8 @@ use Rattle.vp_proc.specs.Scripts.{Script, Variables, number_in, script_from, wit
 use Rattle.vp_proc.specs.declared.walk.Step.{Step}
 use Rattle.vp_proc.specs.Walking.{IsFailure, after_read, comes_to}
 use Rattle.vp_proc.specs.Telling.{content_in, is_written, is_committed, is_end, told}
-use Rattle.vp_proc.specs.Ran.{HasTold, WasRefused, IsDue, AsksAbort, HasAborted, HasBroken, HasRunOut, Ends, Breaks, IsWanted}
-use Rattle.vp_proc.specs.Stepping.{IsAt, IsRefused, IsToAbort, Aborts, Finishes, GoesOn}
+use Rattle.vp_proc.specs.Ran.{AsksAbort, HasAborted, Ends, Breaks}
+use Rattle.vp_proc.specs.Stepping.{IsAt, IsRefused, IsToAbort, Finishes}
 use Rattle.vp_proc.proofs.Told.{told_more}
 
 -- one operation more

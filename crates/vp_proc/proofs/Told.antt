@@ -1,11 +1,9 @@
 -- What was told so far, after one more answer.
-use Rattle.std.proofs.Common.{◌≡◌, ◌∙◌, ◌+◌, ℕ, List, [], ◌∷◌, ◌++◌, length, Option, Some, None, refl, sym, ap, subst, arith}
-use Rattle.std.specs.Prelude.{Result, Ok, Err}
-use Rattle.std.proofs.lemmas.List.{length-append}
+use Rattle.std.proofs.Common.{◌≡◌, ◌∙◌, ◌+◌, ℕ, List, [], ◌∷◌, ◌++◌, length, Some, refl, sym, ap, arith}
+use Rattle.std.specs.Prelude.{Ok}
 use Rattle.vp_model.specs.Types.{TxnId, Op, Answer, Call}
 use Rattle.vp_outside.specs.Links.{LinkState}
-use Rattle.vp_client.specs.Asked.{Asks}
-use Rattle.vp_client.specs.Conversations.{Exchange, Conversed, as_asked}
+use Rattle.vp_client.specs.Conversations.{Exchange}
 use Rattle.vp_client.proofs.Conversations.{conversations_join}
 use Rattle.vp_procedure.specs.declared.procedure.Procedure.{Procedure}
 use Rattle.vp_proc.specs.Scripts.{Script, script}

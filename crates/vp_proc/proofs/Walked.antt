@@ -1,10 +1,10 @@
 -- The step for each statement.
-use Rattle.std.proofs.Common.{◌≡◌, ◌∙◌, ℕ, zero, suc, ◌+◌, ◌≤◌, List, [], ◌∷◌, ◌==◌, length, Bool, true, false, Option, Some, None, refl, sym, ap, subst, arith, cond}
+use Rattle.std.proofs.Common.{◌≡◌, ℕ, zero, suc, ◌+◌, ◌≤◌, List, [], ◌∷◌, ◌==◌, length, Bool, true, false, Option, Some, None, refl, ap, arith}
 use Rattle.std.specs.Prelude.{nat_lt, map, if◌then◌else◌}
 use Rattle.std.specs.Fmt.{decimal}
 use Rattle.std.specs.List.{AllByRecursion}
 use Rattle.vp_model.specs.Catalogue.{Catalogue, RecordEntry, sites_of}
-use Rattle.vp_base.specs.Words.{IsName, IsValue}
+use Rattle.vp_base.specs.Words.{IsName}
 use Rattle.vp_base.proofs.Among.{place_is_name}
 use Rattle.vp_catalog.specs.Entries.{IsRecord}
 use Rattle.vp_catalog.specs.Document.{IsCatalogue}

@@ -1,6 +1,6 @@
 -- How a procedure runs over a link: what was asked, what was answered, and the end.
-use Rattle.std.specs.Prelude.{◌≡◌, ◌≢◌, ◌⊎◌, ⊤, ℕ, ◌+◌, true, false, List, [], length, Option, Some, None, Result, Ok, Err}
-use Rattle.vp_model.specs.Types.{TxnId, Op, Answer, Call}
+use Rattle.std.specs.Prelude.{◌≡◌, ◌≢◌, ◌⊎◌, ⊤, ℕ, ◌+◌, true, false, List, [], length, Some, None, Result, Ok, Err}
+use Rattle.vp_model.specs.Types.{TxnId, Op, Answer}
 use Rattle.vp_model.specs.Types.call
 use Rattle.vp_outside.specs.Links.{LinkState}
 use Rattle.vp_client.specs.Asked.{Asks}

@@ -1,6 +1,6 @@
 -- The steps of a run, each from what was told before it.
-use Rattle.std.specs.Prelude.{◌≡◌, ◌≢◌, ⊤, ℕ, ◌+◌, ◌≤◌, List, length, Option, Some, None, Result, Ok, Err}
-use Rattle.vp_model.specs.Types.{Op, Answer}
+use Rattle.std.specs.Prelude.{◌≡◌, ◌+◌, ◌≤◌, length, Option, Some, None, Result, Ok, Err}
+use Rattle.vp_model.specs.Types.{Answer}
 use Rattle.vp_outside.specs.Links.{LinkState}
 use Rattle.vp_client.specs.declared.asking.AskFault.{AskFault}
 use Rattle.vp_client.specs.declared.asking.AskFault.TheVariants as faults

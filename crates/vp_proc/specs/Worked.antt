@@ -1,9 +1,7 @@
 -- Worked procedures, each as it comes out on one copy of one record.
-use Rattle.std.specs.Prelude.{ℕ, List, [], ◌∷◌, codes, Option, Some, None}
+use Rattle.std.specs.Prelude.{ℕ, List, [], ◌∷◌, codes, Option}
 use Rattle.vp_model.specs.Types.{Op}
-use Rattle.vp_model.specs.Types.op
 use Rattle.vp_model.specs.OneCopy.{Values}
-use Rattle.vp_procedure.specs.declared.procedure.Term.{Term}
 use Rattle.vp_procedure.specs.declared.procedure.Term.TheVariants as term
 use Rattle.vp_procedure.specs.declared.procedure.Expr.{Expr}
 use Rattle.vp_procedure.specs.declared.procedure.Expr.TheVariants as expr

@@ -159,7 +159,7 @@ pub stands_room : (text rest : List ℕ) (d : ProcedureDraft) (line : ℕ) → S
 stands_room text rest d line s left read = (so_far_bad blank after LineText Onward line_at text rest d line left (readable (length text)) s read).0
 
 -- sites ascend to at most 16
-pub sites_most : (above : ℕ) (sites : List (ℕ × ℕ)) → AreSites above sites → above ≤ 16 → length sites + above ≤ 16
+sites_most : (above : ℕ) (sites : List (ℕ × ℕ)) → AreSites above sites → above ≤ 16 → length sites + above ≤ 16
 sites_most above [] h low = omega (arith, low)
 sites_most above (s ∷ sites) h low =
     let more = sites_most s.0 sites h.1 h.0.fits in

@@ -3,7 +3,8 @@
 use std::alloc::Global;
 use std::process::Abort;
 use vp_base::{
-    Bars, CallNo, Change, Copies, Put, RecId, Recs, SiteId, Sites, TxnId, Value, View, ViewId, Writes,
+    Bars, CallNo, Change, Copies, Put, RecId, Recs, SiteId, Sites, TxnId, Value, View, ViewId,
+    Writes,
 };
 use vp_locks::Locks;
 use vp_participant::{PartFault, Participant, Prepare, Request, Voted};

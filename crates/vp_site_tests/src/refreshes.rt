@@ -70,7 +70,12 @@ fn other_holders_in_the_view_are_missing_until_they_answer(rt: HostRuntime) {
 /// What comes out of the refresh of x, of which the sites of the view have three of the four copies.
 fn done(rt: &impl Abort, alloc: Global, refresh: &Refresh, own: &Stored) -> Done {
     refresh
-        .done(&catalog(rt, alloc), &view(rt, alloc).members, RecId::new(X), own)
+        .done(
+            &catalog(rt, alloc),
+            &view(rt, alloc).members,
+            RecId::new(X),
+            own,
+        )
         .expect(rt, "memory")
         .expect(rt, "a copy")
 }

@@ -14,7 +14,7 @@ use Rattle.vp_laws.proofs.Lists.Members.{Has}
 use Rattle.vp_laws.proofs.Table.Copies.{newest_from}
 use Rattle.vp_laws.proofs.Table.Covered.{BarFrom}
 use Rattle.vp_laws.proofs.Table.Unlisted.{Ended, Verdict, sums_of}
-use Rattle.vp_laws.proofs.Worlds.Scenes.{Scene, plain_at, kept_at, scene_of}
+use Rattle.vp_laws.proofs.Worlds.Scenes.{Scene, kept_at, scene_of}
 use Rattle.vp_laws.proofs.Worlds.Sites.{NowIs, now_is, QuietIs, quiet_is, started, Quiet}
 use Rattle.vp_laws.proofs.Invariant.Bars.{BarSays, InvBars}
 use Rattle.vp_laws.proofs.Invariant.Base.{InvBase}

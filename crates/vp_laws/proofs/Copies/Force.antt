@@ -1,8 +1,7 @@
 -- The table of a record that the entries of lower views leave, and the walk from a view up to a higher one through the views that
 -- changed the table: some holder in the lower view is in a view above it for which the record is closed.
-use Rattle.std.proofs.Common.{◌≡◌, ◌⊎◌, ◌∙◌, ap, sym, subst, ℕ, ◌*◌, Bool, true, false, cond, List, [], ◌∷◌, refl, inl, inr, arith, ⊎_elim}
-use Rattle.std.specs.Prelude.{Option, Some, None, is_some, sum_by, nat_lt, not, ◌&&◌}
-use Rattle.std.specs.Option.{option_map_or}
+use Rattle.std.proofs.Common.{◌≡◌, ◌⊎◌, ◌∙◌, ap, sym, subst, ℕ, ◌*◌, Bool, true, false, List, [], ◌∷◌, refl, inl, inr, arith, ⊎_elim}
+use Rattle.std.specs.Prelude.{Some, not, ◌&&◌}
 use Rattle.std.proofs.lemmas.Bool.{ltb-true}
 use Rattle.std.proofs.lemmas.Bool.Decides.{nat_tests}
 use Rattle.vp_model.specs.Types.{ViewId, View, Commit}
@@ -12,12 +11,12 @@ use Rattle.vp_model.specs.OneCopy.{order}
 use Rattle.vp_catalog.proofs.Majorities.{majorities_share}
 use Rattle.vp_laws.proofs.Lists.Members.{Has, has_none, has_first, has_more, has_cons, has_from_test, both_true, filter_has, has_of}
 use Rattle.vp_laws.proofs.Lists.Changes.{mapped_has}
-use Rattle.vp_laws.proofs.Lists.Views.{AtMost, Precedes, AtMost-refl, AtMost-trans, Precedes-at_most, not_both, from_before, same_is, not_before}
+use Rattle.vp_laws.proofs.Lists.Views.{AtMost, Precedes, AtMost-refl, AtMost-trans, Precedes-at_most, not_both, from_before}
 use Rattle.vp_laws.proofs.Journal.Order.{Precedes-trans, order_has}
 use Rattle.vp_laws.proofs.Worlds.Scenes.{Scene}
 use Rattle.vp_laws.proofs.Invariant.Entered.{AgreedAs}
-use Rattle.vp_laws.proofs.Journal.UpTo.{upto, test_above, up_to_from, under, Ascends, order_ascends}
-use Rattle.vp_laws.proofs.Journal.TablesAfter.{Table, total_of, accessible_by, weighs, table_in, table_upto, table_below, same_between, last_among, sites_among}
+use Rattle.vp_laws.proofs.Journal.UpTo.{upto, test_above, up_to_from, order_ascends}
+use Rattle.vp_laws.proofs.Journal.TablesAfter.{Table, total_of, accessible_by, weighs, table_upto, table_below, same_between, last_among, sites_among}
 use Rattle.vp_laws.proofs.Invariant.Closed.{ClosedAt, Closed}
 
 -- two majorities by one table share one of its holders

@@ -1,10 +1,8 @@
 -- What is known of tables in force lasts over a step: a record that is open in a view by the table in force stays open, since no
 -- entry of a lower view changes the table any more; and the view of a new entry has more than half by the table in force.
-use Rattle.std.proofs.Common.{◌≡◌, ◌∙◌, ap, sym, subst, ℕ, true, List, refl, ⊎_elim}
-use Rattle.std.specs.Prelude.{Some}
+use Rattle.std.proofs.Common.{◌≡◌, sym, subst, ℕ, true, List, refl}
 use Rattle.vp_model.specs.Types.{ViewId, View, Commit, Input}
-use Rattle.vp_model.specs.Words.{keys, value_at}
-use Rattle.vp_model.specs.Catalogue.{Catalogue, holders, weights_of}
+use Rattle.vp_model.specs.Catalogue.{Catalogue, weights_of}
 use Rattle.vp_model.specs.Site.{SiteState, Stepped}
 use Rattle.vp_laws.proofs.Lists.Members.{Has}
 use Rattle.vp_laws.proofs.Lists.Views.{Precedes}

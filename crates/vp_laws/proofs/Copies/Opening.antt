@@ -1,6 +1,6 @@
 -- An open record stays open over a step, no entry of it changes a record that is open in a higher view, and what it uses or changes is
 -- open in its view.
-use Rattle.std.proofs.Common.{◌≡◌, ◌⊎◌, ◌∙◌, ap, sym, subst, ℕ, true, List, inl, inr, ⊎_elim}
+use Rattle.std.proofs.Common.{◌≡◌, ◌⊎◌, ◌∙◌, ap, sym, subst, ℕ, true, inl, inr, ⊎_elim}
 use Rattle.std.specs.Prelude.{Option, Some}
 use Rattle.vp_model.specs.Types.{ViewId, View, Commit, Input}
 use Rattle.vp_model.specs.Words.{value_at}
@@ -20,9 +20,9 @@ use Rattle.vp_laws.proofs.Journal.TablesAfter.{given_by, accessible_by}
 use Rattle.vp_laws.proofs.Journal.ValuesAfter.{Wrote}
 use Rattle.vp_laws.proofs.Keeping.Closing.{closed_lasts}
 use Rattle.vp_laws.proofs.Keeping.Does.{Does}
-use Rattle.vp_laws.proofs.Keeping.NewEntries.{Entering, entering, agreed_was}
+use Rattle.vp_laws.proofs.Keeping.NewEntries.{entering, agreed_was}
 use Rattle.vp_laws.proofs.Copies.Force.{below, Weighed}
-use Rattle.vp_laws.proofs.Copies.ForceKept.{OpenBy, open_stops, open_lasts, below_stays}
+use Rattle.vp_laws.proofs.Copies.ForceKept.{open_stops, open_lasts, below_stays}
 use Rattle.vp_laws.proofs.Copies.Weights.{weighed_wrote, open_by, open_from, known_weighed, weighed_from, changed_usable}
 
 module _ (catalogue : Catalogue) (w new : Scene) (s : ℕ) (x : SiteState) (given : Input) (o : Stepped) (k : Known catalogue w) (n : Known catalogue new) (d : Does catalogue w new s x given o) (refresh : InvRefresh catalogue w) where

@@ -1,12 +1,11 @@
 -- What a live transaction gives, or its pending call asks to give: a table with the record's holders, by which the members of the view that its
 -- site holds have more than half of the weight.
-use Rattle.std.proofs.Common.{◌≡◌, ◌∙◌, ap, sym, subst, ℕ, Bool, true, false, cond, List, [], ◌∷◌, refl, ⊎_elim}
+use Rattle.std.proofs.Common.{◌≡◌, ◌∙◌, ap, sym, subst, ℕ, Bool, true, false, cond, List, [], ◌∷◌, refl}
 use Rattle.std.specs.Prelude.{Option, Some, None, not, ◌==◌}
 use Rattle.std.proofs.lemmas.Bool.{eqb-true}
 use Rattle.vp_model.specs.Words.{value_at, first_some}
 use Rattle.vp_model.specs.Transactions.{entry_of, Deed, with_table}
 use Rattle.vp_model.specs.Types.{Commit, TxnId, View, ViewId, Input, Op, Pending, Live}
-use Rattle.vp_model.specs.Types.op
 use Rattle.vp_model.specs.Catalogue.{Catalogue, Table, accessible_by, has_holders}
 use Rattle.vp_model.specs.Site.{SiteState, Lent}
 use Rattle.vp_model.specs.Refresh.{members_in, other_holders}

@@ -1,5 +1,5 @@
 -- The table of a record that entries leave: those of lower views, or those of views up to one.
-use Rattle.std.proofs.Common.{◌≡◌, ◌⊎◌, ◌∙◌, ap, sym, subst, ℕ, ◌*◌, Bool, true, false, cond, List, [], ◌∷◌, refl, inl, inr, arith, ⊎_elim}
+use Rattle.std.proofs.Common.{◌≡◌, ◌⊎◌, ◌∙◌, ap, sym, ℕ, ◌*◌, Bool, true, false, cond, List, [], ◌∷◌, refl, inl, inr, arith, ⊎_elim}
 use Rattle.std.specs.Prelude.{Option, Some, None, is_some, sum_by, nat_lt, not}
 use Rattle.std.specs.Option.{option_map_or}
 use Rattle.std.proofs.lemmas.Bool.Decides.{nat_tests}

@@ -3,13 +3,12 @@ use Rattle.std.proofs.Common.{◌≡◌, ◌≢◌, ◌∙◌, subst, ℕ, Bool,
 use Rattle.std.specs.Prelude.{Option, Some, None, not, ◌&&◌, ◌==◌}
 use Rattle.std.specs.List.{list_any}
 use Rattle.vp_model.specs.Transactions.{Deed}
-use Rattle.vp_model.specs.Types.{Stored}
 use Rattle.vp_model.specs.Words.{first_some, has, value_at}
 use Rattle.vp_model.specs.Calls.{short, short_by, short_of_holders}
 use Rattle.vp_model.specs.Catalogue.{Catalogue, holders, total}
 use Rattle.vp_model.specs.Refresh.{members_in, other_holders}
 use Rattle.vp_model.specs.Site.{SiteState}
-use Rattle.vp_laws.proofs.Lists.Members.{Has, any_true, filter_keeps, has_from_test}
+use Rattle.vp_laws.proofs.Lists.Members.{Has, any_true, filter_keeps}
 use Rattle.vp_laws.proofs.Lists.Numbers.{eq_not}
 use Rattle.vp_laws.proofs.Lists.Pairs.{not_copied}
 use Rattle.vp_laws.proofs.Worlds.Scenes.{Scene, plain_at}

@@ -1,6 +1,6 @@
 -- What an entry of a step means for others: it belongs to a live transaction here, each other holder of what it wrote is in doubt
 -- about it, and nothing here is in doubt about that or under refresh.
-use Rattle.std.proofs.Common.{Option, ◌≡◌, ◌≢◌, ◌⊎◌, ◌∙◌, ap, sym, subst, ℕ, Bool, false, List, [], ◌∷◌, ◌++◌, refl, inl, inr, ⊎_elim, append-nil}
+use Rattle.std.proofs.Common.{◌≡◌, ◌≢◌, ◌⊎◌, ◌∙◌, ap, sym, subst, ℕ, Bool, false, List, [], ◌∷◌, ◌++◌, refl, inl, inr, ⊎_elim, append-nil}
 use Rattle.std.specs.Prelude.{Some}
 use Rattle.vp_model.specs.Types.{Change, TxnId, View, Message, Commit, Input, Part, Live, Refreshing, Doubt}
 use Rattle.vp_model.specs.Types.message

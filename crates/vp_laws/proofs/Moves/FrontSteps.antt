@@ -7,7 +7,7 @@ use Rattle.vp_model.specs.Types.obstacle
 use Rattle.vp_model.specs.Types.call
 use Rattle.vp_model.specs.Types.input
 use Rattle.vp_model.specs.Types.message
-use Rattle.vp_model.specs.Words.{view_before, for_each, keys}
+use Rattle.vp_model.specs.Words.{for_each, keys}
 use Rattle.vp_model.specs.Catalogue.{Catalogue}
 use Rattle.vp_model.specs.Durable.{doubt_of}
 use Rattle.vp_model.specs.Site.{CoordinatorState, SiteState, Lent, Stepped, begin_step, lent, put_back, send, force, change_views, change_refresh, change_participant}

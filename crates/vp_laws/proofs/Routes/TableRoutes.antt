@@ -1,5 +1,5 @@
 -- To whom a step sends: to sites of the catalogue, where all sites that this site knows of are in it.
-use Rattle.std.proofs.Common.{◌≡◌, ◌∙◌, ap, sym, subst, ℕ, Bool, true, false, cond, List, [], ◌∷◌, ◌++◌, refl, arith, ⊎_elim, append-nil}
+use Rattle.std.proofs.Common.{◌≡◌, ◌∙◌, ap, sym, subst, ℕ, Bool, true, false, cond, List, [], ◌∷◌, ◌++◌, refl, ⊎_elim, append-nil}
 use Rattle.std.specs.Prelude.{Option, Some, None, not, ◌==◌, filter}
 use Rattle.vp_catalog.specs.Document.{IsCatalogue}
 use Rattle.vp_model.specs.Types.{ViewId, TxnId, View, Stored, Message, Sent, Input, Refreshing, Pending, Live, Ending, Doubt, Decision}

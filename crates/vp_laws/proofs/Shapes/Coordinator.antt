@@ -41,7 +41,7 @@ use Rattle.vp_laws.proofs.Lists.Items.{all_at, all_and_one, all_filter}
 use Rattle.vp_laws.proofs.Shapes.Numbers.{each_site, put_sites, put_all_sites, sites_of_ascending, some_sites, ascending_filter, written_is, changes_are}
 use Rattle.vp_laws.proofs.Shapes.Sizes.{writes_length}
 use Rattle.vp_laws.proofs.Shapes.Doubts.{with_decisions, fewer_decisions}
-use Rattle.vp_laws.proofs.Shapes.Catalogue.{others_ascend, found_is, inside_fits, total_fits, table_fits, part_fits}
+use Rattle.vp_laws.proofs.Shapes.Catalogue.{others_ascend, found_is, total_fits, table_fits, part_fits}
 use Rattle.vp_laws.proofs.Shapes.Moves.{Forms, gives_entry, gives_commit, gives_reply, gives_message, gives_each, with_gives, with_locks, with_copies, with_coordinator, some_at, with_lock_is, conflict_is, bar_is, writes_are, copy_is}
 use Rattle.vp_laws.proofs.Shapes.Views.{came_is, called_is, id_is, starts}
 use Rattle.vp_laws.proofs.Shapes.Live.{puts_live, begins_one, marks_are, idle_asked, IsDeed, deed_said, done_is, waiting_is, IsOver, live_over, handled_over, end_said, finishes, missing_is, recs_are}

@@ -123,7 +123,7 @@ weights_length (w ∷ table) =
 
 pub table_length : (table : Option Table) → IsMaybeTable versions.Second table → length (maybe_table_bytes versions.Second table) ≤ 1 + table_cost table
 table_length None h = omega arith
-table_length (Some table) h = let few = h.1.1 in let all = weights_length table in omega (arith, few, all)
+table_length (Some table) h = let few = h.1.few in let all = weights_length table in omega (arith, few, all)
 
 put_length : (put : Put) → length (put_bytes versions.Second put) ≤ 3 + value_cost put
 put_length puts.Keep = omega arith

@@ -1,7 +1,7 @@
 -- The bars of a site after a step: a view is held, the barred record isn't under refresh, and each lock of a transaction on it is of a
 -- transaction in doubt here of a lower view.
-use Rattle.std.proofs.Common.{◌≡◌, ◌≢◌, ◌∙◌, ap, sym, subst, ℕ, Bool, true, false, cond, List, [], ◌∷◌, map, refl, ⊎_elim}
-use Rattle.std.specs.Prelude.{Option, Some, None, is_some, filter, not, ◌==◌, ◌&&◌}
+use Rattle.std.proofs.Common.{◌≡◌, ◌∙◌, ap, sym, subst, ℕ, Bool, true, false, cond, List, [], map, refl, ⊎_elim}
+use Rattle.std.specs.Prelude.{Option, Some, None, is_some, filter, not, ◌==◌}
 use Rattle.std.proofs.lemmas.Bool.{eqb-true}
 use Rattle.vp_model.specs.Types.{Change, ViewId, TxnId, View, Message, Input, Stored, Lock, Part, Live, Ending, Refreshing, Doubt}
 use Rattle.vp_base.specs.declared.site.Ending.TheVariants.{Committed}
@@ -13,23 +13,23 @@ use Rattle.vp_model.specs.Catalogue.{Catalogue, weight_inside, weight_total}
 use Rattle.vp_model.specs.Durable.{doubt_of}
 use Rattle.vp_model.specs.Locks.{with_lock, without_owner, without_guard}
 use Rattle.vp_model.specs.Site.{Bars, Here, SiteState, Lent, Stepped, begin_step, put_back, force, change_copies, change_bars}
-use Rattle.vp_model.specs.Transactions.{keep_writes, complete, decide, close}
+use Rattle.vp_model.specs.Transactions.{keep_writes, complete, decide}
 use Rattle.vp_model.specs.Refresh.{members, newest, with_bar, is_open, unlist, end_refresh, start_refresh, refreshing_of}
 use Rattle.vp_model.specs.Views.{part_of, has_doubt, drop_view, start_inviting, hold}
 use Rattle.vp_model.specs.Calls.{start_txn, take_lock, read_at, write_at, prepare_parts}
-use Rattle.vp_model.specs.Messages.{with_new_doubt, with_part, with_answer, accept, on_accept, on_stale, grant, end_here}
-use Rattle.vp_model.specs.Step.{fix, mark_calls, ask_again, resend_one, inquire, step}
-use Rattle.vp_model.proofs.SameTxn.{same_txn-is, same_txn-turned, same_txn-clash}
+use Rattle.vp_model.specs.Messages.{with_new_doubt, with_answer, accept, on_accept, on_stale, grant, end_here}
+use Rattle.vp_model.specs.Step.{fix, mark_calls, ask_again, resend_one, inquire}
+use Rattle.vp_model.proofs.SameTxn.{same_txn-is, same_txn-turned}
 use Rattle.vp_laws.proofs.Journal.Play.{value_put}
-use Rattle.vp_laws.proofs.Lists.Members.{Has, has_none, map_has, filter_has, filter_keeps, find_has, find_true, any_false, both_true}
+use Rattle.vp_laws.proofs.Lists.Members.{Has, map_has, filter_has, filter_keeps, find_has, find_true, any_false, both_true}
 use Rattle.vp_laws.proofs.Lists.Changes.{put_old}
 use Rattle.vp_laws.proofs.Lists.LockTables.{lock_origin}
 use Rattle.vp_laws.proofs.Lists.Numbers.{differs}
-use Rattle.vp_laws.proofs.Lists.Views.{is_view_is, same_site}
-use Rattle.vp_laws.proofs.Moves.Frames.{Ends, close-ends, decided-ends, decide-cases, judging, judged, take-cases}
+use Rattle.vp_laws.proofs.Lists.Views.{is_view_is}
+use Rattle.vp_laws.proofs.Moves.Frames.{Ends, close-ends, decided-ends, decide-cases, judging, take-cases}
 use Rattle.vp_laws.proofs.Moves.LocalViews.{Tidy}
 use Rattle.vp_laws.proofs.Moves.Parts.{with_part_doubts}
-use Rattle.vp_laws.proofs.Moves.Table.{Left, Joined, lent_at, Back, Table}
+use Rattle.vp_laws.proofs.Moves.Table.{Joined, lent_at, Back, Table}
 use Rattle.vp_laws.proofs.Table.LocalLocks.{LowerDoubt}
 use Rattle.vp_laws.proofs.Table.Listed.{IsUnlisted}
 use Rattle.vp_laws.proofs.Table.Locks.{Guards}

@@ -24,7 +24,7 @@ use Rattle.vp_model.proofs.SameTxn.{same_txn-is}
 use Rattle.vp_laws.proofs.Lists.Names.{Apart, named, without_gone, change_cases}
 use Rattle.vp_laws.proofs.Moves.Frames.{close-ends, decided-ends, decide-cases}
 use Rattle.vp_laws.proofs.Moves.Table.{lent_at}
-use Rattle.vp_laws.proofs.Moves.Coordinator.{live_of-has, live_of-is, next_number, open_here}
+use Rattle.vp_laws.proofs.Moves.Coordinator.{live_of-has, live_of-is, next_number}
 use Rattle.vp_laws.proofs.Lists.Keeps.{by_option, by_test}
 use Rattle.vp_laws.proofs.Moves.Calls.{done, waiting, reading, writing}
 

@@ -4,14 +4,13 @@ use Rattle.std.specs.Prelude.{Option, Some, None, filter, find, option_map, not,
 use Rattle.std.proofs.lemmas.Bool.{eqb-true}
 use Rattle.std.proofs.lemmas.Bool.Decides.{nat_tests}
 use Rattle.vp_model.specs.Types.{Change, ViewId, TxnId, View, Commit, Input, Stored, Live, Ending, Refreshing, Doubt}
-use Rattle.vp_model.specs.Types.log_record
 use Rattle.vp_model.specs.Types.input
 use Rattle.vp_model.specs.Types.message
 use Rattle.vp_model.specs.Words.{same_txn, put_at, view_before, change_at, replace_at, keys, value_at, has}
 use Rattle.vp_model.specs.Catalogue.{Catalogue, holders}
 use Rattle.vp_model.specs.Locks.{without_guard}
 use Rattle.vp_model.specs.Durable.{changed, doubt_of, with_writes}
-use Rattle.vp_model.specs.Site.{Here, SiteState, Lent, Stepped, begin_step, put_back, force, change_copies}
+use Rattle.vp_model.specs.Site.{Here, SiteState, Lent, Stepped, begin_step, put_back}
 use Rattle.vp_model.specs.Transactions.{last_changes, entry_of, writes_held, close, keep_writes, decide, complete}
 use Rattle.vp_model.specs.Refresh.{newer, newest, unlist, end_refresh, start_refresh, refreshing_of, unanswered}
 use Rattle.vp_model.specs.Views.{drop_view, start_inviting, hold}

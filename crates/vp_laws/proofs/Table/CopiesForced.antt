@@ -12,7 +12,7 @@ use Rattle.vp_model.specs.Catalogue.{Catalogue, holders}
 use Rattle.vp_model.specs.Durable.{doubt_of}
 use Rattle.vp_model.specs.Site.{SiteState, Stepped, begin_step}
 use Rattle.vp_model.specs.Transactions.{last_changes}
-use Rattle.vp_model.specs.Refresh.{newest, unlist, end_refresh, settle_one, settle, settle_all, refreshing_of, unanswered, is_doubtful}
+use Rattle.vp_model.specs.Refresh.{unlist, end_refresh, settle_one, settle, settle_all, refreshing_of, unanswered, is_doubtful}
 use Rattle.vp_model.specs.Messages.{doubted_records, end_here, end_part, on_outcome, on_message}
 use Rattle.vp_model.specs.Step.{on_input, step}
 use Rattle.vp_laws.specs.Decisions.{Forces, CopyComes}

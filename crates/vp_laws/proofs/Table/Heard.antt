@@ -1,5 +1,5 @@
 -- What an answer says of a call that is done, be it an operation or a weigh.
-use Rattle.std.proofs.Common.{◌≡◌, ◌∙◌, ap, sym, ℕ, Bool, true, false, cond, List, [], ◌∷◌, map, refl}
+use Rattle.std.proofs.Common.{◌≡◌, ◌∙◌, ap, sym, ℕ, Bool, true, false, cond, List, [], ◌∷◌, refl}
 use Rattle.std.specs.Prelude.{Option, Some, None, filter_map, option_and_then, if◌then◌else◌}
 use Rattle.std.specs.List.{cons_option}
 use Rattle.vp_model.specs.Types.{TxnId, Answer}

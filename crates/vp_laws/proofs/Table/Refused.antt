@@ -14,7 +14,7 @@ use Rattle.vp_model.specs.Durable.{doubt_of}
 use Rattle.vp_model.specs.Locks.{conflict}
 use Rattle.vp_model.specs.Site.{SiteState, Lent, Stepped, begin_step, lent_reply, surroundings, put_back}
 use Rattle.vp_model.specs.Transactions.{Deed, deed_answer, last_changes, entry_of, last_writes, answer_of, with_pending_reply, finish, close, close_all, keep_writes, decided, decide, complete}
-use Rattle.vp_model.specs.Refresh.{other_holders, newest, unlist, end_refresh, start_refresh}
+use Rattle.vp_model.specs.Refresh.{other_holders, unlist, end_refresh, start_refresh}
 use Rattle.vp_model.specs.Views.{abandon, drop_view, leave, start_inviting, invite, is_spent, highest, hold}
 use Rattle.vp_model.specs.Calls.{handling, start_txn, begin_in, on_begin, with_record, take_lock, lock_here, answer_read, read, read_at, change_elsewhere, change, new_change, is_bad_table, is_too_large, short, write_at, prepare_parts, commit, new_call, live_call, finished_call, on_txn_call, own_call, on_regroup, on_call}
 use Rattle.vp_model.specs.Messages.{accept, on_accept, on_stale, grant, end_here}

@@ -1,15 +1,14 @@
 -- What a step replies: an end of a transaction that it decides or closes now, or that has ended before; and each entry is replied.
-use Rattle.std.proofs.Common.{◌≡◌, ◌∙◌, map, append-nil, ap, sym, subst, ℕ, Bool, true, false, cond, List, [], ◌∷◌, ◌++◌, refl, ⊎_elim}
+use Rattle.std.proofs.Common.{◌≡◌, ◌∙◌, map, append-nil, ap, sym, subst, ℕ, Bool, true, false, List, [], ◌∷◌, ◌++◌, refl, ⊎_elim}
 use Rattle.std.specs.Prelude.{Option, Some, None}
 use Rattle.vp_model.specs.Types.{TxnId, Commit, Input, Stored, Effects, Answer, Reply, Pending, Live, Ending, Refreshing, Doubt}
 use Rattle.vp_base.specs.declared.site.Ending.TheVariants.{Committed}
 use Rattle.vp_model.specs.Types.answer
 use Rattle.vp_model.specs.Types.op
-use Rattle.vp_model.specs.Types.log_record
-use Rattle.vp_model.specs.Words.{without_first, view_before, replace_at}
+use Rattle.vp_model.specs.Words.{without_first}
 use Rattle.vp_model.specs.Catalogue.{Catalogue}
 use Rattle.vp_model.specs.Durable.{doubt_of}
-use Rattle.vp_model.specs.Site.{reply, CoordinatorState, SiteState, Lent, Stepped, begin_step, put_back, force, change_copies}
+use Rattle.vp_model.specs.Site.{reply, CoordinatorState, SiteState, Lent, Stepped, begin_step, put_back}
 use Rattle.vp_model.specs.Transactions.{deed_answer, Deed, entry_of, answer_of, with_pending_reply, finish, close, keep_writes, decided, decide, complete}
 use Rattle.vp_model.specs.Refresh.{unlist, end_refresh, start_refresh}
 use Rattle.vp_model.specs.Views.{drop_view, start_inviting, invite, hold}

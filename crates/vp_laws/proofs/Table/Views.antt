@@ -17,7 +17,7 @@ use Rattle.vp_model.specs.Messages.{with_wait, accept, on_accept, with_acceptanc
 use Rattle.vp_model.specs.Step.{with_monitor, step, fix, without_wait, probe_all, mark_calls, resend_one}
 use Rattle.vp_laws.proofs.Lists.Members.{Has, has_none, has_one, has_one_is, has_cases, has_from_test, map_has, both_true}
 use Rattle.vp_laws.proofs.Lists.Views.{AtMost, Precedes, AtMost-refl, AtMost-same, Precedes-at_most, from_before, same_is, is_view_is, put_keeps, put_only}
-use Rattle.vp_laws.proofs.Moves.Frames.{Ends, close-ends, decided-ends, decide-cases, judged, take-cases}
+use Rattle.vp_laws.proofs.Moves.Frames.{Ends, close-ends, decided-ends, decide-cases, take-cases}
 use Rattle.vp_laws.proofs.Moves.Rows.{step-keeps}
 use Rattle.vp_laws.proofs.Moves.Table.{Comes, next_view, lent_at, Left, Back, SendsBack, Table, AsksAgain}
 use Rattle.vp_laws.proofs.Moves.LocalViews.{letter, Tidy, MaySend, Local, IsNew, is_quiet, quiet-may, beside, silent, letters_quiet, letter_quiet, may_rise}

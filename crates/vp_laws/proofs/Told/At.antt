@@ -1,6 +1,6 @@
 -- What the lines so far report, in the world after them: of each live transaction its operations and its pending call; of each
 -- entry its operations; of a name that was never given, nothing; and each answer that a site keeps was reported.
-use Rattle.std.proofs.Common.{◌≡◌, ◌≢◌, ◌∙◌, ap, subst, ℕ, Bool, true, false, List, [], ◌∷◌, refl, length}
+use Rattle.std.proofs.Common.{◌≡◌, ◌∙◌, ap, subst, ℕ, Bool, true, false, List, [], ◌∷◌, refl, length}
 use Rattle.std.specs.Prelude.{Option, Some, None, is_some, ◌==◌, ◌&&◌, not}
 use Rattle.std.specs.Option.{option_map_or}
 use Rattle.std.specs.List.{list_any, cons_option}
@@ -10,25 +10,22 @@ use Rattle.vp_model.specs.Types.call
 use Rattle.vp_model.specs.Types.event
 use Rattle.vp_model.specs.Types.input
 use Rattle.vp_model.specs.Words.{same_txn, first, value_at, for_each}
-use Rattle.vp_model.specs.Catalogue.{Catalogue, holders}
+use Rattle.vp_model.specs.Catalogue.{Catalogue}
 use Rattle.vp_model.specs.Site.{SiteState}
-use Rattle.vp_model.specs.Refresh.{members_in, other_holders}
+use Rattle.vp_model.specs.Refresh.{other_holders}
 use Rattle.vp_model.specs.World.{WorldState}
 use Rattle.vp_model.specs.Told.{answers_in, is_step, call_in, reported, put_first, is_early_refusal, is_call, takes}
 use Rattle.vp_laws.proofs.Table.ToldLines.{Report, IsReported, Tells, IsUnheard}
-use Rattle.vp_laws.proofs.Lists.Members.{Has, has_none, has_first, has_more, filter_keeps, both_true, any_false, has_test}
+use Rattle.vp_laws.proofs.Lists.Members.{Has, has_none, has_first, has_more, both_true, any_false}
 use Rattle.vp_model.proofs.SameTxn.{same_txn-is}
 use Rattle.vp_laws.proofs.Worlds.Scenes.{Scene, plain_at}
 use Rattle.vp_laws.proofs.Keeping.Holders.{holder_elsewhere}
-use Rattle.vp_laws.proofs.Invariant.Held.{holds_copy}
 use Rattle.vp_laws.proofs.Invariant.Names.{UsedTxn}
 use Rattle.vp_laws.proofs.Table.Calls.{IsCallOf, HasHolders}
 use Rattle.vp_laws.proofs.Table.Told.{IsKept, told_of}
 use Rattle.vp_laws.proofs.Table.ToldCalls.{TellsCall}
 use Rattle.vp_laws.proofs.Worlds.Occurs.{Gives}
-use Rattle.vp_laws.proofs.Lists.Numbers.{eq_not}
 use Rattle.vp_laws.proofs.Invariant.Known.{Known}
-use Rattle.vp_laws.proofs.Lists.Pairs.{not_copied}
 
 pub record ToldAt (catalogue : Catalogue) (w : Scene) (lines : List Line) : Type 0 where
   -- all that is known of sites and messages

@@ -1,6 +1,6 @@
 -- In every schedule each transaction is committed with the tables that its client was told.
 use Rattle.std.proofs.Common.{◌≡◌, ◌≢◌, ◌⊎◌, ◌∙◌, ap, sym, subst, ℕ, ◌+◌, List, [], ◌∷◌, ◌++◌, map, refl, ⊎_elim, length, length-append}
-use Rattle.std.specs.Prelude.{Option, Some, None, All, false, nat_eq, nat_lt, filter_map}
+use Rattle.std.specs.Prelude.{Some, All, false, nat_eq, nat_lt, filter_map}
 use Rattle.std.proofs.lemmas.List.Elements.{All-from_recursion}
 use Rattle.vp_model.specs.Types.{TxnId, Answer, Commit, Event, Input, Line, Live, Pending, Reply}
 use Rattle.vp_model.specs.Words.{put_number, for_each}
@@ -9,18 +9,17 @@ use Rattle.vp_model.specs.Durable.{DurableState, empty_durable}
 use Rattle.vp_model.specs.Site.{SiteState, Lent, Stepped}
 use Rattle.vp_model.specs.Transactions.{Deed, deed_answer, with_table}
 use Rattle.vp_model.specs.Step.{step}
-use Rattle.vp_model.specs.Told.{is_step, answers_in, weighed, told_tables, taken_call}
+use Rattle.vp_model.specs.Told.{is_step, answers_in, weighed, told_tables}
 use Rattle.vp_model.specs.World.{WorldState, Moved, Moment, Run, Schedule, moment, next, one_step, site_step, start_world, lines_of, journal_of}
 use Rattle.vp_model.proofs.SameTxn.{same_txn-self}
 use Rattle.vp_laws.proofs.Lists.Members.{Has, all_of}
 use Rattle.vp_laws.proofs.Lists.Changes.{put_new}
 use Rattle.vp_laws.proofs.Moves.Table.{next_name, Completes}
-use Rattle.vp_laws.proofs.Moves.Calls.{done}
 use Rattle.vp_laws.proofs.Moves.Reasons.{IsDone, told_to}
 use Rattle.vp_laws.proofs.Table.Led.{Led}
 use Rattle.vp_laws.proofs.Table.Endings.{NotLive}
 use Rattle.vp_laws.proofs.Table.ToldLines.{lines_in, lines_last}
-use Rattle.vp_laws.proofs.Table.Heard.{heard, unheard_weigh, same_weighs}
+use Rattle.vp_laws.proofs.Table.Heard.{unheard_weigh, same_weighs}
 use Rattle.vp_laws.proofs.Table.Told.{SaysDone, completed_says, heard_of, IsKept, Repeats, AreLate, LiveTold, ToldNow, told-step}
 use Rattle.vp_laws.proofs.Table.Weighs.{Rises, numbers, gathered, numbers-last, gathered_same, TellsTables, no_tables, tables_wider, tables_on, tables_next, IsWeighed, weighed_lasts, weigh_asked, no_weigh}
 use Rattle.vp_laws.proofs.Worlds.Scenes.{Scene, scene_of, plain_at, kept_at, acted}

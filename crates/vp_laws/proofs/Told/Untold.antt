@@ -15,7 +15,7 @@ use Rattle.vp_model.specs.Transactions.{Deed, answer_of, answers_after}
 use Rattle.vp_model.specs.Calls.{change_asked, on_call}
 use Rattle.vp_model.specs.Messages.{on_message}
 use Rattle.vp_model.specs.Step.{step, on_input}
-use Rattle.vp_model.specs.Told.{answers_in, reported, reports}
+use Rattle.vp_model.specs.Told.{answers_in, reports}
 use Rattle.vp_model.specs.World.{WorldState, Moment}
 use Rattle.vp_model.specs.Justified.{told_from}
 use Rattle.vp_laws.proofs.Table.ToldLines.{Report, reports-silent}

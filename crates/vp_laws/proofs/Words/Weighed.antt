@@ -1,24 +1,24 @@
 -- Weights that transactions change, in the words of the contracts.
-use Rattle.std.proofs.Common.{◌≡◌, ◌⊎◌, ◌∙◌, ap, sym, subst, ℕ, Bool, true, false, cond, List, [], ◌∷◌, ◌++◌, refl, inl, inr, append_assoc, ⊎_elim}
-use Rattle.std.specs.Prelude.{Option, Some, None, IsTrue, All, ◌==◌, ◌&&◌, ◌||◌, is_some, not}
-use Rattle.std.specs.List.{list_any, list_all}
+use Rattle.std.proofs.Common.{◌≡◌, ◌⊎◌, ◌∙◌, sym, subst, ℕ, Bool, true, false, cond, List, [], ◌∷◌, ◌++◌, refl, inl, inr, append_assoc, ⊎_elim}
+use Rattle.std.specs.Prelude.{Option, Some, None, IsTrue, filter_map, flat_map, is_some, not, option_and_then}
+use Rattle.std.specs.List.{list_any}
 use Rattle.std.specs.Option.{option_map_or}
 use Rattle.std.proofs.lemmas.Bool.{eqb-true}
 use Rattle.std.proofs.lemmas.List.Elements.{All-from_recursion, recursion_from_All}
 use Rattle.vp_model.specs.Types.{TxnId, ViewId, View, Stored, Op, Commit, Line}
 use Rattle.vp_model.specs.Types.op
-use Rattle.vp_model.specs.Words.{for_each, keys, put_at, value_at, view_before}
-use Rattle.vp_model.specs.Catalogue.{Catalogue, Table, accessible_by, same_table, sites_of, table_or, weights_of}
+use Rattle.vp_model.specs.Words.{for_each, keys, put_at, put_number, value_at}
+use Rattle.vp_model.specs.Catalogue.{Catalogue, Table, accessible_by, same_table, sites_of, table_or}
 use Rattle.vp_model.specs.Headline.{AreInForce, IsInForce, IsWeighed, entry_uses, is_locked, is_readable, op_uses, table_after, tables_true, tables_true_at, tables_true_in}
 use Rattle.vp_model.specs.OneCopy.{order}
 use Rattle.vp_model.specs.Refresh.{is_open}
 use Rattle.vp_model.specs.Site.{SiteState}
-use Rattle.vp_model.specs.Told.{told_tables}
+use Rattle.vp_model.specs.Told.{answers_in, table_asked, taken_call, told_tables, weighed}
 use Rattle.vp_model.specs.World.{Moment, Schedule, WorldState, journal_of, lines_of, moments_of, run_of}
 use Rattle.vp_laws.specs.Catalogues.{AreApart, IsWhole}
 use Rattle.vp_laws.specs.Entries.{record_in}
 use Rattle.vp_laws.proofs.Lists.Changes.{all_from}
-use Rattle.vp_laws.proofs.Lists.Members.{Has, has_of, has_first, has_right, contains, all_of, any_true, both_true, either_true, not_true}
+use Rattle.vp_laws.proofs.Lists.Members.{Has, has_first, has_right, contains, all_of, any_true, both_true, either_true, not_true}
 use Rattle.vp_laws.proofs.Lists.Items.{all_at}
 use Rattle.vp_laws.proofs.Lists.Numbers.{eq_self}
 use Rattle.vp_laws.proofs.Lists.Pairs.{Differ, pair_value}
@@ -48,7 +48,9 @@ puts_ascend [] ws h = h
 puts_ascend (t ∷ ts) ws h = puts_ascend ts (put_at t.0 t.1 ws) (put_ascending t.0 t.1 ws h)
 
 told_differ : (catalogue : Catalogue) (lines : List Line) (txn : TxnId) → Differ (keys (told_tables catalogue lines txn))
-told_differ catalogue lines txn = ascending_differ (told_tables catalogue lines txn) (puts_ascend _ [] tt)
+told_differ catalogue lines txn =
+    let told : List (ℕ × Table) = filter_map (λ (number : ℕ). option_and_then (table_asked catalogue) (taken_call lines txn number)) (for_each (filter_map (weighed txn) (flat_map answers_in lines)) put_number []) in
+    ascending_differ (told_tables catalogue lines txn) (puts_ascend told [] tt)
 
 same_table-self : (t : Table) → same_table t t ≡ true
 same_table-self [] = refl

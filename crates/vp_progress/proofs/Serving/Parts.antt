@@ -22,10 +22,10 @@ use Rattle.vp_progress.proofs.Certain.{none_found, outcome_is, same_refresh}
 
 -- ---- a request for a lock
 
-module _ (catalogue : Catalogue) (x : SiteState) (from : ℕ) (txn : TxnId) (view : ViewId) (number rec : ℕ) (stored : Stored) (holds : holds_view x view ≡ true) (new : has_txn x.ended txn ≡ false) (copy : value_at rec x.copies ≡ Some stored) (open : value_at rec x.bars ≡ None) where
+module _ (catalogue : Catalogue) (x : SiteState) (from : ℕ) (txn : TxnId) (view : ViewId) (number rec : ℕ) (stored : Stored) (holds : holds_view x view ≡ true) (new : has_txn x.ended txn ≡ false) (copy : value_at rec x.copies ≡ Some stored) (unbarred : value_at rec x.bars ≡ None) where
   granted : (exclusive : Bool) (reply_with : Stored → Message) → conflict rec exclusive txn x.locks ≡ None → on_request txn view number rec exclusive reply_with from (begin_step x) ≡ grant txn view rec exclusive (reply_with stored) from (begin_step x)
   unfolding on_request lock_copy
-  granted exclusive reply_with free = rw (holds, new, copy, open, free) refl
+  granted exclusive reply_with free = rw (holds, new, copy, unbarred, free) refl
 
   pub grants_read : conflict rec false txn x.locks ≡ None → step catalogue x (input.Message from (message.ReadRequest txn view number rec)) ≡ grant txn view rec false (message.ReadAnswer txn number stored.value) from (begin_step x)
   unfolding step on_input on_message on_read_request

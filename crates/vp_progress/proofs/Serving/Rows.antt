@@ -103,28 +103,28 @@ module _ (catalogue : Catalogue) (x : SiteState) (t : Live) (number : ℕ) (live
   pub reads : (name : List ℕ) (rec : ℕ) → find_record catalogue name ≡ Some rec → nat_le 64 (length t.answers) ≡ false → value_at rec x.bars ≡ None → list_any (has (members_in x.held)) (holders catalogue rec) ≡ true
       → step catalogue x (input.Call 0 (call.Read t.txn number name)) ≡ put_back (begin_step x) (read catalogue x.id x.held t (handled 0 number (call.Read t.txn number name)) name rec (lent_at x))
   unfolding step on_input on_call own_call new_call
-  reads name rec f n open held =
+  reads name rec f n unbarred held =
       let words = call.Read t.txn number name in
       let p = handled 0 number words in
-      ap (put_back (begin_step x)) (call_is catalogue x.id x.held t (lent_at x) number words live next idle ∙ record_is catalogue x.id x.held t (lent_at x) p name (λ rec. Deed.operates (op.Read rec None)) rec (read catalogue x.id x.held t p name) f refl n refl (rw (open, held) refl))
+      ap (put_back (begin_step x)) (call_is catalogue x.id x.held t (lent_at x) number words live next idle ∙ record_is catalogue x.id x.held t (lent_at x) p name (λ rec. Deed.operates (op.Read rec None)) rec (read catalogue x.id x.held t p name) f refl n refl (rw (unbarred, held) refl))
 
   pub writes : (name value : List ℕ) (rec : ℕ) → find_record catalogue name ≡ Some rec → nat_le 64 (length t.answers) ≡ false → is_too_large t (Deed.operates (op.Write rec (Some value))) ≡ false → value_at rec x.bars ≡ None → list_any (has (members_in x.held)) (holders catalogue rec) ≡ true
       → step catalogue x (input.Call 0 (call.Write t.txn number name value)) ≡ put_back (begin_step x) (change catalogue x.id x.held t (handled 0 number (call.Write t.txn number name value)) name (λ rec. Deed.operates (op.Write rec (Some value))) rec (lent_at x))
   unfolding step on_input on_call own_call new_call new_change
-  writes name value rec f n small open held =
+  writes name value rec f n small unbarred held =
       let words = call.Write t.txn number name value in
       let p = handled 0 number words in
       let asked : ℕ → Deed = λ rec. Deed.operates (op.Write rec (Some value)) in
-      ap (put_back (begin_step x)) (call_is catalogue x.id x.held t (lent_at x) number words live next idle ∙ record_is catalogue x.id x.held t (lent_at x) p name asked rec (change catalogue x.id x.held t p name asked) f refl n small (rw (open, held) refl))
+      ap (put_back (begin_step x)) (call_is catalogue x.id x.held t (lent_at x) number words live next idle ∙ record_is catalogue x.id x.held t (lent_at x) p name asked rec (change catalogue x.id x.held t p name asked) f refl n small (rw (unbarred, held) refl))
 
   pub deletes : (name : List ℕ) (rec : ℕ) → find_record catalogue name ≡ Some rec → nat_le 64 (length t.answers) ≡ false → value_at rec x.bars ≡ None → list_any (has (members_in x.held)) (holders catalogue rec) ≡ true
       → step catalogue x (input.Call 0 (call.Delete t.txn number name)) ≡ put_back (begin_step x) (change catalogue x.id x.held t (handled 0 number (call.Delete t.txn number name)) name (λ rec. Deed.operates (op.Write rec None)) rec (lent_at x))
   unfolding step on_input on_call own_call new_call new_change
-  deletes name rec f n open held =
+  deletes name rec f n unbarred held =
       let words = call.Delete t.txn number name in
       let p = handled 0 number words in
       let asked : ℕ → Deed = λ rec. Deed.operates (op.Write rec None) in
-      ap (put_back (begin_step x)) (call_is catalogue x.id x.held t (lent_at x) number words live next idle ∙ record_is catalogue x.id x.held t (lent_at x) p name asked rec (change catalogue x.id x.held t p name asked) f refl n refl (rw (open, held) refl))
+      ap (put_back (begin_step x)) (call_is catalogue x.id x.held t (lent_at x) number words live next idle ∙ record_is catalogue x.id x.held t (lent_at x) p name asked rec (change catalogue x.id x.held t p name asked) f refl n refl (rw (unbarred, held) refl))
 
   pub commits : step catalogue x (input.Call 0 (call.Commit t.txn number)) ≡ put_back (begin_step x) (commit catalogue x.id t (handled 0 number (call.Commit t.txn number)) (lent_at x))
   unfolding step on_input on_call own_call new_call

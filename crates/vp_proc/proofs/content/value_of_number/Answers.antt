@@ -1,4 +1,4 @@
-use Rattle.std.proofs.Common.{rules, ◌≡◌, ◌∙◌, sym, subst}
+use Rattle.std.proofs.Common.{rules, ◌≡◌, sym, subst}
 use Rattle.std.specs.Fmt.{decimal}
 use Rattle.vp_text.specs.Meaning.{IsRefused}
 use Rattle.vp_base.specs.Words.{IsValue}

@@ -1,4 +1,4 @@
-use Rattle.std.proofs.Common.{◌≡◌, ◌∙◌, refl, sym, inl}
+use Rattle.std.proofs.Common.{◌∙◌, refl, sym, inl}
 use Rattle.std.proofs.lemmas.Result.{err_from_is_err_and}
 use Rattle.vp_proc.specs.declared.ended.End.TheVariants as ends
 use Rattle.vp_proc.proofs.Begun.{fresh_at, fresh_txn, its_end, its_fault}
@@ -38,8 +38,8 @@ returns-in_err-end-clause-runs g c =
     let is = err_from_is_err_and c.from_residual-in_err-end.result c.from_residual-in_err-end.ensures.1 in
     let at = fresh_at c.args.port c.args.site c.args.turns c.in-Some.txn c.new-session.result c.new-session.ensures p old (g.L.Link.state c.ask.new.link) c.in_ok-answer.answer (sym c.begun_in.ensures ∙ c.in-Some.is) c.in_ok-answer.ensures.asks in
     rw (is.1, is.2) (
-        its_fault c.args.port c.args.site c.args.turns c.in-Some.txn c.new-session.result c.new-session.ensures c.play.new.self c.in_err-end.ensures.same p old (g.L.Link.state c.play.new.link) c.in_err-end.field-0.0
-        (c.in_err-end.ensures.finishes old at))
+    its_fault c.args.port c.args.site c.args.turns c.in-Some.txn c.new-session.result c.new-session.ensures c.play.new.self c.in_err-end.ensures.same p old (g.L.Link.state c.play.new.link) c.in_err-end.field-0.0
+    (c.in_err-end.ensures.finishes old at))
 
 pub returns-in_err-end-clause-evaluated : goal.returns-in_err-end-clause-evaluated
 returns-in_err-end-clause-evaluated g c = let is = err_from_is_err_and c.from_residual-in_err-end.result c.from_residual-in_err-end.ensures.1 in rw is.1 tt
@@ -50,8 +50,8 @@ returns-clause-runs g c =
     let old = g.L.Link.state c.args.link.now in
     let at = fresh_at c.args.port c.args.site c.args.turns c.in-Some.txn c.new-session.result c.new-session.ensures p old (g.L.Link.state c.ask.new.link) c.in_ok-answer.answer (sym c.begun_in.ensures ∙ c.in-Some.is) c.in_ok-answer.ensures.asks in
     rw c.into_ops.ensures (
-        its_end c.args.port c.args.site c.args.turns c.in-Some.txn c.new-session.result c.new-session.ensures c.play.new.self c.in_ok-end.ensures.same p old (g.L.Link.state c.play.new.link) c.in_ok-end.end
-        (c.in_ok-end.ensures.finishes old at))
+    its_end c.args.port c.args.site c.args.turns c.in-Some.txn c.new-session.result c.new-session.ensures c.play.new.self c.in_ok-end.ensures.same p old (g.L.Link.state c.play.new.link) c.in_ok-end.end
+    (c.in_ok-end.ensures.finishes old at))
 
 pub returns-clause-evaluated : goal.returns-clause-evaluated
 returns-clause-evaluated g c =
@@ -59,6 +59,6 @@ returns-clause-evaluated g c =
     let old = g.L.Link.state c.args.link.now in
     let at = fresh_at c.args.port c.args.site c.args.turns c.in-Some.txn c.new-session.result c.new-session.ensures p old (g.L.Link.state c.ask.new.link) c.in_ok-answer.answer (sym c.begun_in.ensures ∙ c.in-Some.is) c.in_ok-answer.ensures.asks in
     rw c.into_ops.ensures (
-        ended_evaluated c.args.port c.args.site c.args.turns p old (record { ops = c.play.new.self.ops; end = c.in_ok-end.end }) (g.L.Link.state c.play.new.link)
-        (its_end c.args.port c.args.site c.args.turns c.in-Some.txn c.new-session.result c.new-session.ensures c.play.new.self c.in_ok-end.ensures.same p old (g.L.Link.state c.play.new.link) c.in_ok-end.end
-        (c.in_ok-end.ensures.finishes old at)))
+    ended_evaluated c.args.port c.args.site c.args.turns p old (record { ops = c.play.new.self.ops; end = c.in_ok-end.end }) (g.L.Link.state c.play.new.link)
+    (its_end c.args.port c.args.site c.args.turns c.in-Some.txn c.new-session.result c.new-session.ensures c.play.new.self c.in_ok-end.ensures.same p old (g.L.Link.state c.play.new.link) c.in_ok-end.end
+    (c.in_ok-end.ensures.finishes old at)))

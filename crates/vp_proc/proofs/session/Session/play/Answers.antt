@@ -1,6 +1,6 @@
-use Rattle.std.proofs.Common.{◌≡◌, ◌∙◌, ◌+◌, ◌≤◌, ◌<◌, List, length, drop, get_or, ap, subst, sym, arith}
+use Rattle.std.proofs.Common.{◌≡◌, ◌∙◌, ◌+◌, ◌<◌, List, length, drop, get_or, ap, subst, sym, arith}
 use Rattle.std.proofs.lemmas.Result.{err_from_is_err_and}
-use Rattle.std.specs.Prelude.{Option, None, Result, Ok, Err}
+use Rattle.std.specs.Prelude.{Option, Ok, Err}
 use Rattle.vp_model.specs.Types.{TxnId}
 use Rattle.vp_base.specs.Identifiers.{IsTxn}
 use Rattle.vp_procedure.specs.declared.procedure.Statement.{Statement}
@@ -64,8 +64,8 @@ returns-in_err-end-clause-finishes g c old at =
     let i = c.loop-statement.statement-index in
     let next = past c.args.procedure.now c.as_slice-statement-items.result.now i c.statement-item.result c.as_slice-statement-items.ensures c.loop-statement-test.true c.statement-item.is in
     rw (is.1, is.2) (
-        taken c.args.self.now c.args.procedure.now (g.L.Link.state c.args.link.now) c.loop-statement.self c.take.new.self c.loop-statement.walk c.step.new.self c.take.new.walk (g.L.Link.state c.loop-statement.link) (g.L.Link.state c.take.new.link) i
-        c.statement-item.result c.in_ok-step.step (Err c.in_err-end.field-0.0) c.loop-statement.invariant next c.in_ok-step.ensures c.in_err-end.ensures.goes old at)
+    taken c.args.self.now c.args.procedure.now (g.L.Link.state c.args.link.now) c.loop-statement.self c.take.new.self c.loop-statement.walk c.step.new.self c.take.new.walk (g.L.Link.state c.loop-statement.link) (g.L.Link.state c.take.new.link) i
+    c.statement-item.result c.in_ok-step.step (Err c.in_err-end.field-0.0) c.loop-statement.invariant next c.in_ok-step.ensures c.in_err-end.ensures.goes old at)
 
 pub returns-in-Some-clause-finishes : goal.returns-in-Some-clause-finishes
 returns-in-Some-clause-finishes g c old at =
@@ -74,8 +74,8 @@ returns-in-Some-clause-finishes g c old at =
     let last = c.take.new.walk in
     let next = past p c.as_slice-statement-items.result.now i c.statement-item.result c.as_slice-statement-items.ensures c.loop-statement-test.true c.statement-item.is in
     subst (λ (o : Option End). GoesOn c.take.new.self p old (script_from (c.step.new.self.line + 1) (drop (i + 1) p.statements) last.vars last.mode) (g.L.Link.state c.take.new.link) (Ok o)) c.in-Some.is (
-        taken c.args.self.now p (g.L.Link.state c.args.link.now) c.loop-statement.self c.take.new.self c.loop-statement.walk c.step.new.self last (g.L.Link.state c.loop-statement.link) (g.L.Link.state c.take.new.link) i
-        c.statement-item.result c.in_ok-step.step (Ok c.in_ok-end.field-0) c.loop-statement.invariant next c.in_ok-step.ensures c.in_ok-end.ensures.goes old at)
+    taken c.args.self.now p (g.L.Link.state c.args.link.now) c.loop-statement.self c.take.new.self c.loop-statement.walk c.step.new.self last (g.L.Link.state c.loop-statement.link) (g.L.Link.state c.take.new.link) i
+    c.statement-item.result c.in_ok-step.step (Ok c.in_ok-end.field-0) c.loop-statement.invariant next c.in_ok-step.ensures c.in_ok-end.ensures.goes old at)
 
 pub overflow_add-walk : goal.overflow_add-walk
 overflow_add-walk g c =

@@ -1,4 +1,4 @@
-use Rattle.std.proofs.Common.{◌≡◌, ◌∙◌, ◌+◌, length, sym, subst, arith}
+use Rattle.std.proofs.Common.{◌∙◌, sym, subst, arith}
 use Rattle.std.proofs.lemmas.Result.{err_from_is_err_and}
 use Rattle.std.specs.Prelude.{Ok, Err}
 use Rattle.vp_model.specs.Types.op
@@ -20,7 +20,7 @@ returns-in_err-answer-clause-goes g c p old rest at =
     let w = c.args.walk.now in
     let asks = asks_read c.args.self.now c.args.name c.next_number.result (g.L.Link.state c.args.link.now) (g.L.Link.state c.ask.new.link) (Err c.in_err-answer.field-0.0) c.next_number.ensures c.in_err-answer.ensures.asks in
     rw (is.1, is.2) (
-        read_broken c.args.self.now p old c.args.rec c.args.name (after_read w.line w.vars w.mode rest c.args.var) (g.L.Link.state c.args.link.now) (g.L.Link.state c.ask.new.link) at c.in_err-answer.field-0.0 asks)
+    read_broken c.args.self.now p old c.args.rec c.args.name (after_read w.line w.vars w.mode rest c.args.var) (g.L.Link.state c.args.link.now) (g.L.Link.state c.ask.new.link) at c.in_err-answer.field-0.0 asks)
 
 pub returns-in_err-content-clause-goes : goal.returns-in_err-content-clause-goes
 returns-in_err-content-clause-goes g c p old rest at =
@@ -30,7 +30,7 @@ returns-in_err-content-clause-goes g c p old rest at =
     let asks = asks_read c.args.self.now c.args.name c.next_number.result (g.L.Link.state c.args.link.now) (g.L.Link.state c.ask.new.link) (Ok c.in_ok-answer.answer) c.next_number.ensures c.in_ok-answer.ensures.asks in
     let content = c.in_err-content.ensures.no_memory in
     rw (is.1, is.2) (ran_out (grown c.args.self.now (op.Read c.args.rec content.0)) p old (go content.0) (g.L.Link.state c.ask.new.link)
-        (read_told c.args.self.now p old c.args.rec c.args.name go (g.L.Link.state c.args.link.now) (g.L.Link.state c.ask.new.link) at c.in_ok-answer.answer content.0 asks content.1))
+    (read_told c.args.self.now p old c.args.rec c.args.name go (g.L.Link.state c.args.link.now) (g.L.Link.state c.ask.new.link) at c.in_ok-answer.answer content.0 asks content.1))
 
 pub returns-in_err-refuse-clause-goes : goal.returns-in_err-refuse-clause-goes
 returns-in_err-refuse-clause-goes g c p old rest at =
@@ -38,16 +38,16 @@ returns-in_err-refuse-clause-goes g c p old rest at =
     let w = c.args.walk.now in
     let asks = asks_read c.args.self.now c.args.name c.next_number.result (g.L.Link.state c.args.link.now) (g.L.Link.state c.ask.new.link) (Ok c.in_ok-answer.answer) c.next_number.ensures c.in_ok-answer.ensures.asks in
     rw (is.1, is.2) (c.in_err-refuse.ensures.finishes p old (
-        read_refused c.args.self.now p old c.args.rec c.args.name (after_read w.line w.vars w.mode rest c.args.var) (g.L.Link.state c.args.link.now) (g.L.Link.state c.ask.new.link) at
-        c.in_ok-answer.answer asks (sym c.in_ok-content.ensures.content ∙ c.in_default.is)))
+    read_refused c.args.self.now p old c.args.rec c.args.name (after_read w.line w.vars w.mode rest c.args.var) (g.L.Link.state c.args.link.now) (g.L.Link.state c.ask.new.link) at
+    c.in_ok-answer.answer asks (sym c.in_ok-content.ensures.content ∙ c.in_default.is)))
 
 pub returns-in_default-clause-goes : goal.returns-in_default-clause-goes
 returns-in_default-clause-goes g c p old rest at =
     let w = c.args.walk.now in
     let asks = asks_read c.args.self.now c.args.name c.next_number.result (g.L.Link.state c.args.link.now) (g.L.Link.state c.ask.new.link) (Ok c.in_ok-answer.answer) c.next_number.ensures c.in_ok-answer.ensures.asks in
     c.in_ok-refuse.ensures.finishes p old (
-        read_refused c.args.self.now p old c.args.rec c.args.name (after_read w.line w.vars w.mode rest c.args.var) (g.L.Link.state c.args.link.now) (g.L.Link.state c.ask.new.link) at
-        c.in_ok-answer.answer asks (sym c.in_ok-content.ensures.content ∙ c.in_default.is))
+    read_refused c.args.self.now p old c.args.rec c.args.name (after_read w.line w.vars w.mode rest c.args.var) (g.L.Link.state c.args.link.now) (g.L.Link.state c.ask.new.link) at
+    c.in_ok-answer.answer asks (sym c.in_ok-content.ensures.content ∙ c.in_default.is))
 
 pub returns-in_err-push-clause-goes : goal.returns-in_err-push-clause-goes
 returns-in_err-push-clause-goes g c p old rest at =
@@ -57,7 +57,7 @@ returns-in_err-push-clause-goes g c p old rest at =
     let content = c.in-Some.content in
     let asks = asks_read c.args.self.now c.args.name c.next_number.result (g.L.Link.state c.args.link.now) (g.L.Link.state c.ask.new.link) (Ok c.in_ok-answer.answer) c.next_number.ensures c.in_ok-answer.ensures.asks in
     rw (is.1, is.2) (ran_out (grown c.args.self.now (op.Read c.args.rec content)) p old (go content) (g.L.Link.state c.ask.new.link)
-        (read_told c.args.self.now p old c.args.rec c.args.name go (g.L.Link.state c.args.link.now) (g.L.Link.state c.ask.new.link) at c.in_ok-answer.answer content asks (sym c.in_ok-content.ensures.content ∙ c.in-Some.is)))
+    (read_told c.args.self.now p old c.args.rec c.args.name go (g.L.Link.state c.args.link.now) (g.L.Link.state c.ask.new.link) at c.in_ok-answer.answer content asks (sym c.in_ok-content.ensures.content ∙ c.in-Some.is)))
 
 pub returns-in-Some-number-clause-goes : goal.returns-in-Some-number-clause-goes
 returns-in-Some-number-clause-goes g c p old rest at =
@@ -79,8 +79,8 @@ returns-in_err-stop-in-None-clause-goes g c p old rest at =
     let asks = asks_read c.args.self.now c.args.name c.next_number.result (g.L.Link.state c.args.link.now) (g.L.Link.state c.ask.new.link) (Ok c.in_ok-answer.answer) c.next_number.ensures c.in_ok-answer.ensures.asks in
     let told = read_told c.args.self.now p old c.args.rec c.args.name go (g.L.Link.state c.args.link.now) (g.L.Link.state c.ask.new.link) at c.in_ok-answer.answer content asks (sym c.in_ok-content.ensures.content ∙ c.in-Some.is) in
     let due : IsToAbort (record c.args.self.now { ops = c.push.new.self }) p old (ends.NotNumber w.line) (g.L.Link.state c.ask.new.link) = rw c.in_ok-push.ensures.ok
-        (subst (λ (s : Script). IsAt (grown c.args.self.now (op.Read c.args.rec content)) p old s (g.L.Link.state c.ask.new.link))
-        (read_no_number w.line w.vars w.mode rest c.args.var content (sym c.number_in-number.ensures ∙ c.in-None.is)) told) in
+    (subst (λ (s : Script). IsAt (grown c.args.self.now (op.Read c.args.rec content)) p old s (g.L.Link.state c.ask.new.link))
+    (read_no_number w.line w.vars w.mode rest c.args.var content (sym c.number_in-number.ensures ∙ c.in-None.is)) told) in
     rw (is.1, is.2) (c.in_err-stop-in-None.ensures.finishes p old due)
 
 pub returns-clause-goes : goal.returns-clause-goes
@@ -91,6 +91,6 @@ returns-clause-goes g c p old rest at =
     let asks = asks_read c.args.self.now c.args.name c.next_number.result (g.L.Link.state c.args.link.now) (g.L.Link.state c.ask.new.link) (Ok c.in_ok-answer.answer) c.next_number.ensures c.in_ok-answer.ensures.asks in
     let told = read_told c.args.self.now p old c.args.rec c.args.name go (g.L.Link.state c.args.link.now) (g.L.Link.state c.ask.new.link) at c.in_ok-answer.answer content asks (sym c.in_ok-content.ensures.content ∙ c.in-Some.is) in
     let due : IsToAbort (record c.args.self.now { ops = c.push.new.self }) p old (ends.NotNumber w.line) (g.L.Link.state c.ask.new.link) = rw c.in_ok-push.ensures.ok
-        (subst (λ (s : Script). IsAt (grown c.args.self.now (op.Read c.args.rec content)) p old s (g.L.Link.state c.ask.new.link))
-        (read_no_number w.line w.vars w.mode rest c.args.var content (sym c.number_in-number.ensures ∙ c.in-None.is)) told) in
+    (subst (λ (s : Script). IsAt (grown c.args.self.now (op.Read c.args.rec content)) p old s (g.L.Link.state c.ask.new.link))
+    (read_no_number w.line w.vars w.mode rest c.args.var content (sym c.number_in-number.ensures ∙ c.in-None.is)) told) in
     c.in_ok-stop-in-None.ensures.finishes p old due

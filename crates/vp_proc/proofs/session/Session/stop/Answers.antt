@@ -1,4 +1,3 @@
-use Rattle.std.proofs.Common.{◌≡◌}
 use Rattle.std.proofs.lemmas.Result.{err_from_is_err_and}
 use Rattle.vp_proc.proofs.Sessions.{stop_lost}
 use Rattle.vp_proc.proofs.session.Session.stop.Goals as goal

@@ -1,4 +1,4 @@
-use Rattle.std.proofs.Common.{◌≡◌, ◌+◌, subst}
+use Rattle.std.proofs.Common.{◌+◌, subst}
 use Rattle.std.proofs.lemmas.Result.{err_from_is_err_and}
 use Rattle.vp_proc.specs.Scripts.{script_from}
 use Rattle.vp_proc.specs.declared.walk.Step.{Step}

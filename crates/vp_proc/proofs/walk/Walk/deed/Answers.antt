@@ -1,4 +1,4 @@
-use Rattle.std.proofs.Common.{◌≡◌, ◌∙◌, sym, refl, ap, rules, Some, None, true, false}
+use Rattle.std.proofs.Common.{◌∙◌, sym, refl, rules, false}
 use Rattle.vp_proc.specs.declared.ended.End.TheVariants as ends
 use Rattle.vp_proc.specs.declared.walk.Step.TheVariants as steps
 use Rattle.vp_proc.specs.declared.walk.Mode.TheVariants as mode

@@ -1,5 +1,4 @@
-use Rattle.std.proofs.Common.{◌≡◌, ◌∙◌, sym, refl, ap, rules, Some, None, true, false}
-use Rattle.vp_proc.specs.declared.walk.Mode.TheVariants as mode
+use Rattle.std.proofs.Common.{ap, rules}
 use Rattle.vp_proc.specs.declared.walk.Mode.{Mode}
 use Rattle.vp_proc.proofs.Walked.{passes_so}
 use Rattle.vp_proc.proofs.walk.Walk.step.Goals as goal
