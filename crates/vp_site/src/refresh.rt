@@ -11,6 +11,7 @@ ghost use Rattle.vp_refresh.specs.Done.{done_of};
 ghost use Rattle.vp_site.specs.Refreshing.{keep_or_bar};
 
 use crate::stepped::Stepped;
+use std::alloc::Global;
 use vp_base::{
     Boxed, Change, CopyOf, LogRecord, Message, NoMemory, RecId, SiteId, Sites, Stored, View,
     ViewId, has_site,
@@ -208,13 +209,7 @@ impl Stepped {
     fn records_here(&self) -> Result<Vec<RecId>, NoMemory>
         ensures { IfOk result (λ recs. recs.items ≡ keys self.now.site.copies) }
     {
-        let recs = self
-            .copies()
-            .as_slice()
-            .iter()
-            .map(|copy| copy.0)
-            .collect(self.allocator())?;
-        Ok(recs)
+        records_of(self.allocator(), self.copies().as_slice())
     }
 
     /// Begins the refresh of each copy here in the view, which the site holds already. A copy stays locked until its refresh ends: at
@@ -269,4 +264,11 @@ impl Stepped {
         self.refresh.on_answer(from, rec, answer.stored)?;
         self.settle(catalog, rec)
     }
+}
+
+/// Lists the records of these copies.
+fn records_of(alloc: Global, copies: &[(RecId, Stored)]) -> Result<Vec<RecId>, NoMemory>
+    ensures { IfOk result (λ recs. recs.items ≡ keys copies.now) }
+{
+    Ok(copies.iter().map(|copy| copy.0).collect(alloc)?)
 }
