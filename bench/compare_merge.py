@@ -10,22 +10,27 @@ others one to three things are changed first: turns are left out, said twice, ex
 are cut, split, joined or left out; lives skip some; `out` lines are left out, said twice or exchanged; stops, replies and what is no frame are put in; frames
 are spelled in the first version; and in one of eight the text has a fault. Bytes and exit statuses have to agree. What is merged is replayed by PROGRAM, too, and its check has to find it serial. Seeds are shared
 out over the processors; the first that differs is printed, and ends the run.
+
+With `--version 1` the nodes that record are of the first version, and the merge is that of the second: it takes the frames of their `in` lines, and compares `out` lines with
+frames of the second version. So in three runs of four what is handed over is spelled in that version before anything else is changed.
 """
 import random
 import subprocess
 import sys
 
 from compare_replay import COUNT, FOLDER, PROGRAM, SEED, Busy
-from comparison import compare_seeds, modules, with_byte_changed, with_lines_moved
+from comparison import SPOKEN, compare_seeds, modules, with_byte_changed, with_lines_moved, without_version
 from frame_draws import spelled_as_old
 
-base, fuzz, merge, reachtest, schedule, wire = modules(FOLDER, "base", "fuzz", "merge", "reachtest", "schedule", "wire")
+base, fuzz, merge, reachtest, schedule, version, wire = modules(FOLDER, "base", "fuzz", "merge", "reachtest", "schedule", "version", "wire")
+# what the nodes speak that record
+RECORDED = without_version(sys.argv[1:])[1]
 INSERTED = b" \n0123456789abcdefinoutstrd"
 
 
 def plan_of(draw, seed):
-    """A schedule with crashes and restarts."""
-    if draw.randrange(4) == 0:
+    """A schedule with crashes and restarts. The busy ones have calls that the first version lacks."""
+    if draw.randrange(4) == 0 and RECORDED == SPOKEN:
         plan = schedule.read(Busy(draw).text(draw.choice([5, 20, 40])))
     else:
         plan = fuzz.Fuzz(seed, draw.choice([10, 40, 100, 200])).schedule()
@@ -176,12 +181,23 @@ def changed(draw, blocks):
             draw.choice(CHANGES)(draw, blocks, block, draw.randrange(len(block.turns)))
 
 
+def spelled_as_new(blocks):
+    """What was handed over is spelled in the second version."""
+    for block in blocks:
+        for turn in block.turns:
+            turn[1:] = ["out " + wire.encode(wire.decode(bytes.fromhex(line[4:]))._replace(version=None)).hex() if line.startswith("out ") else line for line in turn[1:]]
+
+
 def drawn(seed):
     """The input of a seed."""
     draw = random.Random(seed)
+    version.choose(*RECORDED)
     plan = plan_of(draw, seed)
     blocks = [(site, reachtest.noised(reachtest.ended(lines, site, draw), draw)) for site, lines in reachtest.recorded(plan)]
+    version.choose(*SPOKEN)
     blocks = [Block(site, lines) for site, lines in reachtest.shuffled(blocks, draw)]
+    if RECORDED != SPOKEN and draw.randrange(4):
+        spelled_as_new(blocks)
     if draw.randrange(6):
         changed(draw, blocks)
     head = [*schedule.print_schedule(schedule.Schedule(plan.catalog, []))][:-1]

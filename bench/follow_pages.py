@@ -26,9 +26,10 @@ import own_network
 
 TOP = pathlib.Path(__file__).resolve().parent.parent
 PRINTED = re.compile(
-    r"(begun|value|written|committed|aborted|inviting|noview|unknown|skipped|busy|norecord|toomanyops|inaccessible|lockheld|viewchanged|timedout|spent"
-    r"|start|commit|in|out|serial|differs|bad|twice|limit|log|holds|status) [0-9.(]|(differs|commit|log|bad|limit) |usage: |errors1 "
-    r"|(newest|unsettled|doubt|can) \S+ |(end|no answer|disk fault|link fault|history)(,|$)|site \d+ port"
+    r"(begun|value|absent|written|deleted|weighed|committed|aborted|inviting|noview|unknown|skipped|busy|norecord|badtable|toomanyops|inaccessible|lockheld"
+    r"|viewchanged|timedout|spent|start|commit|in|out|serial|differs|unsent|bad|twice|limit|log|holds|status|done|failed|notnumber|overflow) [0-9.(]"
+    r"|(differs|commit|log|bad|limit) |usage: |errors1 |absent \S+ \d+@\d+ "
+    r"|(newest|unsettled|doubt|can) \S+ |(end|no answer|disk fault|link fault|history)(,|$)|site \d+ port|[a-z] \d+$"
 )
 TIMES = {", twice": 2, ", three times": 3}
 SECONDS = 600  # for one run

@@ -252,8 +252,9 @@ fn a_copy_has_the_doubts_too(rt: HostRuntime) {
     assert!(rt; counts(&rt, &copy) == (1, 0));
 }
 
-fn a_table(rt: &impl Abort, alloc: Global) -> Table {
-    let mut cursor = Cursor::new(&[1, 1, 2, 0]);
+/// The table that these bytes are.
+pub(crate) fn table_of(rt: &impl Abort, alloc: Global, bytes: &[u8]) -> Table {
+    let mut cursor = Cursor::new(bytes);
     match read_table(alloc, &mut cursor) {
         Ok(table) => table,
         Err(_fault) => panic!(rt; "these bytes are a table"),
@@ -284,7 +285,7 @@ fn a_delete_leaves_no_value(rt: HostRuntime) {
 
 #[test]
 fn a_table_is_kept_with_the_content(rt: HostRuntime) {
-    let table = a_table(&rt, rt.alloc());
+    let table = table_of(&rt, rt.alloc(), &[1, 1, 0, 2]);
     let weighed = after_change(&rt, rt.alloc(), Put::Keep, Some(table));
     assert!(rt; has(&weighed, 0, b"10", 4));
     let written = after(&rt, weighed, yes(&rt, rt.alloc(), 8, 5, b"11"));

@@ -1,9 +1,10 @@
 //! The bytes of fields in each buffer.
 
+use crate::durable::table_of;
 use bytes::{BufMut, BytesMut};
 use std::alloc::Global;
 use vp_base::{
-    CallNo, Change, CopyOf, Name, NoMemory, Owner, Put, RecId, SiteId, TxnId, Value, ViewId,
+    CallNo, Change, CopyOf, Name, NoMemory, Owner, Put, RecId, SiteId, Table, TxnId, Value, ViewId,
 };
 use vp_bytes::{
     put_byte, put_counted, put_maybe_view, put_name, put_numbered, put_owner, put_recs,
@@ -149,10 +150,10 @@ fn names_values_sites_records_and_writes_are_read(rt: HostRuntime) {
 }
 
 /// Writes a content that is a value, one that is none, and a table, in the second version.
-fn put_contents<B: BufMut>(out: &mut B, value: &Value) -> Result<(), NoMemory> {
+fn put_contents<B: BufMut>(out: &mut B, value: &Value, table: &Table) -> Result<(), NoMemory> {
     put_content(out, Version::Second, &Some(value.copy_of()?))?;
     put_content(out, Version::Second, &None)?;
-    put_table(out, &[(SiteId::of(1), 1), (SiteId::of(16), 65535)])
+    put_table(out, table)
 }
 
 const CONTENTS: &[u8] = b"\x01\0\x0211\0\x02\x01\0\x01\x10\xff\xff";
@@ -164,8 +165,9 @@ const CHANGES: &[u8] = b"\
 #[test]
 fn contents_and_tables_have_their_bytes(rt: HostRuntime) {
     let value = Value::read(rt.alloc(), b"11").expect(&rt, "a value");
+    let table = table_of(&rt, rt.alloc(), b"\x02\x01\0\x01\x10\xff\xff");
     let mut bytes = BytesMut::new(rt.alloc());
-    assert!(rt; put_contents(&mut bytes, &value).is_ok());
+    assert!(rt; put_contents(&mut bytes, &value, &table).is_ok());
     assert!(rt; bytes.as_slice() == CONTENTS);
 }
 

@@ -1,6 +1,6 @@
 -- What a turn's frame asks of its site, and the message that it is.
 use Rattle.std.proofs.Common.{◌≡◌, ◌≢◌, ◌∙◌, ap, sym, subst, ℕ, ◌+◌, ◌-◌, suc, Bool, true, false, cond, List, ◌∷◌, [], refl, arith, Result, Ok, Err, ⊎_elim}
-use Rattle.std.specs.Prelude.{Option, Some, None, ◌==◌, ◌&&◌, not, slice_get, is_some, option_map}
+use Rattle.std.specs.Prelude.{Option, Some, None, ◌==◌, slice_get, is_some, option_map}
 use Rattle.std.specs.List.{position_from}
 use Rattle.std.specs.Str.{bytes_eq}
 use Rattle.std.proofs.lemmas.Bool.{eqb-true}

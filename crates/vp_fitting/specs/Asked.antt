@@ -1,8 +1,5 @@
 -- What recordings ask of each site: its turns over its lives, and what a turn's frame is to it.
-use Rattle.std.specs.Prelude.{ℕ, ◌+◌, ◌==◌, ◌&&◌, Bool, true, false, not, if◌then◌else◌, List, [], ◌∷◌, ◌++◌, length, map, Result, Ok, Err}
-use Rattle.vp_model.specs.Types.{Call}
-use Rattle.vp_model.specs.Types.call
-use Rattle.vp_model.specs.Types.input
+use Rattle.std.specs.Prelude.{ℕ, ◌+◌, ◌==◌, ◌&&◌, Bool, not, if◌then◌else◌, List, [], ◌∷◌, ◌++◌, length, map, Result, Ok, Err}
 use Rattle.vp_model.specs.Words.{is_empty}
 use Rattle.vp_wire.specs.declared.frame.Frame.{Frame}
 use Rattle.vp_wire.specs.declared.frame.Body.{Body}
@@ -10,7 +7,7 @@ use Rattle.vp_wire.specs.declared.frame.Body.TheVariants as body
 use Rattle.vp_wire.specs.Decoded.{read_frame}
 use Rattle.vp_runs.specs.Arrivals.{arrival_in}
 use Rattle.vp_runs.specs.declared.arrival.Arrival.{Arrival}
-use Rattle.vp_runs.specs.declared.arrival.Arrival.TheVariants.{Bad, Stray, Stops, Gives}
+use Rattle.vp_runs.specs.declared.arrival.Arrival.TheVariants.{Bad, Stray, Stops}
 use Rattle.vp_recording.specs.declared.recording.Recording.{Recording}
 use Rattle.vp_recording.specs.declared.recording.Turn.{Turn}
 

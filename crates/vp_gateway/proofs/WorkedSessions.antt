@@ -9,7 +9,8 @@ use Rattle.vp_model.specs.Types.{Answer, Call}
 use Rattle.vp_outside.specs.Links.{LinkState, Gave, nothing}
 use Rattle.vp_outside.specs.declared.datagram.Datagram.{Datagram}
 use Rattle.vp_runs.specs.Asking.{first_answer}
-use Rattle.vp_schedule.specs.Reading.{begin_at, regroup_at, bare_at, read_at, write_at, delete_at, removal_at, commit_at, abort_at, ending_at, change_at, deed_at, numbered_at, call_at}
+use Rattle.vp_schedule.specs.Reading.{begin_at, regroup_at, bare_at, read_at, write_at, delete_at, removal_at, weigh_at, other_change_at, commit_at, abort_at, ending_at, change_at, deed_at, numbered_at, call_at}
+use Rattle.vp_schedule.specs.TableReading.{share_at, shares_at, table_at}
 use Rattle.vp_client.specs.Asked.{Asks}
 use Rattle.vp_client.specs.Conversations.{Exchange, as_asked, Conversed}
 use Rattle.vp_gateway.specs.declared.asked.LineRequest.{LineRequest}
@@ -19,7 +20,7 @@ use Rattle.vp_gateway.specs.Sessions.{Answers, IsSession}
 
 -- what reads a line: a proof that names this definition computes through all of these
 unfoldable pub reads : Unit {0}
-unfolding literal_at word_at number_at begins_number txn_at begin_at regroup_at bare_at read_at write_at delete_at removal_at commit_at abort_at ending_at change_at deed_at numbered_at call_at digits
+unfolding literal_at word_at number_at begins_number txn_at begin_at regroup_at bare_at read_at write_at delete_at removal_at weigh_at other_change_at share_at shares_at table_at commit_at abort_at ending_at change_at deed_at numbered_at call_at digits
 reads = tt
 
 -- ---- one line after the other

@@ -10,7 +10,7 @@ use Rattle.std.specs.Option.{option_or}
 use Rattle.std.specs.declared.vec.Vec.{Vec}
 use Rattle.indexmap.specs.IndexMap.{insert_entry}
 use Rattle.indexmap.proofs.MapLemmas.{value_index, some_index}
-use Rattle.vp_merge.specs.Numbers.{entry_of, number_at, number_in, place_of, HaveSame, HasFrame}
+use Rattle.vp_merge.specs.Numbers.{number_at, number_in, place_of, HaveSame, HasFrame}
 use Rattle.vp_merge.specs.declared.numbers.FrameNumbers.{FrameNumbers}
 
 pub same : (xs ys : List ℕ) → bytes_eq xs ys ≡ true → xs ≡ ys

@@ -1,6 +1,6 @@
 -- The index of numbers after more messages.
 use Rattle.std.proofs.Common.{◌≡◌, ◌∙◌, ap, sym, subst, Bool, true, false, cond, ℕ, ◌+◌, ◌<◌, ◌≤◌, suc, List, [], ◌∷◌, ◌++◌, length, Some, None, refl, arith, append-nil, append_assoc, length-append}
-use Rattle.std.specs.Prelude.{Option, option_map, is_some}
+use Rattle.std.specs.Prelude.{Option, option_map}
 use Rattle.std.specs.List.{position_from}
 use Rattle.std.specs.Option.{option_or}
 use Rattle.std.specs.Str.{bytes_eq}

@@ -23,7 +23,7 @@ use Rattle.vp_runs.specs.declared.arrival.Arrival.TheVariants.{Bad, Stray, Stops
 use Rattle.vp_fitting.specs.Asked.{asks, asks_body, asks_of}
 use Rattle.vp_fitting.specs.Merged.{event_of, is_ready, own_events, lowest, events_in}
 use Rattle.vp_fitting.proofs.Messages.{AskedBy, asked_by}
-use Rattle.vp_merge.specs.Numbers.{sent_again, as_sent, entry_of, number_at, number_in, number_of, place_of, IsIndex, HasFrame, HasTurn}
+use Rattle.vp_merge.specs.Numbers.{sent_again, as_sent, entry_of, number_at, number_of, place_of, IsIndex, HasTurn}
 use Rattle.vp_merge.specs.Played.{IsPut}
 use Rattle.vp_merge.specs.Tracks.{event_by, own_event, is_ready_by}
 use Rattle.vp_merge.specs.declared.numbers.FrameNumbers.{FrameNumbers}

@@ -151,7 +151,7 @@ impl Cluster {
     /// Starts the node of a site, which must print this line first. Its port is bound before that.
     fn node(&self, site: &(&str, &str, &str), line: &[u8; 8]) -> io::Result<Child> {
         let (number, log, said) = site;
-        let mut node = self.start(said, &["node", number, log, "100"])?;
+        let mut node = self.start(said, &["node", number, log, "1000"])?;
         if prints(&mut node, line) {
             return Ok(node);
         }

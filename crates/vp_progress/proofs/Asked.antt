@@ -1,6 +1,6 @@
 -- What was asked of other sites, in every world: a request for a lock to write is of a record that the transaction has changed or is
 -- changing, each prepare has the changes of all that was asked, and what is asked for a transaction names one view.
-use Rattle.std.proofs.Common.{◌≡◌, ◌≢◌, ◌⊎◌, ◌∙◌, ap, sym, subst, ℕ, true, List, [], ◌∷◌, ◌++◌, refl, arith, ⊎_elim, inl, inr}
+use Rattle.std.proofs.Common.{◌≡◌, ◌⊎◌, ◌∙◌, ap, sym, subst, ℕ, true, List, [], ◌∷◌, refl, arith, ⊎_elim, inl, inr}
 use Rattle.std.specs.Prelude.{Option, Some, None}
 use Rattle.vp_model.specs.Types.{Change, ViewId, TxnId, Sent, Message, Input, Pending, Live}
 use Rattle.vp_model.specs.Types.message
@@ -14,7 +14,7 @@ use Rattle.vp_model.specs.Calls.{prepare_for}
 use Rattle.vp_model.specs.Durable.{DurableState}
 use Rattle.vp_model.specs.Step.{mark, step, start}
 use Rattle.vp_laws.specs.Votes.{is_commit}
-use Rattle.vp_laws.proofs.Lists.Members.{Has, has_none, has_left, has_right, has_one, filter_has, filter_keeps, map_has, has_test}
+use Rattle.vp_laws.proofs.Lists.Members.{Has, has_none, has_right, has_one, filter_has, filter_keeps, map_has, has_test}
 use Rattle.vp_laws.proofs.Lists.Changes.{mapped_has}
 use Rattle.vp_laws.proofs.Lists.Names.{apart_unique}
 use Rattle.vp_laws.proofs.Moves.LocalViews.{letter}

@@ -1,6 +1,6 @@
 -- A doubt stays until its coordinator says the outcome: no other site ever does.
-use Rattle.std.proofs.Common.{◌≡◌, ◌⊎◌, ◌∙◌, ap, sym, subst, ℕ, ◌+◌, true, false, List, [], ◌∷◌, refl, ⊎_elim}
-use Rattle.std.specs.Prelude.{Option, Some, None, ◌&&◌}
+use Rattle.std.proofs.Common.{◌≡◌, ◌∙◌, ap, sym, subst, ℕ, ◌+◌, true, false, List, [], ◌∷◌, refl, ⊎_elim}
+use Rattle.std.specs.Prelude.{Option, Some, None}
 use Rattle.std.specs.List.{Contains}
 use Rattle.vp_model.specs.Types.{Sent, Commit, Message, Input, Event, Live, Doubt}
 use Rattle.vp_model.specs.Types.input

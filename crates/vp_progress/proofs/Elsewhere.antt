@@ -1,6 +1,6 @@
 -- What events that mend some sites leave: the other sites as they were; and where no prepare comes, no site is in a new doubt.
-use Rattle.std.proofs.Common.{◌≡◌, ◌≢◌, ◌⊎◌, ◌∙◌, ap, sym, subst, ℕ, ◌+◌, ◌-◌, ◌^◌, Bool, true, false, List, [], ◌∷◌, ◌++◌, refl, ⊎_elim}
-use Rattle.std.specs.Prelude.{Option, Some, None, ◌==◌, ◌&&◌, not}
+use Rattle.std.proofs.Common.{◌≡◌, ◌≢◌, ◌∙◌, ap, sym, subst, ℕ, ◌+◌, ◌-◌, ◌^◌, Bool, true, false, List, [], ◌∷◌, ◌++◌, refl, ⊎_elim}
+use Rattle.std.specs.Prelude.{Option, Some, None, ◌==◌, not}
 use Rattle.std.specs.Option.{option_map_or}
 use Rattle.vp_model.specs.Types.{Sent, Message, Event, Input, Doubt}
 use Rattle.vp_model.specs.Types.event

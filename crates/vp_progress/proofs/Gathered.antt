@@ -1,8 +1,8 @@
 -- One site regroups, hears of the promises that are above its own, and regroups again: now its invitation is above all, and each accepts it.
-use Rattle.std.proofs.Common.{◌≡◌, ◌≢◌, ◌⊎◌, ◌∙◌, ap, sym, subst, ℕ, ◌+◌, ◌-◌, ◌<◌, ◌≤◌, ◌^◌, Bool, true, false, List, [], ◌∷◌, ◌++◌, length, refl, arith, ⊎_elim, inl, inr}
-use Rattle.std.specs.Prelude.{Some, ◌==◌, ◌&&◌, nat_lt, not, max, filter}
+use Rattle.std.proofs.Common.{◌≡◌, ◌≢◌, ◌∙◌, ap, sym, subst, ℕ, ◌+◌, ◌-◌, ◌<◌, ◌≤◌, ◌^◌, Bool, true, false, List, [], ◌∷◌, ◌++◌, length, refl, arith, ⊎_elim}
+use Rattle.std.specs.Prelude.{Some, ◌==◌, nat_lt, not, max}
 use Rattle.std.proofs.lemmas.Bool.Decides.{nat_tests}
-use Rattle.vp_model.specs.Types.{ViewId, Commit, Sent, Event}
+use Rattle.vp_model.specs.Types.{ViewId, Commit, Event}
 use Rattle.vp_model.specs.Types.call
 use Rattle.vp_model.specs.Types.event
 use Rattle.vp_model.specs.Types.input
@@ -10,7 +10,7 @@ use Rattle.vp_model.specs.Types.message
 use Rattle.vp_model.specs.Words.{has, view_before}
 use Rattle.vp_model.specs.Catalogue.{Catalogue, sites_of}
 use Rattle.vp_model.specs.Durable.{DurableState}
-use Rattle.vp_model.specs.Site.{ViewState, SiteState, Stepped, begin_step}
+use Rattle.vp_model.specs.Site.{ViewState, SiteState, Stepped}
 use Rattle.vp_model.specs.Views.{highest, is_spent}
 use Rattle.vp_model.specs.Step.{step}
 use Rattle.vp_model.specs.World.{WorldState, Schedule, next, place_of, site_of, message_at, moments_of}
@@ -23,7 +23,7 @@ use Rattle.vp_laws.proofs.Worlds.Scenes.{scene_of, kept_in, promise_at}
 use Rattle.vp_laws.proofs.Worlds.Events.{in_last}
 use Rattle.vp_laws.proofs.Invariant.Known.{Known}
 use Rattle.vp_laws.proofs.Keeping.Known.{known_last}
-use Rattle.vp_progress.specs.Going.{goes_on, world_after, EachPasses, is_within}
+use Rattle.vp_progress.specs.Going.{world_after, EachPasses, is_within}
 use Rattle.vp_progress.specs.Progress.{world_of}
 use Rattle.vp_progress.specs.Gathering.{gathers, calls_in, IsAwaited, CanGather, HaveViewsLeft}
 use Rattle.vp_progress.proofs.Going.{world_goes_on, passing_flows_not}

@@ -22,7 +22,7 @@ use Rattle.vp_laws.proofs.Worlds.Scenes.{scene_of, kept_in, promise_at}
 use Rattle.vp_laws.proofs.Invariant.Known.{Known}
 use Rattle.vp_progress.specs.Whole.{promised_number}
 use Rattle.vp_progress.proofs.Calm.{calms, carries}
-use Rattle.vp_progress.proofs.Can.{Can, can_now, can_then, Each, one_by_one}
+use Rattle.vp_progress.proofs.Can.{Can, can_now, Each, one_by_one}
 use Rattle.vp_progress.proofs.Acts.{Did, by_regroup, by_carried}
 use Rattle.vp_progress.proofs.Started.{IsUp, Started}
 use Rattle.vp_progress.proofs.Based.{Based, moves_on, other_as, greatest}

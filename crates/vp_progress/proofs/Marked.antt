@@ -1,5 +1,5 @@
 -- In every world: a lock of a transaction in doubt, at a site that does not hold the doubt's view, is on a record that the doubt writes.
-use Rattle.std.proofs.Common.{◌≡◌, ◌≢◌, ◌⊎◌, ◌∙◌, ap, sym, subst, ℕ, Bool, true, false, List, [], ◌∷◌, refl, ⊎_elim, inl, inr}
+use Rattle.std.proofs.Common.{◌≡◌, ◌⊎◌, ◌∙◌, ap, sym, subst, ℕ, Bool, true, false, List, [], ◌∷◌, refl, ⊎_elim, inl, inr}
 use Rattle.std.specs.Prelude.{Some, flat_map}
 use Rattle.vp_model.specs.Types.{Change, ViewId, TxnId, Sent, Message, Input, Lock, Doubt}
 use Rattle.vp_model.specs.Types.message

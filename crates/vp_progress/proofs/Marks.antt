@@ -1,5 +1,5 @@
 -- Locks of transactions in doubt, step by step: where an exclusive one comes from, and that a shared one is of the view that is held.
-use Rattle.std.proofs.Common.{◌≡◌, ◌≢◌, ◌⊎◌, ◌∙◌, ap, sym, subst, ℕ, Bool, true, false, cond, List, [], ◌∷◌, ◌++◌, map, refl, ⊎_elim, inl, inr}
+use Rattle.std.proofs.Common.{◌≡◌, ◌⊎◌, ◌∙◌, ap, sym, subst, ℕ, Bool, true, false, cond, List, [], ◌∷◌, ◌++◌, map, refl, ⊎_elim, inl, inr}
 use Rattle.std.specs.Prelude.{Option, Some, None, ◌==◌, ◌&&◌, ◌||◌, not, option_map}
 use Rattle.std.proofs.lemmas.Bool.{eqb-true, and_parts}
 use Rattle.vp_model.specs.Types.{Change, ViewId, TxnId, View, Stored, Owner, Message, Input, Lock, Part, Refreshing, Live, Ending, Doubt}
@@ -7,12 +7,12 @@ use Rattle.vp_base.specs.declared.site.Ending.TheVariants.{Committed}
 use Rattle.vp_model.specs.Types.log_record
 use Rattle.vp_model.specs.Types.message
 use Rattle.vp_model.specs.Types.owner
-use Rattle.vp_model.specs.Words.{has, is_view, same_owner, same_txn, txn_before}
+use Rattle.vp_model.specs.Words.{is_view, same_owner, same_txn, txn_before}
 use Rattle.vp_model.specs.Catalogue.{Catalogue}
 use Rattle.vp_model.specs.Durable.{doubt_of, put_doubt}
 use Rattle.vp_model.specs.Locks.{holds, raised, with_lock, without_guard}
 use Rattle.vp_model.specs.Site.{ViewState, ParticipantState, CoordinatorState, Here, SiteState, Lent, Stepped, begin_step, put_back, send, force, change_participant}
-use Rattle.vp_model.specs.Transactions.{keep_writes, decide, close, complete}
+use Rattle.vp_model.specs.Transactions.{keep_writes, complete}
 use Rattle.vp_model.specs.Refresh.{unlist, end_refresh, start_refresh}
 use Rattle.vp_model.specs.Views.{has_doubt, outlasts_for, outlasts, drop_view, start_inviting, hold}
 use Rattle.vp_model.specs.Calls.{start_txn, take_lock, read_at, write_at, prepare_parts}

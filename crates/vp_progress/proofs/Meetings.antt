@@ -1,5 +1,5 @@
 -- Sites that are mended come together, whatever the others do: each free record is unlocked at each of them.
-use Rattle.std.proofs.Common.{◌≡◌, ◌≢◌, ◌⊎◌, ◌∙◌, ap, sym, subst, ℕ, Bool, true, false, List, [], ◌∷◌, refl, arith, ⊎_elim}
+use Rattle.std.proofs.Common.{◌≡◌, ◌∙◌, ap, sym, subst, ℕ, Bool, true, false, List, [], ◌∷◌, refl, arith, ⊎_elim}
 use Rattle.std.specs.Prelude.{Option, Some, None, ◌==◌, not}
 use Rattle.std.specs.List.{list_any}
 use Rattle.vp_model.specs.Types.{View, Owner, Lock, Part, Live, Commit, Doubt, Refreshing}

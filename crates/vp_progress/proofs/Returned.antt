@@ -1,6 +1,6 @@
 -- What mends takes no name: so a client whose site has one left is served in the whole world that is reached.
-use Rattle.std.proofs.Common.{◌≡◌, ◌∙◌, ap, sym, subst, ℕ, ◌+◌, ◌-◌, ◌^◌, ◌<◌, ◌≤◌, true, List, [], ◌∷◌, length, refl, arith}
-use Rattle.std.specs.Prelude.{Some, is_some, ◌&&◌}
+use Rattle.std.proofs.Common.{◌≡◌, ◌∙◌, ap, sym, subst, ℕ, ◌-◌, ◌^◌, ◌<◌, ◌≤◌, true, List, [], ◌∷◌, length, refl, arith}
+use Rattle.std.specs.Prelude.{Some, is_some}
 use Rattle.std.specs.List.{AllByRecursion}
 use Rattle.vp_catalog.specs.Document.{IsCatalogue}
 use Rattle.vp_model.specs.Types.{Call, Event, Input}
@@ -8,10 +8,9 @@ use Rattle.vp_model.specs.Types.call
 use Rattle.vp_model.specs.Types.input
 use Rattle.vp_model.specs.Words.{has}
 use Rattle.vp_model.specs.Catalogue.{Catalogue, sites_of, find_record}
-use Rattle.vp_model.specs.Durable.{DurableState}
 use Rattle.vp_model.specs.Site.{SiteState}
-use Rattle.vp_model.specs.Step.{step, start}
-use Rattle.vp_model.specs.World.{WorldState, Moved, Schedule, next, site_of, moments_of}
+use Rattle.vp_model.specs.Step.{step}
+use Rattle.vp_model.specs.World.{WorldState, Moved, Schedule, next, moments_of}
 use Rattle.vp_laws.proofs.Lists.Members.{both_true}
 use Rattle.vp_laws.proofs.Table.Views.{local-step}
 use Rattle.vp_laws.proofs.Worlds.Scenes.{Scene, scene_of, kept_at, plain_at, acted, stepping}

@@ -1,5 +1,5 @@
 -- Whatever has happened, each client can be served: by what mends all sites, and then by what serves the client.
-use Rattle.std.specs.Prelude.{◌≡◌, ℕ, ◌<◌, ◌≤◌, ◌^◌, ◌-◌, true, is_some, List, length}
+use Rattle.std.specs.Prelude.{◌≡◌, ℕ, ◌<◌, ◌^◌, ◌-◌, true, is_some, List, length}
 use Rattle.std.specs.List.{AllByRecursion}
 use Rattle.vp_catalog.specs.Document.{IsCatalogue}
 use Rattle.vp_model.specs.Types.{Event}

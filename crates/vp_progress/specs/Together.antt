@@ -1,5 +1,5 @@
 -- Sites that are together: up, in one view of their own, and idle but for doubts that no one of them can end.
-use Rattle.std.specs.Prelude.{◌≡◌, ◌≢◌, ℕ, ◌<◌, ◌≤◌, ◌^◌, ◌-◌, true, false, List, [], length, None, Some}
+use Rattle.std.specs.Prelude.{◌≡◌, ◌≢◌, ℕ, ◌<◌, ◌^◌, ◌-◌, true, false, List, [], None, Some}
 use Rattle.std.specs.List.{Contains, AllByRecursion}
 use Rattle.vp_model.specs.Types.{View, Lock, Doubt}
 use Rattle.vp_model.specs.Words.{has, value_at}

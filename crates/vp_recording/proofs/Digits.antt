@@ -1,5 +1,5 @@
 -- Digits of bytes, and pairs of them.
-use Rattle.std.proofs.Common.{◌≡◌, ℕ, ◌+◌, ◌*◌, ◌/◌, ◌%◌, ◌<◌, ◌≤◌, zero, suc, Bool, true, false, ◌&&◌, ◌||◌, not, List, ◌∷◌, [], ◌++◌, length, get_or, take, slice_index, refl, ap, sym, subst, ◌∙◌, arith, ⊎_elim}
+use Rattle.std.proofs.Common.{◌≡◌, ℕ, ◌+◌, ◌*◌, ◌/◌, ◌%◌, ◌<◌, ◌≤◌, zero, suc, Bool, true, false, cond, ◌&&◌, ◌||◌, not, List, ◌∷◌, [], ◌++◌, length, get_or, take, slice_index, refl, ap, sym, subst, ◌∙◌, arith, ⊎_elim}
 use Rattle.std.specs.Prelude.{◌==◌, nat_lt}
 use Rattle.std.specs.List.{AllByRecursion}
 use Rattle.std.proofs.lemmas.Bool.{and_parts, cases_lt, eqb-true, ltb-true}
@@ -33,6 +33,16 @@ is_written v = is_digit (slice_index lower_digits v) && (digit_value (slice_inde
 digit_small : (c : ℕ) → is_digit c ≡ true → c < 103
 digit_small c h = grind (arith, nat_tests, h)
 
+abbrev eqb : Bool → Bool → Bool
+eqb true b = b
+eqb false b = not b
+
+same_of : (a b : Bool) → eqb a b ≡ true → a ≡ b
+same_of true true h = refl
+same_of true false h = absurd cc
+same_of false true h = absurd cc
+same_of false false h = refl
+
 of_read : (a b : Bool) → a ≡ true → (not a || b) ≡ true → b ≡ true
 of_read true b e h = h
 of_read false b e h = absurd cc
@@ -47,6 +57,28 @@ pub digit_written : (v : ℕ) → v < 16 → (is_digit (slice_index lower_digits
 digit_written v h =
     let parts = and_parts (is_digit (slice_index lower_digits v)) (digit_value (slice_index lower_digits v) == v) (at_below is_written 16 v refl h) in
     (parts.0, eqb-true _ _ parts.1)
+
+-- ---- the table of values, by bytes
+
+abbrev pub values_from : ℕ → ℕ → List ℕ
+values_from b zero = []
+values_from b (suc n) = cond (is_digit b) (digit_value b) 255 ∷ values_from (b + 1) n
+
+abbrev pub values : List ℕ
+values = values_from 0 256
+
+-- the value of a byte tells whether it is a digit, and is a digit's
+abbrev is_told : ℕ → Bool
+is_told b = eqb (nat_lt (get_or values b 0) 16) (is_digit b) && (not (is_digit b) || (get_or values b 0 == digit_value b))
+
+told : (b : ℕ) → b < 256 → is_told b ≡ true
+told b lt = at_below is_told 256 b refl lt
+
+pub value_tells : (b : ℕ) → b < 256 → nat_lt (get_or values b 0) 16 ≡ is_digit b
+value_tells b lt = same_of _ _ (and_parts (eqb (nat_lt (get_or values b 0) 16) (is_digit b)) _ (told b lt)).0
+
+pub value_is : (b : ℕ) → b < 256 → is_digit b ≡ true → get_or values b 0 ≡ digit_value b
+value_is b lt digit = eqb-true _ _ (of_read (is_digit b) _ digit (and_parts (eqb (nat_lt (get_or values b 0) 16) (is_digit b)) _ (told b lt)).1)
 
 -- ---- pairs
 

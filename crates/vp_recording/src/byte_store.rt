@@ -12,6 +12,8 @@ const BLOCK: usize = 65_536;
 /// Keeps the bytes of datagrams. Many of them lie in one block of memory, which stays until the last of them is gone.
 #[derive(Drop)]
 pub struct ByteStore {
+    /// The bytes of the datagram at hand.
+    pub read: Vec<u8>,
     /// What is free of the block at hand.
     free: BytesMut,
 }
@@ -20,6 +22,7 @@ impl ByteStore {
     /// Makes it without a block. Takes no memory.
     pub fn new(alloc: Global) -> ByteStore {
         ByteStore {
+            read: Vec::new(alloc),
             free: BytesMut::new(alloc),
         }
     }
@@ -29,16 +32,17 @@ impl ByteStore {
         *self.free.allocator()
     }
 
-    /// Copies the bytes into the block at hand, or into a new one where they don't fit there.
-    pub fn keep(&mut self, bytes: &[u8]) -> Result<Bytes, NoMemory>
-        ensures { IfOk result (λ kept. kept ≡ bytes.now) }
+    /// Copies the bytes of the datagram at hand into the block at hand, or into a new one where they don't fit there.
+    pub fn keep(&mut self) -> Result<Bytes, NoMemory>
+        ensures { IfOk result (λ kept. kept ≡ self.old.read.items) }
     {
+        let count = self.read.len();
         self.free.clear();
-        if self.free.capacity() < bytes.len() {
-            self.free = BytesMut::with_capacity(self.allocator(), BLOCK.max(bytes.len()))?;
+        if self.free.capacity() < count {
+            self.free = BytesMut::with_capacity(self.allocator(), BLOCK.max(count))?;
         }
-        self.free.extend_from_slice(bytes)?;
-        let kept = self.free.freeze_to(bytes.len())?;
+        self.free.extend_from_slice(&self.read)?;
+        let kept = self.free.freeze_to(count)?;
         Ok(kept)
     }
 }

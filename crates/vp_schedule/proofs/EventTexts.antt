@@ -171,7 +171,7 @@ fields_to : (sites : List ℕ) (kind : EventKind) (e : Event) (back : List ℕ) 
 fields_to sites Call e back h =
     let m = h.after.after in
     let text : back ≡ decimal h.first ++ 32 ∷ call_text m.from = h.parts ∙ rw (h.before.is, h.after.parts, h.after.before, m.spelled.is) refl in
-    subst (λ (e : Event). Said sites Call e back) (sym m.is) ((h.before.stands, m.spelled.allowed, m.spelled.readable), ap (λ (x : List ℕ). word Call ++ x) text)
+    subst (λ (e : Event). Said sites Call e back) (sym m.is) ((h.before.stands, m.spelled.allowed), ap (λ (x : List ℕ). word Call ++ x) text)
 fields_to sites Deliver e back h = subst (λ (e : Event). Said sites Deliver e back) (sym h.is) ((h.spelled.above, h.spelled.below), ap (λ (x : List ℕ). word Deliver ++ x) h.spelled.is)
 fields_to sites Flow e back h = subst (λ (e : Event). Said sites Flow e back) (sym h.is) ((h.spelled.above, h.spelled.below), ap (λ (x : List ℕ). word Flow ++ x) h.spelled.is)
 fields_to sites Tick e back h = subst (λ (e : Event). Said sites Tick e back) (sym h.is) (h.spelled.stands, ap (λ (x : List ℕ). word Tick ++ x) h.spelled.is)
@@ -232,7 +232,7 @@ fields_from sites all (event.Call site words) h = record {
     back = 32 ∷ call_text words;
     before = listed_text sites all site h.0;
     parts = refl;
-    after = record { first = tt; front = 32 ∷ []; back = call_text words; before = refl; parts = refl; after = record { from = words; spelled = record { is = refl; allowed = h.1; readable = h.2 }; is = refl } };
+    after = record { first = tt; front = 32 ∷ []; back = call_text words; before = refl; parts = refl; after = record { from = words; spelled = record { is = refl; allowed = h.1 }; is = refl } };
   };
 }
 fields_from sites all (event.Deliver k) h = record { back = decimal k; is = refl; fields = record { from = k; spelled = record { is = refl; above = h.0; below = h.1 }; is = refl } }

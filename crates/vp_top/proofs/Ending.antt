@@ -99,7 +99,7 @@ text_has (texts.TooMany line limit) end text t = subst HasText (sym t.0) tt
 text_has texts.NoMemory end text t = absurd t
 
 procedure_has : (own turns site : ℕ) (bytes : List ℕ) (link link' : LinkState) (end : Status) (text : List ℕ) → IsProcedureAnswer own turns site bytes link link' end text → HasText end
-procedure_has own turns site bytes link link' end text (inl no) = text_has no.0.fault end text no.0.told
+procedure_has own turns site bytes link link' end text (inl refused) = text_has refused.0.fault end text refused.0.told
 procedure_has own turns site bytes link link' end text (inr (inl lacks)) = subst HasText (sym lacks.1) tt
 procedure_has own turns site bytes link link' end text (inr (inr at)) = ⊎_elim (λ run. run_has run.0 end text run.2) (λ unbound. subst HasText (sym unbound.1) tt) at.4
 

@@ -1,6 +1,6 @@
 -- What `proc` prints of a procedure, or of an input that is none.
 use Rattle.std.proofs.Common.{◌≡◌, ◌≢◌, ◌∙◌, ap, refl, sym, subst, ℕ, Bool, List, inl, inr, ◌⊎◌}
-use Rattle.std.specs.Prelude.{Option, Some, None, Result, Ok, Err}
+use Rattle.std.specs.Prelude.{Option, Some, None, Result, Ok, Err, OnErr}
 use Rattle.vp_model.specs.Words.{value_at}
 use Rattle.vp_outside.specs.Links.{LinkState, Binds, StaysBound}
 use Rattle.vp_outside.specs.declared.datagram.Datagram.{Datagram}
@@ -34,14 +34,14 @@ module _ (own turns site : ℕ) (bytes : List ℕ) (link link' : LinkState) wher
   same_input a b spelled i = let same = i.only (Ok a) spelled (λ bad. cc) (λ bad. cc) in cc
 
   pub no_procedure : ((it : ProcedureInput) → IsProcedureText it bytes → ⊥) → (end : Status) (text : List ℕ) → IsProcedureAnswer own turns site bytes link link' end text → IsNoProcedure bytes end text
-  no_procedure none end text (inl no) = no.0
+  no_procedure none end text (inl refused) = refused.0
   no_procedure none end text (inr (inl lacks)) = absurd (none lacks.0.0 lacks.0.1.spelled)
   no_procedure none end text (inr (inr at)) = absurd (none at.0 at.1.spelled)
 
   module _ (it : ProcedureInput) (spelled : IsProcedureText it bytes) where
     pub run_told : (port : ℕ) → value_at site it.catalog.sites ≡ Some port → (end : Status) (text : List ℕ) → IsProcedureAnswer own turns site bytes link link' end text
         → ProcedureGives own turns port site it.procedure link link' end text
-    run_told port there end text (inl no) = absurd (no_fault it spelled end text no.0)
+    run_told port there end text (inl refused) = absurd (no_fault it spelled end text refused.0)
     run_told port there end text (inr (inl lacks)) =
         let same = same_input it lacks.0.0 spelled lacks.0.1 in
         let bad : None ≡ Some port = sym lacks.0.2 ∙ ap (λ (i : ProcedureInput). value_at site i.catalog.sites) same ∙ there in
@@ -54,7 +54,7 @@ module _ (own turns site : ℕ) (bytes : List ℕ) (link link' : LinkState) wher
         (subst (λ (i : ProcedureInput). ProcedureGives own turns at.2 site i.procedure link link' end text) same at.4)
 
     pub missing_told : value_at site it.catalog.sites ≡ None → (end : Status) (text : List ℕ) → IsProcedureAnswer own turns site bytes link link' end text → (end ≡ status.Usage) × (text ≡ usage_text)
-    missing_told missing end text (inl no) = absurd (no_fault it spelled end text no.0)
+    missing_told missing end text (inl refused) = absurd (no_fault it spelled end text refused.0)
     missing_told missing end text (inr (inl lacks)) = (lacks.1, lacks.2)
     missing_told missing end text (inr (inr at)) =
         let same = same_input it at.0 spelled at.1 in
@@ -82,3 +82,8 @@ has_run own turns port site p old mid new u answered b runs stays = record {
 
 pub unbound : {E : Type 0} (own : ℕ) (old new : LinkState) (e : E) → Binds {T = Unit {0}} own old new (Err e) → IsUnbound own old new
 unbound own old new e b = record { asked = b.asked; unbound = b.bound; rose = b.cause.failed; none_came = b.gives_none; none_sent = b.hands_none }
+
+-- what is so whatever comes of printing it
+pub left_so : {T E P : Type 0} (r : Result T E) → P → OnErr r P
+left_so (Ok x) h = tt
+left_so (Err e) h = h

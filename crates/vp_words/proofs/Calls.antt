@@ -39,7 +39,7 @@ call_none word none = sym (go (call_at word) refl)
     go (Ok read) e = tested (bytes_eq word (call_text read.0)) refl
       where
         tested : (b : Bool) → bytes_eq word (call_text read.0) ≡ b → cond b (Some read.0) None ≡ None
-        tested true same = absurd (none read.0 (record { is = (bytes_eq-Decides word (call_text read.0)).0 same; allowed = (call_exact.ok word read.0 read.1 e).spelled.allowed; readable = (call_exact.ok word read.0 read.1 e).spelled.readable }))
+        tested true same = absurd (none read.0 (record { is = (bytes_eq-Decides word (call_text read.0)).0 same; allowed = (call_exact.ok word read.0 read.1 e).spelled.allowed }))
         tested false same = refl
     go (Err left) e = refl
 

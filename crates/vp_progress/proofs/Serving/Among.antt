@@ -1,5 +1,5 @@
 -- Sites that are together serve their clients, as far as records are free there.
-use Rattle.std.proofs.Common.{◌≡◌, ◌≢◌, ◌∙◌, ap, sym, subst, ℕ, ◌-◌, ◌^◌, ◌<◌, ◌≤◌, true, List, refl, length, arith}
+use Rattle.std.proofs.Common.{◌≡◌, ◌∙◌, ap, sym, subst, ℕ, ◌-◌, ◌^◌, ◌<◌, true, List, refl, arith}
 use Rattle.std.specs.Prelude.{Some}
 use Rattle.std.specs.List.{Contains, AllByRecursion, list_any}
 use Rattle.vp_text.proofs.Items.{all_each}

@@ -2,7 +2,6 @@
 use Rattle.std.proofs.Common.{◌≡◌, ◌∙◌, ap, subst, ℕ, Bool, true, List, [], ◌∷◌, ◌++◌, refl, inr}
 use Rattle.vp_model.specs.Types.{TxnId, ViewId, Commit, Lock, Pending, Live}
 use Rattle.vp_model.specs.Types.message
-use Rattle.vp_model.specs.Types.owner
 use Rattle.vp_model.specs.Words.{same_txn, change_first, without_first}
 use Rattle.vp_model.specs.Catalogue.{Catalogue}
 use Rattle.vp_model.specs.Site.{CoordinatorState, Here, Lent}

@@ -26,7 +26,7 @@ use Rattle.vp_laws.proofs.Lists.Views.{put_keeps, put_only}
 use Rattle.vp_laws.proofs.Lists.Numbers.{differs, not_same}
 use Rattle.vp_laws.proofs.Moves.LocalViews.{letter}
 use Rattle.vp_laws.proofs.Moves.Table.{lent_at}
-use Rattle.vp_laws.proofs.Journal.Changed.{HasChanged, alters, changed_by}
+use Rattle.vp_laws.proofs.Journal.Changed.{alters, changed_by}
 use Rattle.vp_laws.proofs.Moves.Calls.{waiting, done}
 use Rattle.vp_laws.proofs.Shapes.Live.{put_size}
 use Rattle.vp_laws.proofs.Worlds.Scenes.{scene_of}

@@ -1,5 +1,5 @@
 -- Messages come to another site, where the transaction has a part: a request, a prepare and the outcome.
-use Rattle.std.proofs.Common.{◌≡◌, ◌∙◌, ap, sym, subst, ℕ, Bool, true, false, cond, List, [], ◌∷◌, refl, ◌⊎◌}
+use Rattle.std.proofs.Common.{◌≡◌, ◌∙◌, ap, sym, subst, ℕ, Bool, true, false, cond, List, [], ◌∷◌, refl}
 use Rattle.std.specs.Prelude.{Option, Some, None, ◌||◌, not}
 use Rattle.vp_model.specs.Types.{Change, ViewId, TxnId, Stored, Message, Part, Doubt}
 use Rattle.vp_model.specs.Types.input

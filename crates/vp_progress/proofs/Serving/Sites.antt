@@ -1,5 +1,5 @@
 -- Worlds in which one transaction goes on: its site leads it, the other sites of the view lend it locks, and all else rests.
-use Rattle.std.proofs.Common.{◌≡◌, ◌≢◌, ◌⊎◌, ◌∙◌, ap, sym, subst, ℕ, Bool, true, false, List, [], ◌∷◌, ◌++◌, refl, ⊎_elim, inl}
+use Rattle.std.proofs.Common.{◌≡◌, ◌≢◌, ◌⊎◌, ◌∙◌, ap, sym, subst, ℕ, Bool, true, false, List, [], ◌∷◌, refl, ⊎_elim, inl}
 use Rattle.std.specs.Prelude.{Option, Some, None, ◌==◌, ◌&&◌, ◌||◌, not, filter}
 use Rattle.std.proofs.lemmas.Bool.{eqb-true}
 use Rattle.vp_model.specs.Types.{Change, ViewId, TxnId, View, Owner, Message, Lock, Part, Refreshing, Live, Doubt}

@@ -1,5 +1,5 @@
 -- A call that waits for other sites is done: each of them is asked, answers, and its answer is counted.
-use Rattle.std.proofs.Common.{◌≡◌, ◌≢◌, ◌⊎◌, ◌∙◌, ap, sym, subst, ℕ, zero, suc, ◌+◌, ◌≤◌, Bool, true, false, cond, List, [], ◌∷◌, length, refl, arith, ⊎_elim, inl, inr}
+use Rattle.std.proofs.Common.{◌≡◌, ◌≢◌, ◌⊎◌, ◌∙◌, ap, sym, subst, ℕ, zero, suc, ◌≤◌, Bool, true, false, cond, List, [], ◌∷◌, length, refl, arith, ⊎_elim, inl, inr}
 use Rattle.std.specs.Prelude.{not, filter, ◌==◌}
 use Rattle.vp_model.specs.Types.{View, Commit, Sent, Message, Pending, Live}
 use Rattle.vp_model.specs.Types.input

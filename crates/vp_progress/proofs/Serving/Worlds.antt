@@ -1,5 +1,5 @@
 -- The worlds in which a transaction goes on among the sites of one view, and how one step at its site or at another one carries it on.
-use Rattle.std.proofs.Common.{◌≡◌, ◌≢◌, ◌⊎◌, ◌∙◌, ap, sym, subst, ℕ, true, false, List, [], ◌∷◌, ◌++◌, refl, arith, ⊎_elim, inl, inr, append-nil}
+use Rattle.std.proofs.Common.{◌≡◌, ◌≢◌, ◌⊎◌, ◌∙◌, ap, sym, subst, ℕ, false, List, [], ◌++◌, refl, arith, ⊎_elim, inl, inr, append-nil}
 use Rattle.std.specs.Prelude.{Some, None}
 use Rattle.std.specs.List.{list_any}
 use Rattle.vp_model.specs.Types.{TxnId, View, Commit, Sent, Call, Message, Lock, Live}

@@ -30,5 +30,5 @@ returns c =
       | then-loop-count-test+else-count-text w ↦ λ a b. absurd (omega arith)
       | else-loop-count-test w ↦ λ a b. absurd (omega arith)
     ] in
-    rw (c.advance.ensures, c.in_ok-frame.ensures, c.deref.ensures.value)
-    (bytes_done c.args.cursor.now text n c.in_ok-bytes.bytes.items c.rest-text.ensures c.loop-count.invariant.0 c.if-count-eq0.false c.if-count-eq1.false stops c.loop-count.invariant.3 c.in_ok-bytes.ensures)
+    rw (c.advance.ensures, c.in_ok-frame.ensures)
+    (bytes_done c.args.cursor.now text n c.decode.new.bytes.items c.rest-text.ensures c.loop-count.invariant.0 c.if-count-eq0.false c.if-count-eq1.false stops c.loop-count.invariant.3 c.in_ok-decode.ensures)
