@@ -187,8 +187,8 @@ def measured(program, kind, text, folder):
     events = schedule.partition(b"events\n")[2].count(b"\n")
     replayed = count([program, "replay"], out, played)
     world = most_memory(program, "replay", out, played)
-    beside = (memory - world) / len(text)
-    return said + f"; {events:,} events; {merged / replayed:.2f} times the replay's {replayed / 1e6:,.0f} million ({world / 2**20:.0f} MiB, {beside:.1f} times beside them)"
+    beside = max(0, memory - world) / len(text)
+    return said + f"; {events:,} events; {merged / replayed:.2f} times the replay's {replayed / 1e6:,.0f} million ({world / 2**20:.0f} MiB; {beside:.1f} times the input beside that)"
 
 
 def main():
