@@ -1,6 +1,6 @@
 //! Memory for the bytes of datagrams.
 
-ghost use Rattle.std.specs.Prelude.{◌≡◌, [], IfOk};
+ghost use Rattle.std.specs.Prelude.{◌≡◌, IfOk};
 
 use bytes::{Bytes, BytesMut};
 use std::alloc::Global;
@@ -20,9 +20,7 @@ pub struct ByteStore {
 
 impl ByteStore {
     /// Makes it without a block. Takes no memory.
-    pub fn new(alloc: Global) -> ByteStore
-        ensures { result.read.items ≡ [] }
-    {
+    pub fn new(alloc: Global) -> ByteStore {
         ByteStore {
             read: Vec::new(alloc),
             free: BytesMut::new(alloc),
