@@ -10,8 +10,7 @@ use Rattle.vp_model.specs.World.{WorldState, next}
 use Rattle.vp_world.specs.Known.{Known}
 use Rattle.vp_fitting.specs.Fitting.{frames_in}
 use Rattle.vp_fitting.specs.Merged.{Done, done_from, done_with, restarts_then, tells}
-use Rattle.vp_merge.specs.Faults.{Ends}
-use Rattle.vp_merge.specs.Lives.{Lives, StartsLives, Takes, TakesEvent}
+use Rattle.vp_merge.specs.Lives.{Lives, StartsLives, Takes}
 use Rattle.vp_merge.specs.Numbers.{IsIndex, HaveSame}
 use Rattle.vp_merge.specs.Played.{Goes, IsPlayed, IsReached, done_at}
 use Rattle.vp_merge.specs.Telling.{NotesShown}

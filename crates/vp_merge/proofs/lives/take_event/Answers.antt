@@ -1,6 +1,6 @@
-use Rattle.std.proofs.Common.{◌≡◌, ◌∙◌, ap, sym, subst, ◌≤◌, length}
+use Rattle.std.proofs.Common.{◌∙◌, ap, sym, subst, ◌≤◌, length}
 use Rattle.std.specs.Prelude.{Option, IfSome}
-use Rattle.vp_model.specs.Types.{Event, Line, Shown}
+use Rattle.vp_model.specs.Types.{Event, Line}
 use Rattle.vp_model.specs.Catalogue.{sites_of}
 use Rattle.vp_world.specs.Known.{Known}
 use Rattle.vp_fitting.specs.Fitting.{frames_in}
