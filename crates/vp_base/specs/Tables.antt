@@ -1,5 +1,5 @@
 -- Tables of weights.
-use Rattle.std.specs.Prelude.{⊤, ℕ, Bool, ◌==◌, ◌<◌, ◌≤◌, List, [], ◌∷◌, filter, length, sum_by}
+use Rattle.std.specs.Prelude.{⊤, ℕ, Bool, ◌==◌, ◌<◌, ◌≤◌, List, [], ◌∷◌, Option, option_map, filter, find, length, sum_by}
 use Rattle.std.specs.List.{list_any}
 
 -- the weight of the copy at a site above the given one
@@ -30,3 +30,7 @@ has numbers n = list_any (λ m. m == n) numbers
 -- the weight of the copies at the members
 abbrev pub weight_inside : List ℕ → List (ℕ × ℕ) → ℕ
 weight_inside members table = sum_by (λ share. share.1) (filter (λ share. has members share.0) table)
+
+-- the bar on the record: the weight inside the held view, and the whole weight
+abbrev pub bar_on : ℕ → List (ℕ × (ℕ × ℕ)) → Option (ℕ × ℕ)
+bar_on rec bars = option_map (λ (bar : ℕ × (ℕ × ℕ)). bar.1) (find (λ (bar : ℕ × (ℕ × ℕ)). bar.0 == rec) bars)

@@ -5,6 +5,7 @@
 #![tactic(auto)]
 
 mod answer;
+mod bars;
 mod boxed;
 mod copies;
 mod entry;
@@ -26,6 +27,7 @@ mod value;
 mod view_text;
 
 pub use answer::{Answer, Reply};
+pub use bars::Bars;
 pub use boxed::Boxed;
 pub use entry::{Change, Commit, Decision, Doubt, LogRecord, Op, Owner, Put, Stored, View};
 pub use event::{Call, Counted, Effects, Event, Input, Line, Shown};
@@ -36,7 +38,7 @@ pub use limits::{
     MOST_STEPS,
 };
 pub use lists::{
-    Bars, Batch, Batches, Commits, Copies, Decisions, Events, InDoubt, Messages, Names, Ops, Recs,
+    Batch, Batches, Commits, Copies, Decisions, Events, InDoubt, Messages, Names, Ops, Recs,
     Replies, Sites, Tables, Txns, Word, Writes,
 };
 pub use memory::NoMemory;

@@ -31,8 +31,6 @@ pub type Txns = Seq<TxnId>;
 pub type Recs = Seq<RecId>;
 /// Records with the tables that a transaction gave them, ascending by record; 64 at most.
 pub type Tables = Seq<(RecId, Table)>;
-/// Records that may not be used in the held view, with the weight inside it and the whole weight, ascending by record.
-pub type Bars = Seq<(RecId, (u32, u32))>;
 /// The last change of each changed record, ascending by record; 64 at most.
 pub type Writes = Seq<(RecId, Change)>;
 /// Copies, ascending by record.

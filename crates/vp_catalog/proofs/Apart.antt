@@ -1,5 +1,5 @@
--- The sites of a catalogue are different numbers.
-use Rattle.std.proofs.Common.{◌≡◌, ℕ, ◌≤◌, List, [], ◌∷◌, false, arith}
+-- The sites of a catalogue are different numbers, so there are 16 of them at most.
+use Rattle.std.proofs.Common.{◌≡◌, ℕ, ◌+◌, ◌≤◌, List, [], ◌∷◌, length, false, arith}
 use Rattle.std.specs.Prelude.{nat_eq}
 use Rattle.std.specs.List.{AllByRecursion, IsDistinct}
 use Rattle.std.proofs.lemmas.Bool.{ne_eqb}
@@ -18,3 +18,7 @@ each_once above (s ∷ sites) h = (none_again s.0 s.0 sites (omega arith) h.1, e
 
 pub sites_differ : (c : Catalogue) → IsCatalogueSoFar c → IsDistinct nat_eq (sites_of c)
 sites_differ c h = each_once 0 c.sites h.sites_are
+
+pub sites_few : (above : ℕ) (sites : List (ℕ × ℕ)) → AreSites above sites → above ≤ 16 → above + length sites ≤ 16
+sites_few above [] h low = omega (arith, low)
+sites_few above (s ∷ sites) h low = omega (arith, h.0.higher, sites_few s.0 sites h.1 h.0.fits)

@@ -18,7 +18,7 @@ use vp_base::{
     Value,
 };
 use vp_catalog::{Catalog, members_of};
-use vp_lists::{find_bar, value_at};
+use vp_lists::value_at;
 use vp_transactions::Handled;
 
 /// Whether the table that is asked for has other sites than the record's holders.
@@ -70,7 +70,7 @@ fn short_of_holders(catalog: &Catalog, rec: RecId, members: &Sites) -> Option<(u
 fn short_here(catalog: &Catalog, bars: &Bars, rec: RecId, members: &Sites) -> Option<(u32, u32)>
     ensures { result ≡ first_some (value_at rec bars.now) (short_of_holders catalog.now rec members.now) }
 {
-    match find_bar(bars, rec) {
+    match bars.find(rec) {
         None => short_of_holders(catalog, rec, members),
         Some(weights) => Some(weights),
     }

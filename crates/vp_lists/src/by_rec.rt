@@ -4,23 +4,13 @@ ghost use Rattle.std.specs.Prelude.{◌≡◌, OnOk, option_copied, if◌then◌
 ghost use Rattle.vp_model.specs.Words.{change_at, value_at, replace_at};
 ghost use Rattle.vp_model.specs.Durable.{changed, with_new_table, with_put, with_writes};
 
-use vp_base::{Bars, Change, CopyOf, NoMemory, Put, RecId, Stored, Table, Value, ViewId};
+use vp_base::{Change, CopyOf, NoMemory, Put, RecId, Stored, Table, Value, ViewId};
 
 /// Finds the first value of the record.
 pub fn value_at<'a, V>(pairs: &'a [(RecId, V)], rec: RecId) -> Option<&'a V>
     ensures { option_copied result ≡ value_at rec pairs.now }
 {
     pairs.iter().find(|pair| pair.0 == rec).map(|pair| &pair.1)
-}
-
-/// The bar on the record, if there is one: the weight inside the held view and the whole weight.
-pub fn find_bar(bars: &Bars, rec: RecId) -> Option<(u32, u32)>
-    ensures { result ≡ value_at rec bars.now }
-{
-    match value_at(bars.as_slice(), rec) {
-        None => None,
-        Some(bar) => Some(*bar),
-    }
 }
 
 fn replace_one(copy: &mut (RecId, Stored), rec: RecId, stored: &Stored) -> Result<(), NoMemory>

@@ -10,7 +10,7 @@ mod copies;
 mod keyed;
 mod order;
 
-pub use by_rec::{change_at, change_copy, find_bar, replace_at, value_at, write_copies};
+pub use by_rec::{change_at, change_copy, replace_at, value_at, write_copies};
 pub use by_txn::{OfTxn, find_txn, take_txn};
 pub use copies::copy_all;
 pub use keyed::{HasKey, put, put_in};

@@ -24,7 +24,7 @@ use vp_base::{
     Bars, Change, CopyOf, Doubt, InDoubt, Lock, LogRecord, NoMemory, Owner, Part, RecId, TxnId,
     Txns, View, ViewId, Writes,
 };
-use vp_lists::{copy_all, find_bar};
+use vp_lists::copy_all;
 use vp_locks::{Keeps, Locks};
 use vp_records::Durable;
 use vp_tables::{Table, TxnSet};
@@ -125,7 +125,7 @@ impl Participant {
         if let Some(why) = self.refusal(held, &request.txn, request.view) {
             return Some(why.into());
         }
-        match find_bar(bars, request.rec) {
+        match bars.find(request.rec) {
             None => None,
             Some((inside, total)) => Some(PartFault::Barred { inside, total }),
         }

@@ -3,7 +3,7 @@ use Rattle.std.proofs.Common.{◌≡◌, ◌∙◌, ◌+◌, ◌≤◌, ◌<◌,
 use Rattle.std.specs.Prelude.{Result, Ok}
 use Rattle.std.proofs.lemmas.List.{drop_all, drop_more}
 use Rattle.vp_model.specs.Catalogue.{Catalogue}
-use Rattle.vp_catalog.specs.Document.{AreSites}
+use Rattle.vp_catalog.proofs.Apart.{sites_few}
 use Rattle.vp_outside.specs.Links.{LinkState, StaysBound}
 use Rattle.vp_client.specs.declared.asking.AskFault.{AskFault}
 use Rattle.vp_procedure.specs.declared.procedure.Procedure.{Procedure}
@@ -38,17 +38,10 @@ past p ss i s same below at =
     let there = subst (λ (l : List Statement). s ≡ get_or l i s) same at in
     drop_more p.statements i s within ∙ ap (λ (t : Statement). t ∷ drop (i + 1) p.statements) (sym there)
 
-sites_most : (above : ℕ) (sites : List (ℕ × ℕ)) → AreSites above sites → above ≤ 16 → above + length sites ≤ 16
-sites_most above [] h low = omega (arith, low)
-sites_most above (s ∷ sites) h low =
-    let more = sites_most s.0 sites h.1 h.0.fits in
-    let higher = h.0.higher in
-    omega (arith, more, higher)
-
 -- lines have small numbers
 pub first_small : (p : Procedure) → IsProcedure p → p.first ≤ 274
 first_small p is =
-    let sites = sites_most 0 is.0.sites is.1.catalogue_is.so_far.sites_are (omega arith) in
+    let sites = sites_few 0 is.0.sites is.1.catalogue_is.so_far.sites_are (omega arith) in
     let records = is.1.catalogue_is.so_far.few in
     let first = is.1.first_is in
     omega (arith, sites, records, first)

@@ -15,8 +15,9 @@ use Rattle.vp_base.specs.Words.{IsName, IsPlace}
 use Rattle.vp_base.specs.Reading.{starts_any}
 use Rattle.vp_base.proofs.Among.{place_is_name}
 use Rattle.vp_model.specs.Catalogue.{Catalogue, RecordEntry, sites_of}
-use Rattle.vp_catalog.specs.Document.{AreSites, IsCatalogueSoFar, IsCatalogue}
+use Rattle.vp_catalog.specs.Document.{IsCatalogueSoFar, IsCatalogue}
 use Rattle.vp_catalog.specs.Entries.{IsRecord}
+use Rattle.vp_catalog.proofs.Apart.{sites_few}
 use Rattle.vp_heads.specs.Heads as heads
 use Rattle.vp_heads.specs.HeadReading.{head_at}
 use Rattle.vp_heads.specs.declared.head.Head.{Head}
@@ -158,17 +159,9 @@ readable most = record {
 pub stands_room : (text rest : List ℕ) (d : ProcedureDraft) (line : ℕ) → Stands text rest d line → (left : ℕ) → line_at d rest ≡ Err left → left ≤ length rest
 stands_room text rest d line s left read = (so_far_bad blank after LineText Onward line_at text rest d line left (readable (length text)) s read).0
 
--- sites ascend to at most 16
-sites_most : (above : ℕ) (sites : List (ℕ × ℕ)) → AreSites above sites → above ≤ 16 → length sites + above ≤ 16
-sites_most above [] h low = omega (arith, low)
-sites_most above (s ∷ sites) h low =
-    let more = sites_most s.0 sites h.1 h.0.fits in
-    let higher = h.0.higher in
-    omega (arith, more, higher)
-
 pub stands_few : (text rest : List ℕ) (d : ProcedureDraft) (line : ℕ) → Stands text rest d line → length d.head.catalog.sites ≤ 16
 stands_few text rest d line s =
-    let most = sites_most 0 (said s.lines).head.catalog.sites (part s.lines s.front s.lines_are).sites_are (omega arith) in
+    let most = sites_few 0 (said s.lines).head.catalog.sites (part s.lines s.front s.lines_are).sites_are (omega arith) in
     subst (λ (d : ProcedureDraft). length d.head.catalog.sites ≤ 16) s.state_is (omega (arith, most))
 
 allows : (d : ProcedureDraft) (e : ProcedureLine) (t : List ℕ) → LineText d e t → Allows d e

@@ -13,6 +13,7 @@ use Rattle.vp_catalog.specs.Sites.{AllSites}
 use Rattle.vp_catalog.specs.Entries.{EntryText}
 use Rattle.vp_catalog.specs.EntryReading.{entry_at}
 use Rattle.vp_catalog.specs.Document.{AreSites, IsCatalogue}
+use Rattle.vp_catalog.proofs.Apart.{sites_few}
 use Rattle.vp_catalog.proofs.EntriesExact.{entry_exact}
 use Rattle.vp_catalog.proofs.Newlines.{entry_is_line}
 use Rattle.vp_catalog.proofs.Steps.{all_said, Lines, part, begun, said_text}
@@ -32,14 +33,10 @@ entries_line es t h = entry_is_line (all_said es) (sites_all es t h)
 
 -- ---- the sites
 
-few : (above : ℕ) (sites : List (ℕ × ℕ)) → above ≤ 16 → AreSites above sites → above + length sites ≤ 16
-few above [] le h = omega (arith, le)
-few above (s ∷ sites) le h = omega (arith, h.0.higher, few s.0 sites h.0.fits h.1)
-
 pub entries_few : (es : List Entry) (t : List ℕ) → Lines es t → length (sites_of (all_said es)) ≤ 16
 entries_few es t h =
     let c = all_said es in
-    omega (arith, few 0 c.sites (omega arith) (part es t h).sites_are, length-map c.sites (λ (s : ℕ × ℕ). s.0))
+    omega (arith, sites_few 0 c.sites (part es t h).sites_are (omega arith), length-map c.sites (λ (s : ℕ × ℕ). s.0))
 
 first_listed : (site : ℕ) (sites : List ℕ) → IsListed (site ∷ sites) site
 first_listed site sites = rw (eq-eqb site site refl) refl
