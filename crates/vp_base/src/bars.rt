@@ -14,6 +14,9 @@ impl Bars {
     pub fn find(&self, rec: RecId) -> Option<(u32, u32)>
         ensures { result ≡ bar_on rec self.now }
     {
-        self.as_slice().iter().find(|bar| bar.0 == rec).map(|bar| bar.1)
+        self.as_slice()
+            .iter()
+            .find(|bar| bar.0 == rec)
+            .map(|bar| bar.1)
     }
 }
