@@ -13,7 +13,6 @@ printed, and ends the run.
 """
 import os
 import random
-import select
 import shlex
 import subprocess
 import sys
@@ -24,8 +23,8 @@ from types import SimpleNamespace
 
 from comparison import MOST_BYTES, MOST_BYTES_OF_OLD, arguments, modules
 from damage import damaged
-from frame_draws import Draws, damaged_frame
-from node_processes import HOST, LONGEST, bound, free_ports
+from node_processes import bound, free_ports
+from told_site import Elsewhere, ToldSite, serve
 
 MODULES = ("answers", "base", "catalog", "client", "gateway", "schedule", "wire")
 COUNT, PATIENCE = 1000, 120
@@ -39,16 +38,13 @@ class FullSink(Exception):
     """An output that can't be written."""
 
 
-class Session:
-    """What a gateway is given by a seed."""
+class Session(ToldSite):
+    """What a gateway is given by a seed, and what its calls are answered."""
 
     def __init__(self, reference, seed, ports):
-        self.reference, self.draw = reference, random.Random(seed)
-        self.draws = Draws(reference.wire, self.draw)
-        self.port, self.other, self.own = ports
-        self.site, self.turns = self.draw.randint(1, 16), self.draw.choice([0, 1, 2, 3, 5])
-        self.kind = self.draw.choices([CALM, FULL, UNREADABLE, TAKEN], [90, 4, 3, 3])[0]
-        self.answers = []  # of each call, the datagrams that are sent, each with whether it comes from the site's port
+        draw = random.Random(seed)
+        super().__init__(reference, draw, ports, draw.choice([0, 1, 2, 3, 5]))
+        self.kind = draw.choices([CALM, FULL, UNREADABLE, TAKEN], [90, 4, 3, 3])[0]
         self.input = self._head() + self._body()
         if self.draw.randrange(3) == 0:
             self.input = self.input[: self.draw.randrange(len(self.input) + 1)]
@@ -65,10 +61,14 @@ class Session:
         text = "".join(line + "\n" for line in [*lines, "session"]).encode()
         return damaged(self.draw, text, text) if self.draw.randrange(12) == 0 else text
 
+    def _weigh(self):
+        sites = sorted(self.draw.sample(range(1, 17), self.draw.choice([1, 1, 3, 16])))
+        return f"weigh {self.draw.choice(NAMES)} {' '.join(f'{site}:{self.draw.choice([1, 2, 65535])}' for site in sites)}"
+
     def _call(self):
         draw, txn = self.draw, str(self.draws.txn())
         write = f"write {draw.choice(NAMES)} {self.draws.word(draw.choice([MOST_BYTES, MOST_BYTES_OF_OLD, 2]), '!0aZ~')}"
-        deeds = [write, *(f"{word} {draw.choice(NAMES)}" for word in ("read", "delete")), "commit", "abort"]
+        deeds = [write, *(f"{word} {draw.choice(NAMES)}" for word in ("read", "delete")), self._weigh(), "commit", "abort"]
         words = ["begin", "regroup", *(f"{txn} {self.draws.number(4)} {deed}" for deed in deeds)]
         return draw.choice(words).encode()
 
@@ -95,7 +95,7 @@ class Session:
 
     # ---- what comes back
 
-    def _fitting(self, call):
+    def fitting(self, call):
         spoken = self.draw.choice([1, 2, 2])
         answers = self.reference.wire.ANSWERS[spoken]
         codes = TO_BEGIN if call.kind == "begin" else TO_REGROUP if call.kind == "regroup" else set(answers) - {1, 17, 18}
@@ -105,22 +105,8 @@ class Session:
             body = body._replace(**{name: value for name, value in (("txn", call.txn), ("number", call.number)) if name in body._fields})
         return self.reference.wire.encode(self.reference.wire.Frame(self.site, 0, body, spoken))
 
-    def _stray(self):
-        frame = self.draws.frame()
-        if self.draw.randrange(2):
-            frame = frame._replace(sender=self.site)
-        data = self.reference.wire.encode(frame) if self.draw.randrange(2) else damaged_frame(self.reference.wire, self.draw, frame, self.draws.frame())
-        return bool(self.draw.randrange(3)), data
-
-    def answer(self, call):
-        """What is sent for the next call: as many as are waited for, or up to its answer."""
-        sent = [self._stray() for _ in range(self.turns)]
-        if self.turns and self.draw.randrange(6):
-            sent[self.draw.randrange(self.turns)] = (True, self._fitting(call))
-        for count, (from_site, data) in enumerate(sent, 1):
-            if self.reference.client.is_the_answer(self.site, self.port, call, self.port if from_site else self.other, data) is not None:
-                return sent[:count]
-        return sent
+    def has_answer(self):
+        return self.draw.randrange(6)
 
     # ---- what the reference does
 
@@ -134,8 +120,8 @@ class Session:
                 if port != session.port:
                     raise Elsewhere
                 frames.append(data)
-                session.answers.append(session.answer(reference.wire.decode(data).body))
-                self.left = [(session.port if from_site else session.other, sent) for from_site, sent in session.answers[-1]]
+                answer = session.answer(reference.wire.decode(data).body)
+                self.left = [(session.port if from_site else session.other, sent) for from_site, sent in answer]
 
             def receive(self):
                 return self.left.pop(0)
@@ -176,10 +162,6 @@ class Session:
         return status, "".join(text), frames
 
 
-class Elsewhere(Exception):
-    """The damaged catalogue has another port for the site: nobody is there who could answer."""
-
-
 def writer(process, pieces):
     """Writes the pieces, as far as the process takes them."""
     try:
@@ -192,8 +174,7 @@ def writer(process, pieces):
 
 
 def answered(session, program, sockets, output):
-    """The status of the program, and the frames that came to the site; each is answered as was drawn."""
-    site, other = sockets
+    """The status of the program, and the frames that came to the site."""
     words = [*program, "gateway", str(session.own), str(session.turns), str(session.site)]
     unreadable = session.kind == UNREADABLE
     source = os.open(".", os.O_RDONLY) if unreadable else subprocess.PIPE
@@ -202,19 +183,7 @@ def answered(session, program, sockets, output):
         os.close(source)
     else:
         threading.Thread(target=writer, args=(process, session.pieces_written), daemon=True).start()
-    frames, answers, end = [], list(session.answers), time.monotonic() + PATIENCE
-    while True:
-        over = process.poll() is not None
-        while select.select([site], [], [], 0 if over else 0.002)[0]:
-            data, sender = site.recvfrom(LONGEST)
-            frames.append(data)
-            for from_site, sent in answers.pop(0) if answers else []:
-                (site if from_site else other).sendto(sent, sender)
-        if over:
-            return process.returncode, frames
-        if time.monotonic() > end:
-            process.kill()
-            return f"killed after {PATIENCE} seconds", frames
+    return serve(process, sockets, session.answers, PATIENCE)
 
 
 def compared(reference, program, seed, folder):

@@ -13,18 +13,16 @@ the reference's `evaluate` does on the one copy that the ones before left; one t
 """
 import collections
 import random
-import select
 import shlex
 import subprocess
 import sys
 import tempfile
-import time
 from types import SimpleNamespace
 
 from comparison import arguments, modules
 from damage import damaged
-from frame_draws import Draws, damaged_frame
-from node_processes import LONGEST, Caller, Nodes, bound, catalogue, free_ports
+from node_processes import Caller, Nodes, bound, catalogue, free_ports
+from told_site import Elsewhere, ToldSite, serve
 
 MODULES = ("answers", "base", "catalog", "client", "proc", "wire")
 COUNT, PATIENCE, MOST = 2000, 60, 2**64 - 1
@@ -80,15 +78,12 @@ def text_of(lines):
     return "".join(line + "\n" for line in lines).encode()
 
 
-class Told:
+class Told(ToldSite):
     """What a procedure is given by a seed, and what its calls are answered."""
 
     def __init__(self, reference, seed, ports):
-        self.reference, self.draw = reference, random.Random(seed)
-        self.draws = Draws(reference.wire, self.draw)
-        self.port, self.other, self.own = ports
-        self.site, self.turns = self.draw.randint(1, 16), self.draw.choice([1, 2, 3, 5])
-        self.answers = []  # of each call, the datagrams that are sent, each with whether it comes from the site's port
+        draw = random.Random(seed)
+        super().__init__(reference, draw, ports, draw.choice([1, 2, 3, 5]))
         self.txn = self.draws.txn()
         names = self.draw.sample(NAMES, self.draw.randrange(len(NAMES) + 1))
         named = self.site if self.draw.randrange(30) else self.site % 16 + 1
@@ -99,7 +94,7 @@ class Told:
 
     # ---- what comes back
 
-    def _fitting(self, call):
+    def fitting(self, call):
         """An answer that grants the call, or one that refuses it."""
         draw, answers = self.draw, self.reference.answers
         if call.kind == "begin":
@@ -116,22 +111,8 @@ class Told:
         body = body._replace(**{name: value for name, value in told.items() if name in body._fields and kind is not answers.Spent})
         return self.reference.wire.encode(self.reference.wire.Frame(self.site, 0, body))
 
-    def _stray(self):
-        frame = self.draws.frame()
-        if self.draw.randrange(2):
-            frame = frame._replace(sender=self.site)
-        data = self.reference.wire.encode(frame) if self.draw.randrange(2) else damaged_frame(self.reference.wire, self.draw, frame, self.draws.frame())
-        return bool(self.draw.randrange(3)), data
-
-    def answer(self, call):
-        """What is sent for the next call: as many as are waited for, or up to its answer."""
-        sent = [self._stray() for _ in range(self.turns)]
-        if self.draw.randrange(40):
-            sent[self.draw.randrange(self.turns)] = (True, self._fitting(call))
-        for count, (from_site, data) in enumerate(sent, 1):
-            if self.reference.client.is_the_answer(self.site, self.port, call, self.port if from_site else self.other, data) is not None:
-                return sent[:count]
-        return sent
+    def has_answer(self):
+        return self.draw.randrange(40)
 
     # ---- what the reference does
 
@@ -141,12 +122,8 @@ class Told:
 
         def ask(call):
             frames.append(reference.client.call_frame(self.site, call))
-            self.answers.append(self.answer(call))
-            for from_site, data in self.answers[-1]:
-                found = reference.client.is_the_answer(self.site, self.port, call, self.port if from_site else self.other, data)
-                if found is not None:
-                    return found
-            return None
+            found = [self.found(call, *sent) for sent in self.answer(call)]
+            return found[-1] if found else None
 
         try:
             read, procedure = reference.proc.read(self.input)
@@ -162,30 +139,14 @@ class Told:
         return DONE if type(end) is reference.proc.Done else NO_RESULT, reference.proc.end_text(end) + "\n", frames
 
 
-class Elsewhere(Exception):
-    """The damaged catalogue has another port for the site: nobody is there who could answer."""
-
-
 def answered(told, program, sockets):
-    """The status of the program, its text, and the frames that came to the site; each is answered as was drawn."""
-    site, other = sockets
+    """The status of the program, its text, and the frames that came to the site."""
     words = [*program, "proc", str(told.own), str(told.turns), str(told.site)]
     process = subprocess.Popen(words, stdin=subprocess.PIPE, stdout=subprocess.PIPE, stderr=subprocess.DEVNULL)
     process.stdin.write(told.input)
     process.stdin.close()
-    frames, answers, end = [], list(told.answers), time.monotonic() + PATIENCE
-    while True:
-        over = process.poll() is not None
-        while select.select([site], [], [], 0 if over else 0.002)[0]:
-            data, sender = site.recvfrom(LONGEST)
-            frames.append(data)
-            for from_site, sent in answers.pop(0) if answers else []:
-                (site if from_site else other).sendto(sent, sender)
-        if over:
-            return process.returncode, process.stdout.read().decode("latin-1"), frames
-        if time.monotonic() > end:
-            process.kill()
-            return f"killed after {PATIENCE} seconds", "", frames
+    status, frames = serve(process, sockets, told.answers, PATIENCE)
+    return status, process.stdout.read().decode("latin-1"), frames
 
 
 def compare_told(reference, program, seeds):
