@@ -215,12 +215,12 @@ module _ (recordings : List Recording) (m : Merging) (h : IsMerging m.played.wor
               (ap (λ (x : Played). x.world.world) (sym played_is)) (ap (λ (x : Played). x.events) (sym played_is)) (left_now ∙ ap (left_of recordings) (sym tracks_are))
 
           frames_kept : (x : Track) → AreThere m.numbers x → AreThere after x
-          frames_kept x = all_each (λ (d : Due). HasTurn m.numbers d.turn.frame) (λ (d : Due). HasTurn after d.turn.frame) (λ d. same_there m.numbers after takes.same (as_sent d.turn.frame)) (track_of x).dues
+          frames_kept x = all_each (λ (d : Due). HasTurn m.numbers d.turn.frame) (λ (d : Due). HasTurn after d.turn.frame) (λ d there long. same_there m.numbers after takes.same (as_sent d.turn.frame) (there long)) (track_of x).dues
 
           next_there : AreThere after next
           next_there =
               subst (λ (left : Left). AllByRecursion (λ (d : Due). HasTurn after d.turn.frame) left.dues) (sym left)
-              (all_each (λ (d : Due). HasTurn m.numbers d.turn.frame) (λ (d : Due). HasTurn after d.turn.frame) (λ d. same_there m.numbers after takes.same (as_sent d.turn.frame)) (dues_left t.rest)
+              (all_each (λ (d : Due). HasTurn m.numbers d.turn.frame) (λ (d : Due). HasTurn after d.turn.frame) (λ d there long. same_there m.numbers after takes.same (as_sent d.turn.frame) (there long)) (dues_left t.rest)
               (rest_there t n n_is (all_there (AreThere m.numbers) tracks place t h.there there)))
 
           next_kept : (site : ℕ) (o : Option NextTurn) → IfSome o (IsNext m.numbers site) → IfSome o (IsNext after site)

@@ -1,9 +1,8 @@
 -- The event of a turn by the index is that of the definition.
-use Rattle.std.proofs.Common.{◌≡◌, ◌∙◌, ap, sym, subst, Bool, true, false, cond, ℕ, ◌≤◌, List, Some, None, Result, Ok, Err, length, refl, arith}
-use Rattle.std.specs.Prelude.{Option, option_map, option_and_then, is_some, IfSome, ◌==◌, ◌&&◌, not}
+use Rattle.std.proofs.Common.{◌≡◌, ◌∙◌, ap, sym, subst, Bool, true, false, cond, ℕ, suc, ◌≤◌, List, Some, None, Result, Ok, Err, length, refl, arith}
+use Rattle.std.specs.Prelude.{Option, option_map, option_and_then, is_some, IfSome, ◌==◌}
 use Rattle.std.proofs.lemmas.Bool.{false≢true, eqb-true}
 use Rattle.vp_model.specs.Types.{Call, Input, Message, Sent}
-use Rattle.vp_model.specs.Types.call
 use Rattle.vp_model.specs.Types.event
 use Rattle.vp_model.specs.Types.input
 use Rattle.vp_model.specs.Words.{has}
@@ -13,7 +12,7 @@ use Rattle.vp_wire.specs.declared.frame.Frame.{Frame}
 use Rattle.vp_wire.specs.declared.frame.Body.{Body}
 use Rattle.vp_wire.specs.declared.frame.Body.TheVariants as body
 use Rattle.vp_wire.specs.Decoded.{read_frame}
-use Rattle.vp_wire.specs.Grammar.{IsBody, IsFrame, frame_bytes, frame_of}
+use Rattle.vp_wire.specs.Grammar.{IsBody, IsFrame, fields, frame_bytes, frame_of}
 use Rattle.vp_laws.specs.Shapes.{IsInput}
 use Rattle.vp_laws.specs.ShapeLaws.{message_frame}
 use Rattle.vp_laws.proofs.Moves.LocalViews.{letter}
@@ -69,6 +68,11 @@ asked_frame site recorded from m e = go (read_frame recorded) e
     go (Ok f) q = of_body f f.body q
     go (Err at) q = absurd cc
 
+five : (f : Frame) → 5 ≤ length (frame_bytes f)
+five f =
+    let more : length (frame_bytes f) ≡ suc (suc (suc (suc (suc (length (fields (version_of f.version) f.body)))))) = refl in
+    omega (arith, more)
+
 -- what is asked of a site has its form
 pub asks_form : (site : ℕ) (recorded : List ℕ) (a : Arrival) → asks site recorded ≡ a → IsArrival a
 asks_form site recorded (Gives given) e = of given (asked_by site recorded given e)
@@ -89,8 +93,12 @@ module _ (numbers : FrameNumbers) (all : List Sent) (index : IsIndex numbers all
   abbrev frame : List ℕ
   frame = as_sent recorded
 
-  number_is : number_at numbers place ≡ number_of frame all
-  number_is = ap (number_at numbers) is ∙ number_there numbers frame ∙ by (entry_of numbers frame) refl there
+  -- that of a message is long enough
+  long : (from : ℕ) (m : Message) → asks site recorded ≡ Gives (input.Message from m) → 5 ≤ length frame
+  long from m e = subst (λ (bytes : List ℕ). 5 ≤ length bytes) (sym (asked_frame site recorded from m e)) (five (message_frame (letter from site m)))
+
+  number_is : 5 ≤ length frame → number_at numbers place ≡ number_of frame all
+  number_is long = ap (number_at numbers) is ∙ number_there numbers frame ∙ by (entry_of numbers frame) refl (there long)
     where
       by : (o : Option (Option ℕ)) → entry_of numbers frame ≡ o → is_some o ≡ true → option_and_then (λ (number : Option ℕ). number) o ≡ number_of frame all
       by None e some = absurd (false≢true some)
@@ -99,7 +107,7 @@ module _ (numbers : FrameNumbers) (all : List Sent) (index : IsIndex numbers all
   by_asked : (given : Input) → AskedBy site recorded given → asks site recorded ≡ Gives given → event_by numbers site place given ≡ event_of all site given
   unfolding lowest
   by_asked _ (AskedBy.called words call) e = refl
-  by_asked _ (AskedBy.sent from m form) e = ap (option_map event.Deliver) (number_is ∙ ap (λ bytes. number_of bytes all) (asked_frame site recorded from m e))
+  by_asked _ (AskedBy.sent from m form) e = ap (option_map event.Deliver) (number_is (long from m e) ∙ ap (λ bytes. number_of bytes all) (asked_frame site recorded from m e))
   by_asked _ AskedBy.ticked e = refl
   by_asked _ AskedBy.probed e = refl
 
@@ -126,7 +134,7 @@ module _ (numbers : FrameNumbers) (all : List Sent) (index : IsIndex numbers all
 
     pub event_is_put : (a : Arrival) → asks site recorded ≡ a → IsArrival a → IfSome (own_event numbers site place a) (IsPut sites)
     event_is_put (Gives (input.Call port words)) e form = (tt, (known, form.1))
-    event_is_put (Gives (input.Message from message)) e form = subst (λ (o : Option ℕ). IfSome (option_map event.Deliver o) (IsPut sites)) (sym number_is) (delivered (number_of frame all) refl)
+    event_is_put (Gives (input.Message from message)) e form = subst (λ (o : Option ℕ). IfSome (option_map event.Deliver o) (IsPut sites)) (sym (number_is (long from message e))) (delivered (number_of frame all) refl)
     event_is_put (Gives input.Tick) e form = (tt, known)
     event_is_put (Gives input.Probe) e form = (tt, known)
     event_is_put (Bad at) e form = tt

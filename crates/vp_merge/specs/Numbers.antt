@@ -1,5 +1,5 @@
 -- The lowest numbers under which messages were sent, by the bytes of their frames.
-use Rattle.std.specs.Prelude.{◌≡◌, ℕ, ◌+◌, List, ◌++◌, length, slice_get, Option, Some, is_some, true, option_and_then, Result, Ok, Err}
+use Rattle.std.specs.Prelude.{◌≡◌, ℕ, ◌+◌, ◌≤◌, List, ◌++◌, length, slice_get, Option, Some, is_some, true, option_and_then, Result, Ok, Err}
 use Rattle.std.specs.List.{position_from}
 use Rattle.std.specs.Str.{bytes_eq}
 use Rattle.indexmap.specs.IndexMap.{get_by, index_of_by, values}
@@ -45,9 +45,9 @@ IsIndex n all = (bytes : List ℕ) (number : Option ℕ) → entry_of n bytes �
 abbrev pub HasFrame : FrameNumbers → List ℕ → Type 0
 HasFrame n bytes = is_some (entry_of n bytes) ≡ true
 
--- the frame of a turn is there, as it is sent
+-- the frame of a turn is there, as it is sent, unless it is too short for a frame
 abbrev pub HasTurn : FrameNumbers → List ℕ → Type 0
-HasTurn n frame = HasFrame n (as_sent frame)
+HasTurn n frame = 5 ≤ length (as_sent frame) → HasFrame n (as_sent frame)
 
 -- the same frames are there, each at its place
 abbrev pub HaveSame : FrameNumbers → FrameNumbers → Type 0

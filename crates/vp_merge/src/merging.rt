@@ -35,7 +35,10 @@ pub struct Merging<'a> {
     pub room: BytesMut,
 }
 
-/// Adds the frames of turns as they are sent, without numbers.
+/// No frame has fewer bytes.
+const SHORTEST_FRAME: usize = 5;
+
+/// Adds the frames of turns as they are sent, without numbers, but for bytes that are too few for a frame: no message has these.
 fn add_frames(alloc: Global, turns: &[Turn], numbers: &mut FrameNumbers) -> Result<(), NoMemory>
     ensures index { OnOk result (IsIndex numbers.old [] → IsIndex numbers.new []) }
     ensures there { OnOk result (AllByRecursion (λ turn. HasTurn numbers.new turn.frame) turns.now) }
@@ -43,7 +46,9 @@ fn add_frames(alloc: Global, turns: &[Turn], numbers: &mut FrameNumbers) -> Resu
 {
     for turn in turns {
         let frame = SentFrame::of(alloc, turn.frame.as_slice())?;
-        numbers.add(alloc, frame.as_slice())?;
+        if frame.as_slice().len() >= SHORTEST_FRAME {
+            numbers.add(alloc, frame.as_slice())?;
+        }
     }
     Ok(())
 }

@@ -21,6 +21,6 @@ loop-recording-preserved c =
       there = subst (AllByRecursion (λ (r : Recording). AllByRecursion (λ (turn : Turn). HasTurn new turn.frame) r.turns)) (sym more)
           (all_push (λ (r : Recording). AllByRecursion (λ (turn : Turn). HasTurn new turn.frame) r.turns) before recording
           (all_each (λ (r : Recording). AllByRecursion (λ (turn : Turn). HasTurn old turn.frame) r.turns) (λ (r : Recording). AllByRecursion (λ (turn : Turn). HasTurn new turn.frame) r.turns)
-          (λ r. all_each (λ (turn : Turn). HasTurn old turn.frame) (λ (turn : Turn). HasTurn new turn.frame) (λ turn. done.kept (as_sent turn.frame)) r.turns) before h.there)
+          (λ r. all_each (λ (turn : Turn). HasTurn old turn.frame) (λ (turn : Turn). HasTurn new turn.frame) (λ turn there long. done.kept (as_sent turn.frame) (there long)) r.turns) before h.there)
           (subst (AllByRecursion (λ (turn : Turn). HasTurn new turn.frame)) c.as_slice.ensures done.there));
     }
