@@ -1,14 +1,15 @@
 #!/usr/bin/env python3
 """Sums what was run, and looks whether docs/TRUST.md and bench/README.md say these sums.
 
-usage: sum_runs.py [--check]
+usage: sum_runs.py [--check | --write]
 
 bench/runs.csv has a line for each run that was written down: the day, the commit that wrote it down, the script, the first seeds (of rounds the first and the last),
 how many inputs, how many of them the two differed on or were at fault, and a remark, in which NAME=NUMBER is a further count. A line whose remark begins
 with `not summed` is of another program than `vpdb` and those over its crates, or of a run of which too little was kept.
 
 Without a word it prints each sentence that a page is to have. With --check it prints those that a page lacks: on one line of the page, with the name of the
-script. It ends with status 1 where one is missing, or where a line of runs.csv names a script that isn't here.
+script. With --write it puts the sums of today into each such line that has other ones, before it looks. It ends with status 1 where one is missing, or where a
+line of runs.csv names a script that isn't here.
 """
 import collections
 import csv
@@ -86,13 +87,22 @@ def main():
     sums["more wrong lines"] = sums["Must-fail edits"] = edits()
     for page, name, sentence in SAID:
         said = sentence.format(**sums[name])
-        if sys.argv[1:] != ["--check"]:
+        if sys.argv[1:] == ["--write"]:
+            write(TOP / page, name, said)
+        if not sys.argv[1:]:
             print(f"{page}: {name}: {said}")
         elif not any(name in line and said in line for line in (TOP / page).read_text().splitlines()):
             missing.append(f"{page} doesn't say of {name}: {said}")
     for line in missing:
         print(line)
     return 1 if missing else 0
+
+
+def write(page, name, said):
+    """Puts the sentence in the place of the same one with other numbers, on the lines of the page that name the script."""
+    old = re.compile(r"[\d,]*\d".join(map(re.escape, re.split(r"[\d,]*\d", said))))
+    lines = page.read_text(encoding="utf-8").split("\n")
+    page.write_text("\n".join(old.sub(lambda _: said, line) if name in line else line for line in lines), encoding="utf-8")
 
 
 def read_runs():
