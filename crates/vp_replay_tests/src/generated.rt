@@ -73,11 +73,11 @@ fn schedules_are_generated_and_soaks_are_counted(rt: HostRuntime) {
         ),
         (
             "soak 7 1500",
-            "events 1500\nmessages 752\nbegun 20\ncommitted 0\nrefused 322\nserial 0\n",
+            "events 1500\nmessages 821\nbegun 25\ncommitted 0\nrefused 359\nserial 0\n",
         ),
         (
-            "soak 398 2400",
-            "events 2400\nmessages 1674\nbegun 30\ncommitted 2\nrefused 673\nserial 2\n",
+            "soak 755 2400",
+            "events 2400\nmessages 1702\nbegun 44\ncommitted 2\nrefused 602\nserial 2\n",
         ),
     ] {
         assert!(rt;
