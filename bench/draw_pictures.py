@@ -414,13 +414,18 @@ def shared_holder():
             draw_commit(picture, run, x_of(event), y_of, txn, view, wrote[txn])
     draw_answers(picture, run, x_of, y_of, low, high, shared)
     y = top + tall * len(run.sites) + 14
-    for number, words in enumerate((
+    write_below(picture, y, (
         f"In {low} {run.record} is accessible by weight {run.weight(low)} of {total}, in {high} by {run.weight(high)} of {total}: two majorities share a holder, here sites {' and '.join(map(str, shared))}.",
         f"A shared holder has promised {high} before it joined, so it has left {low} and votes there no more; what it voted for was decided before it answers a refresh.",
         f"So site {run.lonely()}, which has missed the write, gets {next(answer[4] for answer in run.answers if answer[5] == low)} by the answer of a shared holder before it may use {run.record} in {high}.",
-    )):
-        picture.text(20, y + 19 * number, words, 12.5)
+    ))
     return picture
+
+
+def write_below(picture, y, lines):
+    """Writes lines of text below what was drawn, from this height on."""
+    for number, words in enumerate(lines):
+        picture.text(20, y + 19 * number, words, 12.5)
 
 
 def draw_lane(picture, run, site, y, x_of, views, is_shared):
@@ -505,13 +510,12 @@ def changed_weights():
                 picture.add(f'<circle cx="{x_of(event):g}" cy="{top + tall * run.sites.index(site) + 30:g}" r="5" fill="{STRONG[0]}"/>')
     shared = lambda a, b: " and ".join(str(site) for site in run.members[a] if site in run.members[b])
     y = top + tall * len(run.sites) + 14
-    for number, words in enumerate((
+    write_below(picture, y, (
         f"{low} has {tables.said(low, tables.judges(low))} by the table of the catalogue, {words_of(run.weights)}. {changing} has {tables.said(changing, tables.judges(changing))} by it too: two majorities by one table share a holder, site {shared(low, changing)}.",
         f"{changing} makes the table {words_of(tables.makes(changing))}, and has {tables.said(changing, tables.makes(changing))} by that as well; else its weigh would be refused.",
         f"{high} has {tables.said(high, tables.judges(high))} by the new table: it shares site {shared(changing, high)} with {changing}, from which it has the new table, and what was written below. With {low} it shares no site.",
         f"{barred} finds the new table at site {shared(changing, barred)}, and has {tables.said(barred, tables.judges(barred))} by it: {run.record} is barred there.",
-    )):
-        picture.text(20, y + 19 * number, words, 12.5)
+    ))
     return picture
 
 
