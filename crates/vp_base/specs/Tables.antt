@@ -31,6 +31,6 @@ has numbers n = list_any (λ m. m == n) numbers
 abbrev pub weight_inside : List ℕ → List (ℕ × ℕ) → ℕ
 weight_inside members table = sum_by (λ share. share.1) (filter (λ share. has members share.0) table)
 
--- the bar on the record: the weight inside the held view, and the whole weight
-abbrev pub bar_on : ℕ → List (ℕ × (ℕ × ℕ)) → Option (ℕ × ℕ)
-bar_on rec bars = option_map (λ (bar : ℕ × (ℕ × ℕ)). bar.1) (find (λ (bar : ℕ × (ℕ × ℕ)). bar.0 == rec) bars)
+-- the value at a number, in pairs of a number and a value
+abbrev pub value_at : {V : Type 0} → ℕ → List (ℕ × V) → Option V
+value_at {V} n pairs = option_map (λ (p : ℕ × V). p.1) (find (λ (p : ℕ × V). p.0 == n) pairs)

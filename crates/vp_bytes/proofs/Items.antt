@@ -1,15 +1,15 @@
 -- Names, sites and records are read exactly, and so is a run of bytes of a class.
-use Rattle.std.proofs.Common.{◌≡◌, ℕ, zero, suc, ◌+◌, ◌-◌, ◌≤◌, Bool, true, List, [], ◌∷◌, length, flat_map, nat_le, Ok, refl, sym, ap, subst, ◌∙◌, arith}
+use Rattle.std.proofs.Common.{◌≡◌, ℕ, zero, suc, ◌+◌, ◌-◌, ◌≤◌, Bool, true, List, [], ◌∷◌, length, nat_le, Ok, refl, sym, ap, subst, ◌∙◌, arith}
 use Rattle.std.proofs.lemmas.Bool.{le-leb, leb-true}
 use Rattle.std.specs.List.{AllByRecursion}
 use Rattle.vp_text.specs.Tokens.{IsWord}
 use Rattle.vp_text.specs.Classes.{has, most}
 use Rattle.vp_text.specs.declared.class.Class.{Class}
 use Rattle.vp_text.specs.declared.class.Class.TheVariants as classes
-use Rattle.vp_text.proofs.Exact.{Exact, Then, Made, made_exact, exact_as, IsOne}
+use Rattle.vp_text.proofs.Exact.{Exact, exact_as}
 use Rattle.vp_bytes.specs.Fields.{Spelled, counted_bytes, IsAscending, IsNameBytes, IsSitesBytes, IsRecsBytes}
 use Rattle.vp_bytes.specs.Reading.{byte_at, within, counted_at, ascending_at, word_at, word_run_at, name_at, sites_at, recs_at}
-use Rattle.vp_bytes.proofs.Free.{IsFree, IsByteOf, byte_free, byte_one, byte_exact, free_then, then_free, made_free, free_as}
+use Rattle.vp_bytes.proofs.Free.{IsFree, IsByteOf, byte_free, byte_one, byte_exact, free_as}
 use Rattle.vp_bytes.proofs.Identifiers.{within_exact, within_from, within_to}
 use Rattle.vp_bytes.proofs.Runs.{HasRun, Runs, run_exact, run_free, Counted, counted_exact, counted_free}
 

@@ -1,14 +1,14 @@
 -- Conversations go on, and hand over their frames.
-use Rattle.std.proofs.Common.{◌≡◌, ◌∙◌, ℕ, List, [], ◌∷◌, ◌++◌, map, refl, ap, subst, sym}
+use Rattle.std.proofs.Common.{ℕ, List, [], ◌∷◌, refl, ap, subst}
 use Rattle.std.specs.Prelude.{Option, Some, None}
 use Rattle.vp_model.specs.Types.{Answer, Call}
-use Rattle.vp_outside.specs.Links.{LinkState, Hands}
+use Rattle.vp_outside.specs.Links.{LinkState}
 use Rattle.vp_outside.specs.declared.datagram.Datagram.{Datagram}
 use Rattle.vp_outside.specs.declared.datagram.Dispatch.{Dispatch}
 use Rattle.vp_outside.proofs.Passed.{hands_none, hands_then}
 use Rattle.vp_runs.specs.Asking.{call_datagram}
 use Rattle.vp_client.specs.Asked.{IsSent, Asks}
-use Rattle.vp_client.specs.Conversations.{Exchange, as_asked, Conversed, ConversationsJoin, ConversationsHandOver}
+use Rattle.vp_client.specs.Conversations.{as_asked, Conversed, ConversationsJoin, ConversationsHandOver}
 
 pub conversations_join : ConversationsJoin
 conversations_join port site turns [] back old mid new h k = subst (λ (s : LinkState). Conversed port site turns back s new) h k

@@ -1,10 +1,8 @@
 -- An answer that is found in a datagram is one that a site may give.
-use Rattle.std.proofs.Common.{◌≡◌, ◌∙◌, ℕ, Bool, true, false, List, refl, sym, subst, Result, Ok, Err, if◌then◌else◌, ◌==◌}
+use Rattle.std.proofs.Common.{◌≡◌, ℕ, Bool, true, false, List, subst, Result, Ok, Err, if◌then◌else◌, ◌==◌}
 use Rattle.std.specs.Prelude.{Option, Some, None}
-use Rattle.std.proofs.lemmas.Bool.{false≢true}
 use Rattle.vp_text.specs.Meaning.{Answers}
 use Rattle.vp_model.specs.Types.{Answer, Call}
-use Rattle.vp_outside.specs.declared.datagram.Datagram.{Datagram}
 use Rattle.vp_laws.specs.Answering.{answers}
 use Rattle.vp_runs.specs.Asking.{answer_in, answer_from, answer_of}
 use Rattle.vp_wire.specs.declared.frame.Frame.{Frame}

@@ -1,5 +1,5 @@
 -- Tables of weights: a weight for each of 1 to 16 sites, ascending. Where a table may be left out, the first version has no byte for it.
-use Rattle.std.specs.Prelude.{ℕ, List, [], ◌∷◌, ◌++◌, length, flat_map, cond, ◌==◌, Option, Some, None, Result, Ok}
+use Rattle.std.specs.Prelude.{ℕ, List, ◌∷◌, ◌++◌, length, flat_map, cond, ◌==◌, Option, Some, None, Result, Ok}
 use Rattle.vp_text.specs.Reading.{◌>>=◌}
 use Rattle.vp_base.specs.Tables.{IsTable}
 use Rattle.vp_bytes.specs.Fields.{Spelled, number_bytes}

@@ -1,5 +1,5 @@
 -- A row that puts the transaction in its place, or ends it, does the same whatever was there before.
-use Rattle.std.proofs.Common.{◌≡◌, ℕ, true, false, if◌then◌else◌, List, [], ◌∷◌, ◌++◌, Some, None, refl, ap}
+use Rattle.std.proofs.Common.{◌≡◌, ℕ, true, false, if◌then◌else◌, List, Some, refl, ap}
 use Rattle.vp_model.specs.Types.{Live, Pending, Ending}
 use Rattle.vp_model.specs.Words.{is_empty}
 use Rattle.vp_model.specs.Catalogue.{Catalogue}

@@ -1,5 +1,5 @@
 -- What an answer of another site does to the call that waits for it.
-use Rattle.std.specs.Prelude.{ℕ, ◌==◌, Bool, true, false, if◌then◌else◌, List, Option, Some, None, option_map}
+use Rattle.std.specs.Prelude.{ℕ, ◌==◌, Bool, true, false, if◌then◌else◌, Option, Some, None, option_map}
 use Rattle.vp_model.specs.Types.{ViewId, Call, Obstacle, Pending, Live, Ending}
 use Rattle.vp_base.specs.declared.site.Ending.TheVariants.{LockHeld, ViewChanged, Inaccessible}
 use Rattle.vp_model.specs.Types.call

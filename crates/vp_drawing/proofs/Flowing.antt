@@ -1,15 +1,11 @@
 -- How a drawing goes on, step by step.
-use Rattle.std.proofs.Common.{◌≡◌, ◌∙◌, ℕ, zero, suc, ◌+◌, ◌<◌, ◌≤◌, false, List, [], ◌∷◌, ◌++◌, length, refl, sym, ap, subst, arith}
-use Rattle.std.specs.Prelude.{◌-◌, ◌==◌, nat_lt, if◌then◌else◌, get_or, drop, Option, Some, None, Result, Ok, Err}
-use Rattle.std.specs.List.{list_any}
-use Rattle.std.proofs.lemmas.Bool.Decides.{nat_tests}
-use Rattle.vp_model.specs.Types.{Counted, Event}
-use Rattle.vp_model.specs.Types.counted
+use Rattle.std.proofs.Common.{◌≡◌, ◌∙◌, ℕ, zero, suc, ◌+◌, ◌<◌, List, [], ◌∷◌, length, refl, sym, ap, subst, arith}
+use Rattle.std.specs.Prelude.{◌-◌, get_or, drop, Some, None, Result, Ok, Err}
+use Rattle.vp_model.specs.Types.{Event}
 use Rattle.vp_model.specs.Types.event
-use Rattle.vp_model.specs.Words.{for_some}
 use Rattle.vp_model.specs.Catalogue.{Catalogue}
-use Rattle.vp_model.specs.Limits.{exceeded, is_over, limit_in, limit_reached}
-use Rattle.vp_model.specs.World.{WorldState, Moment, Moved, Run, Schedule, flow, flowing, moment, next, one_event, one_step, run_from, run_of, start_run, start_world}
+use Rattle.vp_model.specs.Limits.{limit_in}
+use Rattle.vp_model.specs.World.{Moment, Run, Schedule, flow, flowing, moment, next, one_event, one_step, run_from, run_of, start_run, start_world}
 use Rattle.vp_pictures.specs.Heads.{head}
 use Rattle.vp_pictures.specs.declared.sheet.Part.{Part}
 use Rattle.vp_pictures.specs.declared.sheet.Sheet.{Sheet}

@@ -1,17 +1,16 @@
 -- How the looks change with the places of a world.
-use Rattle.std.proofs.Common.{◌≡◌, ◌∙◌, ℕ, Bool, true, false, List, [], ◌∷◌, ◌++◌, ◌<◌, length, take, map, refl, sym, ap, subst, arith}
-use Rattle.std.specs.Prelude.{◌==◌, ◌&&◌, ◌+◌, if◌then◌else◌, get_or, Option, Some, None, find, option_and_then}
+use Rattle.std.proofs.Common.{◌≡◌, ◌∙◌, ℕ, Bool, true, false, List, [], ◌∷◌, ◌++◌, ◌<◌, length, take, map, refl, sym, ap, arith}
+use Rattle.std.specs.Prelude.{◌==◌, ◌+◌, if◌then◌else◌, get_or, Option, Some, None, option_and_then}
 use Rattle.std.specs.List.{position, slice_index_or, slice_set}
 use Rattle.std.proofs.lemmas.Bool.Decides.{nat_tests}
 use Rattle.std.proofs.lemmas.List.{map-append, take_all, take_more}
 use Rattle.vp_lists.proofs.Found.{changed_some}
 use Rattle.vp_model.specs.Types.{View, ViewId}
-use Rattle.vp_model.specs.Words.{change_first, opening, same_view}
-use Rattle.vp_model.specs.Catalogue.{Catalogue, sites_of, start_copies}
-use Rattle.vp_model.specs.Durable.{empty_durable}
+use Rattle.vp_model.specs.Words.{same_view}
+use Rattle.vp_model.specs.Catalogue.{Catalogue, sites_of}
 use Rattle.vp_model.specs.Site.{SiteState}
 use Rattle.vp_model.specs.Step.{start}
-use Rattle.vp_model.specs.World.{Place, WorldState, change_place, place_of, site_of, start_place, start_world}
+use Rattle.vp_model.specs.World.{Place, change_place, place_of, start_place, start_world}
 use Rattle.vp_pictures.specs.declared.sheet.Look.{Look}
 use Rattle.vp_drawing.specs.Looks.{first_look, held_id, newly_joined, look_of, looks_after, looks_in, looks_of}
 

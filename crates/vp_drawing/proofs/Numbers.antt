@@ -1,6 +1,6 @@
 -- The number of an event line that a word is.
-use Rattle.std.proofs.Common.{◌≡◌, ◌∙◌, ℕ, List, refl, sym, ap}
-use Rattle.std.specs.Prelude.{Option, Some, None, option_map, Result, Ok, Err}
+use Rattle.std.proofs.Common.{◌≡◌, ℕ, List, sym, ap}
+use Rattle.std.specs.Prelude.{option_map, Result, Ok, Err}
 use Rattle.std.specs.Result.{result_ok}
 use Rattle.vp_text.specs.Reading.{Reads, number_at, whole}
 use Rattle.vp_text.specs.declared.cursor.Unexpected.{Unexpected}

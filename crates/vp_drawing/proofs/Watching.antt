@@ -1,8 +1,8 @@
 -- What is watched of an event.
-use Rattle.std.proofs.Common.{◌≡◌, ◌∙◌, ℕ, Bool, true, false, List, [], ◌∷◌, ◌++◌, refl, sym, ap, subst}
+use Rattle.std.proofs.Common.{◌≡◌, ℕ, Bool, true, false, [], ◌∷◌, ◌++◌, refl, sym, subst}
 use Rattle.std.specs.Prelude.{◌+◌, ◌-◌, ◌^◌, ◌==◌, if◌then◌else◌, is_some, Option, Some, None, option_map, option_and_then}
 use Rattle.std.specs.Option.{option_map_or}
-use Rattle.vp_model.specs.Types.{Event, Input, Sent, View, Shown}
+use Rattle.vp_model.specs.Types.{Event, Input, Sent, View}
 use Rattle.vp_model.specs.Types.event
 use Rattle.vp_model.specs.Types.input
 use Rattle.vp_model.specs.Types.shown
@@ -10,13 +10,12 @@ use Rattle.vp_model.specs.Catalogue.{Catalogue}
 use Rattle.vp_model.specs.Justified.{site_named}
 use Rattle.vp_model.specs.Site.{SiteState}
 use Rattle.vp_model.specs.Step.{start, step}
-use Rattle.vp_model.specs.World.{Place, WorldState, Moved, after_step, at_site, change_place, crash, deliver, happens, is_cut, message_at, moment, next, place_of, restart, restart_from, restart_place, shows, site_of, site_step}
+use Rattle.vp_model.specs.World.{Place, WorldState, after_step, at_site, change_place, crash, deliver, happens, is_cut, message_at, next, place_of, restart, restart_from, restart_place, shows, site_of, site_step}
 use Rattle.vp_world.specs.Asked.{Asked, restart_asked}
 use Rattle.vp_world.specs.Places.{Did}
-use Rattle.vp_world.specs.Steps.{DoesEvent, if_up, receiver, step_at, step_by, taker_now}
-use Rattle.vp_pictures.specs.declared.sheet.Look.{Look}
-use Rattle.vp_drawing.specs.Looks.{held_id, newly_joined, look_of, looks_after, looks_of}
-use Rattle.vp_drawing.specs.Moments.{held_at, joined_in}
+use Rattle.vp_world.specs.Steps.{DoesEvent, if_up, step_at, step_by, taker_now}
+use Rattle.vp_drawing.specs.Looks.{held_id, newly_joined, look_of, looks_of}
+use Rattle.vp_drawing.specs.Moments.{held_at}
 use Rattle.vp_drawing.specs.Watching.{Watched, Watches, watch_asked}
 use Rattle.vp_drawing.proofs.Looking.{joined_none, looks_change, place_changes, place_is, placed}
 

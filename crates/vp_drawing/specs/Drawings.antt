@@ -1,5 +1,5 @@
 -- What is drawn of the steps so far, and how drawing goes on.
-use Rattle.std.specs.Prelude.{◌≡◌, ◌≤◌, ◌<◌, ⊤, ℕ, false, length, Some, None, Result, Ok, Err}
+use Rattle.std.specs.Prelude.{◌≡◌, ◌≤◌, ◌<◌, ⊤, false, length, Some, None, Result, Ok, Err}
 use Rattle.std.specs.List.{list_any}
 use Rattle.vp_model.specs.Types.counted
 use Rattle.vp_model.specs.Catalogue.{Catalogue}

@@ -1,9 +1,8 @@
 -- How many steps and messages a run may have to be drawn.
-use Rattle.std.specs.Prelude.{◌≡◌, ℕ, List, codes, Some, None, length, Result, Ok, Err}
+use Rattle.std.specs.Prelude.{ℕ, List, codes}
 use Rattle.vp_model.specs.Types.{Counted}
 use Rattle.vp_model.specs.Types.counted
 use Rattle.vp_model.specs.Limits.{Limits}
-use Rattle.vp_world.specs.Known.{Known}
 use Rattle.vp_world.specs.declared.end.WorldEnd.{WorldEnd}
 use Rattle.vp_world.specs.declared.end.WorldEnd.TheVariants as world_end
 use Rattle.vp_drawing.specs.declared.end.DrawingEnd.{DrawingEnd}

@@ -1,5 +1,5 @@
 -- Bytes begin with at most one head.
-use Rattle.std.proofs.Common.{◌≡◌, ℕ, ◌≤◌, List, [], ◌∷◌, ◌++◌, length, refl, sym, ap, subst, ◌∙◌, true, false, cond}
+use Rattle.std.proofs.Common.{◌≡◌, ℕ, List, [], ◌∷◌, ◌++◌, length, refl, sym, ap, subst, ◌∙◌, true, false}
 use Rattle.std.proofs.lemmas.Bool.{false≢true}
 use Rattle.vp_text.specs.Documents.{IsBadLine, IsFaultyLine}
 use Rattle.vp_text.proofs.Exact.{IsOne, one_value}

@@ -1,16 +1,14 @@
 -- The lines of a head, one after the other.
-use Rattle.std.proofs.Common.{◌≡◌, ℕ, ◌+◌, ◌≤◌, ◌<◌, List, [], ◌∷◌, ◌++◌, length, refl, sym, ap, subst, ◌∙◌, true, false}
+use Rattle.std.proofs.Common.{◌≡◌, ℕ, ◌+◌, List, [], ◌∷◌, ◌++◌, length, refl, sym, ap, subst, ◌∙◌, true, false}
 use Rattle.std.proofs.lemmas.Bool.{false≢true, leb-false}
 use Rattle.vp_text.specs.Documents.{IsLine, reached, LinesText}
 use Rattle.vp_text.proofs.Exact.{Exact}
-use Rattle.vp_text.proofs.Lists.{Readable}
-use Rattle.vp_model.specs.Catalogue.{Catalogue, sites_of}
+use Rattle.vp_model.specs.Catalogue.{Catalogue}
 use Rattle.vp_model.specs.Texts.Schedule.{catalogue_text}
 use Rattle.vp_catalog.specs.declared.entry.Entry.{Entry}
 use Rattle.vp_catalog.specs.declared.entry.Entry.TheVariants as entry
 use Rattle.vp_catalog.specs.Document.{IsCatalogueSoFar, IsCatalogue}
 use Rattle.vp_catalog.specs.Entries as entries
-use Rattle.vp_catalog.specs.EntryReading.{entry_at}
 use Rattle.vp_catalog.proofs.EntriesExact.{entry_exact}
 use Rattle.vp_catalog.proofs.Newlines.{entry_is_line}
 use Rattle.vp_catalog.proofs.Steps as catalogue

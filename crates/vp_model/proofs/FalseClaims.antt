@@ -1,10 +1,7 @@
 -- What an answer may claim after some schedules: the answers that are given are justified, and false ones are not.
 use Rattle.std.proofs.Common.{◌≡◌, true, false, refl}
-use Rattle.std.specs.Prelude.{[], ◌∷◌, ◌++◌, codes}
-use Rattle.vp_model.specs.Types.answer
+use Rattle.std.specs.Prelude.{codes}
 use Rattle.vp_model.specs.Types.call
-use Rattle.vp_model.specs.Types.event
-use Rattle.vp_model.specs.Types.owner
 use Rattle.vp_model.specs.Headline.{RefusalsAreJustified}
 use Rattle.vp_model.specs.Worked.{txn}
 use Rattle.vp_model.specs.Worked.FalseClaims.{is_justified_after, closed_and_left, closed_by_lock, closed_by_leaving, granted_after_all, next_is_done, next_is_refused, closed_idle, IsToldApart, aborted, never_begun, out_of_turn, refused_by_two, timed_out_before, written_after_all, told_before_leaving, waiting_write, left_view, refused_again, refused_first, forgotten, called_elsewhere, unknown_without_weight, told_the_weights, bar_of_another_view, bar_by_a_lost_table, bar_after_leaving}

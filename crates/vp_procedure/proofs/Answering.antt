@@ -1,22 +1,18 @@
 -- What the loop over the lines answers.
-use Rattle.std.proofs.Common.{◌≡◌, ◌⊎◌, ℕ, ◌+◌, ◌-◌, ◌≤◌, ◌<◌, List, ◌++◌, length, refl, sym, ap, subst, ◌∙◌, arith, Ok, Err, true, false, [], ◌∷◌, inl, inr, ⊎_elim}
+use Rattle.std.proofs.Common.{◌≡◌, ℕ, ◌+◌, List, length, sym, ap, subst, ◌∙◌, arith, Ok, true, false}
 use Rattle.std.proofs.lemmas.Bool.{false≢true}
-use Rattle.std.proofs.lemmas.List.{length-append, append-nil, nil_from_length}
 use Rattle.vp_text.specs.Documents.{IsFaultyLine}
-use Rattle.vp_text.proofs.Lists.{so_far_more, so_far_bad, so_far_faulty, so_far_exact}
-use Rattle.vp_text.proofs.Determined.{Plain, plain, Stops, faulty_same, bad_not_faulty}
+use Rattle.vp_text.proofs.Lists.{so_far_more, so_far_faulty}
+use Rattle.vp_text.proofs.Determined.{Plain, plain, Stops, faulty_same}
 use Rattle.vp_heads.specs.declared.line.HeadLine.TheVariants as heads_kind
 use Rattle.vp_catalog.specs.declared.entry.Entry.TheVariants as entry
 use Rattle.vp_procedure.specs.declared.line.ProcedureLine.{ProcedureLine}
 use Rattle.vp_procedure.specs.declared.line.ProcedureLine.TheVariants as kind
 use Rattle.vp_procedure.specs.declared.draft.ProcedureDraft.{ProcedureDraft}
-use Rattle.vp_procedure.specs.declared.draft.ProcedureInput.{ProcedureInput}
-use Rattle.vp_procedure.specs.declared.fault.ProcedureFault.{ProcedureFault}
 use Rattle.vp_procedure.specs.declared.fault.ProcedureFault.TheVariants as faults
-use Rattle.vp_procedure.specs.Drafts.{LineText, blank, after, Onward, Closes, Overruns, Repeats, Overfills, Adds, input_of}
+use Rattle.vp_procedure.specs.Drafts.{LineText, blank, after, Onward, Closes, Overruns, Repeats, Overfills, Adds}
 use Rattle.vp_procedure.specs.LineReading.{line_at}
-use Rattle.vp_procedure.specs.Document.{IsProcedureText, IsTooLong, IsBadPlace, Answered, NextLine, Finishes}
-use Rattle.vp_procedure.proofs.Steps.{said, Lines, Stands, readable}
+use Rattle.vp_procedure.proofs.Steps.{said, Stands, readable}
 
 pub lines_plain : (text : List ℕ) → Plain blank after LineText Onward (length text)
 lines_plain text = plain blank after LineText Onward line_at (length text) (readable (length text))

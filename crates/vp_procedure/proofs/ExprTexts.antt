@@ -1,9 +1,9 @@
 -- Expressions are read exactly, each with the word after it.
-use Rattle.std.proofs.Common.{◌≡◌, ℕ, ◌^◌, ◌-◌, Bool, true, false, List, [], ◌∷◌, ◌++◌, length, Result, Ok, Err, refl, sym, ap, subst, ◌∙◌, arith, inl, inr, append_assoc}
+use Rattle.std.proofs.Common.{◌≡◌, ℕ, ◌-◌, Bool, true, false, List, [], ◌∷◌, ◌++◌, length, Result, Ok, refl, sym, ap, subst, ◌∙◌, arith, inl, inr, append_assoc}
 use Rattle.std.specs.Prelude.{codes}
 use Rattle.std.proofs.lemmas.List.{append-nil, length-append}
 use Rattle.vp_text.specs.Reading.{is_digit}
-use Rattle.vp_text.proofs.Exact.{IsRead, IsFault, Exact, Then, Made, Follows, one_value, made_exact, then_exact, exact_as, ok_value, at_err, Apart}
+use Rattle.vp_text.proofs.Exact.{Exact, Then, Made, Follows, one_value, made_exact, then_exact, exact_as, ok_value, at_err, Apart}
 use Rattle.vp_text.proofs.Fields.{Outside, IsOutside}
 use Rattle.vp_text.proofs.Choices.{GoesOn, follows_from, then_goes}
 use Rattle.vp_procedure.specs.declared.procedure.Term.{Term}
@@ -13,7 +13,7 @@ use Rattle.vp_procedure.specs.declared.keyword.Keyword.{Keyword}
 use Rattle.vp_procedure.specs.declared.keyword.Keyword.TheVariants as kw
 use Rattle.vp_procedure.specs.Procedures.{IsTerm, IsExpr, term_text, expr_text}
 use Rattle.vp_procedure.specs.Keywords.{word, ends_of, signs_of, keyword_at}
-use Rattle.vp_procedure.specs.ExprReading.{term_at, sum_at, difference_at, after_term_at, expr_at}
+use Rattle.vp_procedure.specs.ExprReading.{sum_at, difference_at, after_term_at, expr_at}
 use Rattle.vp_procedure.proofs.KeywordWords.{Among, IsKeyword, all_apart, keywords_end, keywords_exact}
 use Rattle.vp_procedure.proofs.TermTexts.{TermText, term_exact, term_goes}
 

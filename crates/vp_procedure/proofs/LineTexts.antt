@@ -1,5 +1,5 @@
 -- The lines of a procedure's input are read exactly.
-use Rattle.std.proofs.Common.{◌≡◌, ℕ, Bool, true, false, cond, ◌&&◌, List, [], ◌∷◌, ◌++◌, filter, Ok, refl, sym, ap, subst, ◌∙◌, arith, inl, inr}
+use Rattle.std.proofs.Common.{◌≡◌, ℕ, Bool, true, false, cond, List, [], ◌∷◌, ◌++◌, filter, Ok, refl, sym, ap, subst, ◌∙◌, inl, inr}
 use Rattle.std.specs.List.{AllByRecursion}
 use Rattle.std.proofs.lemmas.Bool.{false≢true, and_from, and_parts}
 use Rattle.vp_text.specs.Meaning.{Begins}
@@ -18,7 +18,7 @@ use Rattle.vp_procedure.specs.declared.line.ProcedureLine.{ProcedureLine}
 use Rattle.vp_procedure.specs.declared.line.ProcedureLine.TheVariants as kind
 use Rattle.vp_procedure.specs.declared.keyword.Keyword.{Keyword}
 use Rattle.vp_procedure.specs.declared.keyword.Keyword.TheVariants as kw
-use Rattle.vp_procedure.specs.Procedures.{key, names_of, IsStatement, IsInPlace, statement_line}
+use Rattle.vp_procedure.specs.Procedures.{key, names_of, IsInPlace}
 use Rattle.vp_procedure.specs.Keywords.{word, keyword_at}
 use Rattle.vp_procedure.specs.StatementReading.{fields_at}
 use Rattle.vp_procedure.specs.Drafts.{LineText}

@@ -1,5 +1,5 @@
 -- Only one result is possible for a text, apart from want of memory.
-use Rattle.std.proofs.Common.{◌≡◌, ◌≢◌, ◌⊎◌, ℕ, ◌+◌, ◌<◌, ◌≤◌, List, ◌++◌, length, Result, Ok, Err, refl, sym, ap, subst, ◌∙◌, arith, inl, inr, true, false}
+use Rattle.std.proofs.Common.{◌≡◌, ◌≢◌, ℕ, ◌+◌, ◌<◌, ◌≤◌, List, ◌++◌, length, Result, Ok, Err, refl, sym, ap, subst, ◌∙◌, arith, inl, inr, false}
 use Rattle.vp_text.specs.Documents.{IsBadLine}
 use Rattle.vp_text.proofs.Determined.{Stops, bad_same, bad_not_faulty, faulty_same}
 use Rattle.vp_procedure.specs.declared.line.ProcedureLine.{ProcedureLine}
@@ -13,7 +13,7 @@ use Rattle.vp_procedure.specs.LineReading.{line_at}
 use Rattle.vp_procedure.specs.Document.{IsProcedureText, IsTooLong, IsBadPlace, Answered, IsOnly, IsTaken, NextLine, Finishes}
 use Rattle.vp_procedure.proofs.Steps.{said, Stands, readable, stands_few}
 use Rattle.vp_procedure.proofs.Answering.{Stopped, AreApart, lines_plain, closes_stop, overruns_stop, repeats_stop, overfills_stop, twice_many, overruns_twice, overruns_many, closes_twice, closes_many, closes_overruns, one_fault, two_faults, faulty}
-use Rattle.vp_procedure.proofs.Spelled.{IsClosed, text_closes, closed_spells}
+use Rattle.vp_procedure.proofs.Spelled.{text_closes, closed_spells}
 use Rattle.vp_text.proofs.Lists.{so_far_bad, so_far_exact}
 use Rattle.std.proofs.lemmas.List.{nil_from_length}
 

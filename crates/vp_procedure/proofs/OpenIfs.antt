@@ -1,5 +1,5 @@
 -- The `else` of the innermost `if`, which is the last one that was opened.
-use Rattle.std.proofs.Common.{◌≡◌, ◌∙◌, ◌-◌, List, [], ◌∷◌, ◌++◌, Bool, true, length, refl, sym, ap, ap₂, subst, arith}
+use Rattle.std.proofs.Common.{◌≡◌, ◌∙◌, ◌-◌, List, [], ◌∷◌, ◌++◌, Bool, true, length, refl, ap, ap₂, subst, arith}
 use Rattle.std.specs.Prelude.{ℕ, reverse, set}
 use Rattle.std.proofs.lemmas.List.{length-append, nil_from_length, reverse-append, reverse-reverse}
 use Rattle.std.proofs.Math.Seq.{set-append_seam}

@@ -1,13 +1,11 @@
 -- The lines up to `result` say only one procedure, and each procedure has lines that say it.
-use Rattle.std.proofs.Common.{◌≡◌, ℕ, ◌+◌, ◌≤◌, ◌<◌, List, [], ◌∷◌, ◌++◌, length, Bool, true, false, refl, sym, ap, subst, ◌∙◌, arith, append_assoc, inl, inr}
-use Rattle.std.specs.Prelude.{⊤, flat_map}
+use Rattle.std.proofs.Common.{◌≡◌, ℕ, ◌+◌, ◌<◌, List, [], ◌∷◌, ◌++◌, length, Bool, true, false, refl, sym, ap, subst, ◌∙◌, arith, append_assoc}
+use Rattle.std.specs.Prelude.{flat_map}
 use Rattle.std.proofs.lemmas.Bool.{false≢true}
 use Rattle.std.proofs.lemmas.List.{length-append, append-nil, flat_map_more}
 use Rattle.std.proofs.lemmas.List.Concat.{flat_map-cons}
-use Rattle.vp_text.specs.Documents.{IsFaultyLine}
 use Rattle.vp_model.specs.Catalogue.{Catalogue}
 use Rattle.vp_model.specs.Texts.Schedule.{catalogue_text}
-use Rattle.vp_catalog.specs.Document.{IsCatalogue}
 use Rattle.vp_heads.specs.Heads as heads
 use Rattle.vp_heads.specs.declared.head.Head.{Head}
 use Rattle.vp_heads.specs.declared.line.HeadLine.{HeadLine}
@@ -19,7 +17,7 @@ use Rattle.vp_procedure.specs.declared.draft.ProcedureInput.{ProcedureInput}
 use Rattle.vp_procedure.specs.declared.line.ProcedureLine.{ProcedureLine}
 use Rattle.vp_procedure.specs.declared.line.ProcedureLine.TheVariants as kind
 use Rattle.vp_procedure.specs.declared.procedure.Statement.{Statement}
-use Rattle.vp_procedure.specs.Procedures.{key, statement_line, IsStatement, IsInPlace, opened_by, is_result, AreStatements, IsProcedureOf, procedure_text}
+use Rattle.vp_procedure.specs.Procedures.{key, statement_line, IsStatement, IsInPlace, opened_by, is_result, AreStatements}
 use Rattle.vp_procedure.specs.Drafts.{LineText, blank, after, Onward, Closes, input_of}
 use Rattle.vp_procedure.specs.Document.{IsProcedureText}
 use Rattle.vp_procedure.proofs.Steps.{said, Lines, heads_of, head_said, head_text, catalogue_said}

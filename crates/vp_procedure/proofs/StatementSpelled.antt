@@ -3,7 +3,7 @@ use Rattle.std.proofs.Common.{◌≡◌, ℕ, zero, suc, true, false, List, [], 
 use Rattle.std.specs.Prelude.{codes, map, nat_lt, slice_index_or}
 use Rattle.std.proofs.lemmas.Bool.{false≢true, eqb-true, eq-eqb, lt-ltb, ltb-true}
 use Rattle.std.specs.Fmt.{decimal}
-use Rattle.vp_text.specs.Tokens.{IsLiteral, IsNumber}
+use Rattle.vp_text.specs.Tokens.{IsLiteral}
 use Rattle.vp_text.proofs.Exact.{Then, Made}
 use Rattle.vp_base.specs.Words.{IsPlace}
 use Rattle.vp_model.specs.Catalogue.{RecordEntry}

@@ -1,33 +1,25 @@
 -- Statements are read exactly.
-use Rattle.std.proofs.Common.{◌≡◌, ℕ, ◌^◌, ◌-◌, ◌≤◌, ◌<◌, Bool, true, false, cond, List, [], ◌∷◌, ◌++◌, length, Result, Ok, Err, refl, sym, ap, subst, ◌∙◌, arith, inl, inr, append_assoc}
-use Rattle.std.specs.Prelude.{codes, slice_index_or}
-use Rattle.std.specs.Fmt.{decimal}
+use Rattle.std.proofs.Common.{◌≡◌, ℕ, true, false, List, [], ◌∷◌, refl, arith}
+use Rattle.std.specs.Prelude.{slice_index_or}
 use Rattle.std.specs.List.{AllByRecursion}
-use Rattle.std.proofs.lemmas.List.{append-nil, length-append}
 use Rattle.std.proofs.lemmas.Bool.{false≢true}
-use Rattle.vp_text.specs.Meaning.{Begins}
 use Rattle.vp_text.specs.Tokens.{IsLiteral, IsNumber}
 use Rattle.vp_text.specs.Classes.{has}
 use Rattle.vp_text.specs.declared.class.Class.TheVariants as classes
 use Rattle.vp_text.specs.Reading.{is_digit}
-use Rattle.vp_text.proofs.Exact.{Exact, Then, Made, Follows, IsOne, one_value, made_exact, then_exact, exact_as}
+use Rattle.vp_text.proofs.Exact.{Exact, Then, Made, Follows, made_exact, then_exact}
 use Rattle.vp_text.proofs.Words.{literal_exact}
-use Rattle.vp_text.proofs.Fields.{Outside, IsOutside, literal_then, literal_outside, made_outside, number_then}
-use Rattle.vp_text.proofs.Choices.{GoesOn, follows_from, made_goes, then_goes}
+use Rattle.vp_text.proofs.Fields.{IsOutside, literal_then, literal_outside, made_outside, number_then}
+use Rattle.vp_text.proofs.Choices.{follows_from, made_goes}
 use Rattle.vp_base.specs.Words.{IsName, IsPlace}
 use Rattle.vp_base.specs.Reading.{starts_any}
 use Rattle.vp_base.proofs.Among.{among_exact, place_goes}
-use Rattle.vp_procedure.specs.declared.procedure.Expr.{Expr}
 use Rattle.vp_procedure.specs.declared.procedure.Statement.{Statement}
 use Rattle.vp_procedure.specs.declared.procedure.Statement.TheVariants as statement
-use Rattle.vp_procedure.specs.declared.keyword.Keyword.{Keyword}
 use Rattle.vp_procedure.specs.declared.keyword.Keyword.TheVariants as kw
-use Rattle.vp_procedure.specs.Procedures.{IsLetter, IsExpr, expr_text, statement_line}
-use Rattle.vp_procedure.specs.Keywords.{word, ends_of}
-use Rattle.vp_procedure.specs.StatementReading.{record_at, read_at, set_at, write_at, comparison, if_at, fail_at, result_at, fields_at}
-use Rattle.vp_procedure.proofs.KeywordWords.{Among, IsKeyword}
+use Rattle.vp_procedure.specs.StatementReading.{record_at, read_at, set_at, write_at, comparison, if_at, fail_at, result_at}
 use Rattle.vp_procedure.proofs.TermTexts.{LetterText, letter_exact, letter_goes}
-use Rattle.vp_procedure.proofs.ExprTexts.{Nothing, nothing_exact, ExprText, expr_exact, expr_ends}
+use Rattle.vp_procedure.proofs.ExprTexts.{ExprText, expr_exact, expr_ends}
 
 -- ---- the fields
 

@@ -1,5 +1,5 @@
 -- Lines of a procedure's input, one after the other.
-use Rattle.std.proofs.Common.{◌≡◌, ℕ, ◌+◌, ◌-◌, ◌≤◌, ◌<◌, List, [], ◌∷◌, ◌++◌, length, refl, sym, ap, subst, ◌∙◌, Ok, Err, true, false, arith}
+use Rattle.std.proofs.Common.{◌≡◌, ℕ, ◌+◌, ◌-◌, ◌≤◌, ◌<◌, List, [], ◌∷◌, ◌++◌, length, refl, sym, ap, subst, Ok, Err, true, arith}
 use Rattle.std.specs.Prelude.{codes, map}
 use Rattle.std.specs.List.{AllByRecursion}
 use Rattle.std.specs.Fmt.{decimal}
@@ -7,11 +7,10 @@ use Rattle.std.proofs.lemmas.Bool.Decides.{nat_tests}
 use Rattle.vp_text.specs.Classes.{has}
 use Rattle.vp_text.specs.declared.class.Class.TheVariants as classes
 use Rattle.vp_text.specs.Documents.{HasNoNewline, IsLine, reached, LinesText}
-use Rattle.vp_text.proofs.Exact.{Exact}
 use Rattle.vp_text.proofs.Items.{all_each}
 use Rattle.vp_text.proofs.Lists.{Readable, SoFar, so_far_exact, so_far_shorter, so_far_bad}
-use Rattle.vp_text.proofs.Newlines.{both, decimal_clean, clean, key_clean, key_line, last_line, line_push}
-use Rattle.vp_base.specs.Words.{IsName, IsPlace}
+use Rattle.vp_text.proofs.Newlines.{both, decimal_clean, key_clean, key_line, last_line, line_push}
+use Rattle.vp_base.specs.Words.{IsName}
 use Rattle.vp_base.specs.Reading.{starts_any}
 use Rattle.vp_base.proofs.Among.{place_is_name}
 use Rattle.vp_model.specs.Catalogue.{Catalogue, RecordEntry, sites_of}
@@ -19,7 +18,6 @@ use Rattle.vp_catalog.specs.Document.{IsCatalogueSoFar, IsCatalogue}
 use Rattle.vp_catalog.specs.Entries.{IsRecord}
 use Rattle.vp_catalog.proofs.Apart.{sites_few}
 use Rattle.vp_heads.specs.Heads as heads
-use Rattle.vp_heads.specs.HeadReading.{head_at}
 use Rattle.vp_heads.specs.declared.head.Head.{Head}
 use Rattle.vp_heads.specs.declared.line.HeadLine.{HeadLine}
 use Rattle.vp_heads.specs.declared.line.HeadLine.TheVariants as heads_kind

@@ -1,12 +1,12 @@
 -- Logs that are read one after the other.
-use Rattle.std.proofs.Common.{◌≡◌, ◌∙◌, ◌≤◌, ◌<◌, ◌+◌, ℕ, zero, suc, List, [], ◌∷◌, ◌++◌, length, get_or, take, drop, refl, sym, ap, subst, arith}
+use Rattle.std.proofs.Common.{◌≡◌, ◌∙◌, ◌≤◌, ◌<◌, ◌+◌, ℕ, List, [], ◌∷◌, ◌++◌, length, get_or, take, drop, refl, sym, ap, subst, arith}
 use Rattle.std.specs.Prelude.{Option, Some, None, Result, Ok, Err, IfOk, IfSome}
 use Rattle.std.proofs.lemmas.List.{take-append-drop, take_more, drop_more}
 use Rattle.vp_model.specs.Types.{LogRecord}
 use Rattle.vp_model.specs.Catalogue.{Catalogue}
 use Rattle.vp_model.specs.Durable.{DurableState}
 use Rattle.vp_outside.specs.Causes.{Rose}
-use Rattle.vp_outside.specs.Disk.{Halves, DiskState, Untouched, log_of}
+use Rattle.vp_outside.specs.Disk.{Halves, DiskState, log_of}
 use Rattle.vp_outside.specs.DiskCalls.{Attaches}
 use Rattle.vp_outside.specs.declared.sink.OutFault.{OutFault}
 use Rattle.vp_stable.specs.Halves.{HaveBatches, AreBadLog, Peeks}

@@ -15,7 +15,7 @@ use Rattle.vp_words.specs.Commands.{command_of}
 use Rattle.vp_words.specs.declared.words.Command.TheVariants as commands
 use Rattle.vp_top.specs.Complete.{Fits, IsAudited, IsGiven}
 use Rattle.vp_top.specs.Ends.{Ends, EndsAsAudit, EndsAsNode, EndsOnDisk, IsPrinted, PrintsAudit}
-use Rattle.vp_top.specs.Program.{IsCatalogueOf, has_all}
+use Rattle.vp_top.specs.Program.{has_all}
 use Rattle.vp_top.proofs.Answering.{answer_is, audit_bytes, no_gateway, printed, same_command}
 use Rattle.vp_top.proofs.Completing.{not_lacking, same_catalogue}
 

@@ -1,5 +1,5 @@
 -- What `proc` prints of a procedure, or of an input that is none.
-use Rattle.std.proofs.Common.{◌≡◌, ◌≢◌, ◌∙◌, ap, refl, sym, subst, ℕ, Bool, List, inl, inr, ◌⊎◌}
+use Rattle.std.proofs.Common.{◌≡◌, ◌≢◌, ◌∙◌, ap, refl, sym, subst, ℕ, Bool, List, inl, inr}
 use Rattle.std.specs.Prelude.{Option, Some, None, Result, Ok, Err, OnErr}
 use Rattle.vp_model.specs.Words.{value_at}
 use Rattle.vp_outside.specs.Links.{LinkState, Binds, StaysBound}
@@ -10,7 +10,7 @@ use Rattle.vp_gateway.specs.Served.{bound_at}
 use Rattle.vp_proc.specs.Ran.{Runs}
 use Rattle.vp_proc.specs.declared.ended.Ended.{Ended}
 use Rattle.vp_procedure.specs.declared.procedure.Procedure.{Procedure}
-use Rattle.vp_procedure.specs.Document.{Answered, IsOnly, IsProcedureText}
+use Rattle.vp_procedure.specs.Document.{IsProcedureText}
 use Rattle.vp_procedure.specs.declared.draft.ProcedureInput.{ProcedureInput}
 use Rattle.vp_procedure.specs.declared.fault.ProcedureFault.{ProcedureFault}
 use Rattle.vp_procedure.specs.declared.fault.ProcedureFault.TheVariants as texts

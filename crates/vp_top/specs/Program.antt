@@ -1,5 +1,5 @@
 -- What the program defines for its words, for the bytes that it takes from its source, and for the state of its link.
-use Rattle.std.specs.Prelude.{◌≡◌, ◌<◌, ◌≤◌, ◌⊎◌, ⊤, ℕ, Bool, true, false, List, [], is_some, length, codes, Some, None, Ok, Err}
+use Rattle.std.specs.Prelude.{◌≡◌, ◌<◌, ◌≤◌, ◌⊎◌, ⊤, ℕ, Bool, false, List, [], is_some, length, codes, Some, None, Ok, Err}
 use Rattle.std.specs.List.{list_all}
 use Rattle.vp_model.specs.Words.{value_at}
 use Rattle.vp_model.specs.Catalogue.{Catalogue}

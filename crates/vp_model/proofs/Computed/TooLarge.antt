@@ -1,5 +1,5 @@
 -- Fifteen values of 1,024 bytes are not too much; one byte more is, and a delete is not.
-use Rattle.std.proofs.Common.{◌≡◌, refl, ℕ, zero, suc, Bool, true, false, List, [], ◌∷◌, map}
+use Rattle.std.proofs.Common.{◌≡◌, refl, ℕ, zero, suc, true, false, List, [], ◌∷◌, map}
 use Rattle.std.specs.Prelude.{Some, None}
 use Rattle.vp_model.specs.Types.{Op, Live}
 use Rattle.vp_model.specs.Types.op

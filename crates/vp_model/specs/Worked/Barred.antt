@@ -1,5 +1,5 @@
 -- A site refuses a request by its bar, which ends the transaction; the end is told again under the next number.
-use Rattle.std.specs.Prelude.{ℕ, List, [], ◌∷◌, codes}
+use Rattle.std.specs.Prelude.{List, [], ◌∷◌, codes}
 use Rattle.vp_model.specs.Types.{Answer}
 use Rattle.vp_model.specs.Types.answer
 use Rattle.vp_model.specs.Types.call

@@ -1,10 +1,9 @@
 -- A worked schedule and its lines.
-use Rattle.std.specs.Prelude.{ℕ, Some, None, List, [], ◌∷◌, true, false, codes}
+use Rattle.std.specs.Prelude.{ℕ, Some, None, List, [], ◌∷◌, true, codes}
 use Rattle.vp_model.specs.Types.{Commit, Line}
 use Rattle.vp_model.specs.Types.message
 use Rattle.vp_model.specs.Types.answer
 use Rattle.vp_model.specs.Types.obstacle
-use Rattle.vp_model.specs.Types.owner
 use Rattle.vp_model.specs.Types.puts
 use Rattle.vp_model.specs.Types.op
 use Rattle.vp_model.specs.Types.call

@@ -1,5 +1,5 @@
 -- A site whose own copy has an older table than another member's: the newest one says that the record may not be used in the view.
-use Rattle.std.specs.Prelude.{ℕ, List, [], ◌∷◌, codes}
+use Rattle.std.specs.Prelude.{List, [], ◌∷◌, codes}
 use Rattle.vp_model.specs.Types.{Answer}
 use Rattle.vp_model.specs.Types.answer
 use Rattle.vp_model.specs.Types.call

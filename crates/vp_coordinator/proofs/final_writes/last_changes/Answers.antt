@@ -1,4 +1,4 @@
-use Rattle.std.proofs.Common.{◌≡◌, ◌∙◌, ◌+◌, ◌<◌, ◌≤◌, ℕ, List, Option, map, take, get_or, length, ap, refl, subst, arith}
+use Rattle.std.proofs.Common.{◌≡◌, ◌∙◌, ◌<◌, ◌≤◌, ℕ, List, Option, map, take, get_or, length, ap, refl, subst, arith}
 use Rattle.std.proofs.lemmas.List.{take_all}
 use Rattle.vp_model.specs.Types.{Change}
 use Rattle.vp_model.specs.Words.{for_each, put_at}

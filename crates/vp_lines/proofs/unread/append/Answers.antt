@@ -1,4 +1,4 @@
-use Rattle.std.proofs.Common.{◌≤◌, length, rules, arith}
+use Rattle.std.proofs.Common.{◌≤◌, length, arith}
 use Rattle.std.proofs.lemmas.Grind.{common_steps}
 use Rattle.vp_lines.proofs.Finding.{kept_more}
 use Rattle.vp_lines.proofs.unread.append.Goals as goal

@@ -1,5 +1,4 @@
 use Rattle.vp_model.proofs.Computed.Absent.{absent, absent-history}
-use Rattle.vp_model.proofs.Computed.TooLarge.{fits, one_more, again, deleted, table}
 use Rattle.vp_model.proofs.worked.absent.Goals as goal
 
 pub returns-clause-lines : goal.returns-clause-lines

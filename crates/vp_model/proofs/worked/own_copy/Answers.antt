@@ -1,4 +1,4 @@
-use Rattle.vp_model.proofs.Computed.OwnCopy.{own_copy, own_copy-refusals}
+use Rattle.vp_model.proofs.Computed.OwnCopy.{own_copy}
 use Rattle.vp_model.proofs.worked.own_copy.Goals as goal
 
 pub returns : goal.returns

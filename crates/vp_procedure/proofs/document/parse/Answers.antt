@@ -1,8 +1,6 @@
-use Rattle.std.proofs.Common.{◌≡◌, ◌∙◌, Ok, Err, ap, subst, sym, true, false, Bool}
+use Rattle.std.proofs.Common.{Ok, Err, subst, true, false, Bool}
 use Rattle.std.proofs.lemmas.Result.{err_from_is_err_and}
-use Rattle.std.specs.Prelude.{Result}
 use Rattle.vp_procedure.specs.Drafts.{Adds}
-use Rattle.vp_procedure.specs.declared.fault.ProcedureFault.{ProcedureFault}
 use Rattle.vp_procedure.proofs.Steps.{stands_room, stands_allowed, stands_shorter}
 use Rattle.vp_procedure.proofs.Answering.{stands_more}
 use Rattle.vp_procedure.proofs.Only.{only, taken, answered_next, answered_add, answered_finish, closed_few}

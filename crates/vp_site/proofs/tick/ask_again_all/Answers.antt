@@ -1,6 +1,5 @@
 use Rattle.std.proofs.Common.{◌∙◌, rules}
 use Rattle.vp_model.specs.Site.{Stepped}
-use Rattle.vp_model.specs.Step.{ask_again_all}
 use Rattle.vp_site.proofs.Asking.{asked_again}
 use Rattle.vp_site.proofs.tick.ask_again_all.Goals as goal
 

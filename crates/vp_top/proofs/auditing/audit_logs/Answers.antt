@@ -1,5 +1,4 @@
 use Rattle.std.proofs.Common.{refl}
-use Rattle.vp_audit.specs.Audited.{audit_of}
 use Rattle.vp_status.specs.declared.status.Status.TheVariants as status
 use Rattle.vp_top.proofs.AuditedLogs.{gives_so}
 use Rattle.vp_top.proofs.auditing.audit_logs.Goals as goal

@@ -1,6 +1,6 @@
-use Rattle.std.proofs.Common.{◌∙◌, sym, ap, arith}
+use Rattle.std.proofs.Common.{◌∙◌, arith}
 use Rattle.vp_stable.specs.Halves.{Peeks}
-use Rattle.vp_top.proofs.AuditedLogs.{always, keeps_attached, keeps_quiet, keeps_then, read_attached}
+use Rattle.vp_top.proofs.AuditedLogs.{keeps_attached, keeps_quiet, keeps_then, read_attached}
 use Rattle.vp_top.proofs.auditing.peek.Goals as goal
 
 pub returns-in-Ok-clause-read : goal.returns-in-Ok-clause-read

@@ -1,4 +1,4 @@
-use Rattle.std.proofs.Common.{◌≤◌, Err, ap, arith}
+use Rattle.std.proofs.Common.{Err, ap, arith}
 use Rattle.std.proofs.lemmas.Result.{err_from_is_err_and}
 use Rattle.vp_stable.specs.declared.fault.LogFault.{LogFault}
 use Rattle.vp_top.proofs.AuditedLogs.{goes_on, keeps_none, keeps_then, stops}

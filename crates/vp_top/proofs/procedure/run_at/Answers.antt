@@ -1,7 +1,7 @@
 use Rattle.std.proofs.Common.{inl}
 use Rattle.std.proofs.lemmas.Result.{IfOk-weaker}
 use Rattle.vp_status.specs.declared.status.RunOutput.{RunOutput}
-use Rattle.vp_top.specs.Procedures.{HasRun, ProcedureGives, ProcedureLeaves, TellsRun}
+use Rattle.vp_top.specs.Procedures.{ProcedureGives, TellsRun}
 use Rattle.vp_top.proofs.Procedures.{has_run, left_so}
 use Rattle.vp_top.proofs.procedure.run_at.Goals as goal
 

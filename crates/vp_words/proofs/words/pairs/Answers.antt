@@ -1,5 +1,5 @@
 use Rattle.std.proofs.Common.{◌<◌, ◌∙◌, sym, arith}
-use Rattle.vp_words.proofs.Pairs.{loop_cut, loop_done, no_site, site_too_low, starts, with_log, with_site}
+use Rattle.vp_words.proofs.Pairs.{starts, with_log, with_site}
 use Rattle.vp_words.proofs.words.pairs.Goals.{in-Some+in_ok-word_of+in_ok-push, in_default+in-Some-site+else-get-last}
 use Rattle.vp_words.proofs.words.pairs.Goals as goal
 

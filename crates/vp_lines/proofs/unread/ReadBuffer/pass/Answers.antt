@@ -1,4 +1,4 @@
-use Rattle.std.proofs.Common.{◌≡◌, ◌∙◌, ◌-◌, ◌==◌, ◌++◌, ℕ, List, [], position, take, drop, ap, subst, refl, arith, sym}
+use Rattle.std.proofs.Common.{◌≡◌, ◌∙◌, ◌-◌, ◌==◌, ◌++◌, ℕ, List, position, take, drop, ap, subst, refl, arith, sym}
 use Rattle.std.specs.Prelude.{Some, None}
 use Rattle.vp_text.specs.Documents.{HasNoNewline}
 use Rattle.vp_lines.specs.Ahead.{Ahead}

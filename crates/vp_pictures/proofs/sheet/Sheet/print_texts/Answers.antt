@@ -1,4 +1,4 @@
-use Rattle.std.proofs.Common.{◌≡◌, ◌++◌, ◌∙◌, ap, append_assoc, codes, ℕ, List}
+use Rattle.std.proofs.Common.{◌++◌, ◌∙◌, ap, append_assoc, codes, ℕ, List}
 use Rattle.std.specs.List.{flat_map}
 use Rattle.vp_pictures.specs.Shapes.{shape_text}
 use Rattle.vp_pictures.specs.Pictures.{edges}
