@@ -26,7 +26,7 @@ use Rattle.vp_drawing.specs.Watching.{MayWatch, Watched, Watches, watch_step}
 use Rattle.vp_drawing.specs.declared.drawing.Drawing.{Drawing}
 use Rattle.vp_drawing.specs.declared.end.DrawingEnd.{DrawingEnd}
 use Rattle.vp_drawing.specs.declared.end.DrawingEnd.TheVariants as end
-use Rattle.vp_drawing.proofs.Running.{next_counts}
+use Rattle.vp_model.proofs.CountedSteps.{next_counts}
 use Rattle.vp_drawing.proofs.Watching.{Awaits}
 
 -- whoever watches the same catalogue may be asked for anything

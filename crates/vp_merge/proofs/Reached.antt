@@ -1,15 +1,13 @@
 -- One more event, and what is shown of it.
-use Rattle.std.proofs.Common.{◌≡◌, ◌∙◌, ap, sym, subst, Bool, true, false, cond, ℕ, ◌+◌, ◌-◌, ◌^◌, ◌≤◌, List, [], ◌∷◌, ◌++◌, Some, None, length, refl, arith, length-append}
-use Rattle.std.specs.Prelude.{Option, ◌==◌, is_some, nat_lt}
+use Rattle.std.proofs.Common.{◌≡◌, ◌∙◌, ap, sym, subst, Bool, true, false, cond, ℕ, ◌+◌, ◌-◌, ◌≤◌, List, [], ◌∷◌, ◌++◌, Some, None, length, refl, arith, length-append}
+use Rattle.std.specs.Prelude.{Option, ◌==◌, nat_lt}
 use Rattle.std.specs.List.{AllByRecursion}
-use Rattle.std.specs.Option.{option_map_or}
 use Rattle.std.proofs.lemmas.Bool.{false≢true}
 use Rattle.std.proofs.lemmas.Bool.Decides.{nat_tests}
 use Rattle.vp_text.proofs.Items.{all_each}
 use Rattle.vp_model.specs.Types.{Event, Input, Sent, Reply, Shown}
 use Rattle.vp_model.specs.Types.event
 use Rattle.vp_model.specs.Types.counted
-use Rattle.vp_model.specs.Types.input
 use Rattle.vp_model.specs.Types.shown
 use Rattle.vp_model.specs.Words.{has}
 use Rattle.vp_model.specs.Catalogue.{Catalogue, sites_of}
@@ -17,8 +15,9 @@ use Rattle.vp_model.specs.Limits.{world_limits, refused}
 use Rattle.vp_model.specs.Site.{SiteState}
 use Rattle.vp_model.specs.Step.{step}
 use Rattle.vp_model.specs.Told.{is_step}
-use Rattle.vp_model.specs.World.{Place, WorldState, Moved, Run, shows, site_of, place_of, message_at, is_cut, site_step, at_site, deliver, crash, restart, restart_from, happens, next, start_world, start_run, one_step, one_event, run_from, run_of}
+use Rattle.vp_model.specs.World.{Place, WorldState, Moved, Run, site_of, place_of, message_at, site_step, next, start_world, start_run, one_step, one_event, run_from, run_of}
 use Rattle.vp_model.proofs.RunGrows.{run_from-more}
+use Rattle.vp_model.proofs.CountedSteps.{next_counts}
 use Rattle.vp_catalog.specs.Document.{IsCatalogue}
 use Rattle.vp_wire.specs.Grammar.{IsFrame}
 use Rattle.vp_laws.specs.Shapes.{IsInput, IsShaped, IsSent, IsReply}
@@ -35,45 +34,6 @@ use Rattle.vp_fitting.specs.Fitting.{IsSingle, frames_in}
 use Rattle.vp_fitting.specs.Laws.{over}
 use Rattle.vp_merge.specs.Played.{IsPut, IsReached}
 use Rattle.vp_merge.specs.Telling.{AreFrames}
-
--- ---- steps are counted
-
-option_steps : {A : Type 0} (f : A → Moved) (o : Option A) (d : Moved) (n : ℕ) → ((a : A) → (f a).world.steps ≡ n) → d.world.steps ≡ n → (option_map_or f o d).world.steps ≡ n
-option_steps f None d n h e = e
-option_steps f (Some a) d n h e = h a
-
-cond_steps : (b : Bool) (m k : Moved) (n : ℕ) → m.world.steps ≡ n → k.world.steps ≡ n → (cond b m k).world.steps ≡ n
-cond_steps true m k n h e = h
-cond_steps false m k n h e = e
-
-module _ (catalogue : Catalogue) (w : WorldState) where
-  at_site_steps : (id : ℕ) (given : Input) → (at_site catalogue id given w).world.steps ≡ w.steps
-  unfolding at_site site_step
-  at_site_steps id given = option_steps (λ site. site_step catalogue id site given w) (site_of w id) (shows w (shown.Down id)) w.steps (λ site. refl) refl
-
-  deliver_steps : (k : ℕ) (sent : Sent) → (deliver catalogue k sent w).world.steps ≡ w.steps
-  unfolding deliver site_step
-  deliver_steps k sent = option_steps _ (site_of w sent.to) (shows w (shown.Down sent.to)) w.steps (λ site. cond_steps (is_cut w sent.from sent.to) _ _ w.steps refl refl) refl
-
-  crash_steps : (id : ℕ) → (crash id w).world.steps ≡ w.steps
-  unfolding crash
-  crash_steps id = option_steps _ (site_of w id) (shows w (shown.Down id)) w.steps (λ site. refl) refl
-
-  restart_steps : (id : ℕ) → (restart catalogue id w).world.steps ≡ w.steps
-  unfolding restart
-  restart_steps id = option_steps (λ place. restart_from catalogue place w) (place_of id w.places) (shows w shown.Nothing) w.steps (λ place. cond_steps (is_some place.up) _ _ w.steps refl (cond_steps (place.durable.life == 2 ^ 32 - 1) _ _ w.steps refl refl)) refl
-
-  happens_steps : (e : Event) → (happens catalogue e w).world.steps ≡ w.steps
-  unfolding happens
-  happens_steps (event.Call site words) = at_site_steps site (input.Call 0 words)
-  happens_steps (event.Deliver k) = option_steps (λ sent. deliver catalogue k sent w) (message_at w k) (shows w shown.NoMessage) w.steps (λ sent. deliver_steps k sent) refl
-  happens_steps (event.Flow count) = refl
-  happens_steps (event.Tick site) = at_site_steps site input.Tick
-  happens_steps (event.Probe site) = at_site_steps site input.Probe
-  happens_steps (event.Cut a b) = refl
-  happens_steps (event.Heal a b) = refl
-  happens_steps (event.Crash site) = crash_steps site
-  happens_steps (event.Restart site) = restart_steps site
 
 -- ---- the world after one more event
 
@@ -108,7 +68,7 @@ module _ (catalogue : Catalogue) (w : WorldState) (events : List Event) (e : Eve
   pub reached_more : refused world_limits catalogue e w ≡ None → IsReached catalogue (next catalogue e w).world (events ++ e ∷ [])
   reached_more free =
       let count = length-append events (e ∷ []) in
-      let steps : (next catalogue e w).world.steps ≡ w.steps + 1 = happens_steps catalogue (record w { steps = w.steps + 1 }) e in
+      let steps : (next catalogue e w).world.steps ≡ w.steps + 1 = next_counts catalogue e w in
       let room = within (next catalogue e w).world.steps (length (next catalogue e w).world.sent) free in
       let was = h.counted in
       record {

@@ -6,6 +6,7 @@ use Rattle.vp_text.specs.Reading.{is_digit}
 use Rattle.vp_text.proofs.Exact.{Exact, Then, Made, Follows, one_value, made_exact, then_exact, exact_as, ok_value, at_err, Apart}
 use Rattle.vp_text.proofs.Fields.{Outside, IsOutside}
 use Rattle.vp_text.proofs.Choices.{GoesOn, follows_from, then_goes}
+use Rattle.vp_text.proofs.WordChoices.{Among, IsWordOf, all_apart, among_end, among_exact}
 use Rattle.vp_procedure.specs.declared.procedure.Term.{Term}
 use Rattle.vp_procedure.specs.declared.procedure.Expr.{Expr}
 use Rattle.vp_procedure.specs.declared.procedure.Expr.TheVariants as expr
@@ -14,8 +15,11 @@ use Rattle.vp_procedure.specs.declared.keyword.Keyword.TheVariants as kw
 use Rattle.vp_procedure.specs.Procedures.{IsTerm, IsExpr, term_text, expr_text}
 use Rattle.vp_procedure.specs.Keywords.{word, ends_of, signs_of, keyword_at}
 use Rattle.vp_procedure.specs.ExprReading.{sum_at, difference_at, after_term_at, expr_at}
-use Rattle.vp_procedure.proofs.KeywordWords.{Among, IsKeyword, all_apart, keywords_end, keywords_exact}
 use Rattle.vp_procedure.proofs.TermTexts.{TermText, term_exact, term_goes}
+
+-- the word of one of the keywords
+abbrev pub IsKeyword : List Keyword → Keyword → List ℕ → Type 0
+IsKeyword = IsWordOf word
 
 -- ---- nothing is read
 
@@ -42,14 +46,14 @@ nothing_exact {A = A} x = record {
 -- ---- the words
 
 ends_exact : (compared : Bool) → Exact (IsKeyword (ends_of compared)) (keyword_at (ends_of compared))
-ends_exact true = keywords_exact kw.Less (kw.Equal ∷ []) refl
-ends_exact false = keywords_exact kw.Newline [] refl
+ends_exact true = among_exact word kw.Less (kw.Equal ∷ []) refl
+ends_exact false = among_exact word kw.Newline [] refl
 
 signs_exact : (compared : Bool) → Exact (IsKeyword (signs_of compared)) (keyword_at (signs_of compared))
-signs_exact true = keywords_exact kw.Plus (kw.Minus ∷ kw.Less ∷ kw.Equal ∷ []) refl
-signs_exact false = keywords_exact kw.Plus (kw.Minus ∷ kw.Newline ∷ []) refl
+signs_exact true = among_exact word kw.Plus (kw.Minus ∷ kw.Less ∷ kw.Equal ∷ []) refl
+signs_exact false = among_exact word kw.Plus (kw.Minus ∷ kw.Newline ∷ []) refl
 
-signs_apart : (compared : Bool) → all_apart (signs_of compared) ≡ true
+signs_apart : (compared : Bool) → all_apart word (signs_of compared) ≡ true
 signs_apart true = refl
 signs_apart false = refl
 
@@ -125,7 +129,7 @@ parts_exact : (compared : Bool) → Exact (PartsText compared) (expr_at compared
 unfolding expr_at
 parts_exact compared =
     then_exact (follows_from is_digit term_goes (λ a. signs_outside compared (AfterText a compared))) term_exact
-    (λ a. then_exact (λ k k2 text x r b t before longer after. absurd (keywords_end (signs_of compared) (signs_apart compared) k k2 text x r before longer)) (signs_exact compared) (after_exact a compared))
+    (λ a. then_exact (λ k k2 text x r b t before longer after. absurd (among_end word (signs_of compared) (signs_apart compared) k k2 text x r before longer)) (signs_exact compared) (after_exact a compared))
 
 -- ---- the parts are the text of the expression, and the word
 
@@ -246,9 +250,9 @@ nothing_ends : {A : Type 0} (x : A) → GoesOn (λ c. false) (Nothing x)
 nothing_ends x a b text y r before longer = absurd (omega (arith, ap length longer.1, length-append text (y ∷ r)))
 
 word_ends : {B : Type 0} (compared : Bool) (make : Keyword → B) → GoesOn (λ c. false) (Made (IsKeyword (ends_of compared)) make)
-word_ends compared make a b text x r before longer = absurd (keywords_end (ends_of compared) (ends_apart compared) before.from longer.from text x r before.spelled longer.spelled)
+word_ends compared make a b text x r before longer = absurd (among_end word (ends_of compared) (ends_apart compared) before.from longer.from text x r before.spelled longer.spelled)
   where
-    ends_apart : (compared : Bool) → all_apart (ends_of compared) ≡ true
+    ends_apart : (compared : Bool) → all_apart word (ends_of compared) ≡ true
     ends_apart true = refl
     ends_apart false = refl
 
@@ -271,7 +275,7 @@ after_ends a compared kw.Equal = nothing_ends (expr.Just a, kw.Equal)
 after_ends a compared kw.Newline = nothing_ends (expr.Just a, kw.Newline)
 
 sign_follows : (a : Term) (compared : Bool) → Follows (IsKeyword (signs_of compared)) (AfterText a compared)
-sign_follows a compared = λ k k2 text x r b t before longer after. absurd (keywords_end (signs_of compared) (signs_apart compared) k k2 text x r before longer)
+sign_follows a compared = λ k k2 text x r b t before longer after. absurd (among_end word (signs_of compared) (signs_apart compared) k k2 text x r before longer)
 
 parts_end : (compared : Bool) → GoesOn (λ c. false) (PartsText compared)
 parts_end compared =

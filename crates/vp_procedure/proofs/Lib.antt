@@ -1,6 +1,5 @@
 pub mod FirstWords
 pub mod OpenIfs
-pub mod KeywordWords
 pub mod TermTexts
 pub mod ExprTexts
 pub mod StatementTexts

@@ -5,6 +5,7 @@ use Rattle.std.proofs.lemmas.Bool.{false≢true, and_from, and_parts}
 use Rattle.vp_text.specs.Meaning.{Begins}
 use Rattle.vp_text.specs.Reading.{◌>>=◌}
 use Rattle.vp_text.proofs.Exact.{Exact, inhabited, right, exact_from, exact_as, Then, Made, made_exact, then_right, one_value, Follows}
+use Rattle.vp_text.proofs.WordChoices.{Among, apart_from, all_apart, among_end, among_exact}
 use Rattle.vp_base.specs.Words.{IsName}
 use Rattle.vp_base.specs.Reading.{starts_any}
 use Rattle.vp_heads.specs.Heads as heads
@@ -23,30 +24,29 @@ use Rattle.vp_procedure.specs.Keywords.{word, keyword_at}
 use Rattle.vp_procedure.specs.StatementReading.{fields_at}
 use Rattle.vp_procedure.specs.Drafts.{LineText}
 use Rattle.vp_procedure.specs.LineReading.{may_begin, all_first_words, first_words, statement_line_at, head_line_at, line_at}
-use Rattle.vp_procedure.proofs.KeywordWords.{Among, IsKeyword, apart_from, all_apart, keywords_end, keywords_exact}
-use Rattle.vp_procedure.proofs.ExprTexts.{nothing_exact}
+use Rattle.vp_procedure.proofs.ExprTexts.{IsKeyword, nothing_exact}
 use Rattle.vp_procedure.proofs.StatementTexts.{read_exact, write_exact, set_exact, if_exact, fail_exact, result_exact}
 use Rattle.vp_procedure.proofs.StatementSpelled.{Fields, keyword_of, fields_to, fields_from, in_place, may_be}
 
 -- ---- the first words
 
 -- those that may come are apart too
-one_kept : (p : Keyword → Bool) (w : List ℕ) (k : Keyword) (ks : List Keyword) (b : Bool) → apart_from w (k ∷ ks) ≡ true → apart_from w (filter p ks) ≡ true → apart_from w (cond b (k ∷ filter p ks) (filter p ks)) ≡ true
-one_kept p w k ks true e more = and_from _ _ (and_parts _ (apart_from w ks) e).0 more
+one_kept : (p : Keyword → Bool) (w : List ℕ) (k : Keyword) (ks : List Keyword) (b : Bool) → apart_from word w (k ∷ ks) ≡ true → apart_from word w (filter p ks) ≡ true → apart_from word w (cond b (k ∷ filter p ks) (filter p ks)) ≡ true
+one_kept p w k ks true e more = and_from _ _ (and_parts _ (apart_from word w ks) e).0 more
 one_kept p w k ks false e more = more
 
-kept_apart : (p : Keyword → Bool) (w : List ℕ) (ks : List Keyword) → apart_from w ks ≡ true → apart_from w (filter p ks) ≡ true
+kept_apart : (p : Keyword → Bool) (w : List ℕ) (ks : List Keyword) → apart_from word w ks ≡ true → apart_from word w (filter p ks) ≡ true
 kept_apart p w [] e = refl
-kept_apart p w (k ∷ ks) e = one_kept p w k ks (p k) e (kept_apart p w ks (and_parts _ (apart_from w ks) e).1)
+kept_apart p w (k ∷ ks) e = one_kept p w k ks (p k) e (kept_apart p w ks (and_parts _ (apart_from word w ks) e).1)
 
-kept_one : (p : Keyword → Bool) (k : Keyword) (ks : List Keyword) (b : Bool) → apart_from (word k) (filter p ks) ≡ true → all_apart (filter p ks) ≡ true → all_apart (cond b (k ∷ filter p ks) (filter p ks)) ≡ true
+kept_one : (p : Keyword → Bool) (k : Keyword) (ks : List Keyword) (b : Bool) → apart_from word (word k) (filter p ks) ≡ true → all_apart word (filter p ks) ≡ true → all_apart word (cond b (k ∷ filter p ks) (filter p ks)) ≡ true
 kept_one p k ks true first more = and_from _ _ first more
 kept_one p k ks false first more = more
 
-kept_all : (p : Keyword → Bool) (ks : List Keyword) → all_apart ks ≡ true → all_apart (filter p ks) ≡ true
+kept_all : (p : Keyword → Bool) (ks : List Keyword) → all_apart word ks ≡ true → all_apart word (filter p ks) ≡ true
 kept_all p [] e = refl
 kept_all p (k ∷ ks) e =
-    let parts = and_parts _ (all_apart ks) e in
+    let parts = and_parts _ (all_apart word ks) e in
     kept_one p k ks (p k) (kept_apart p (word k) ks parts.0) (kept_all p ks parts.1)
 
 to_one : (p : Keyword → Bool) (x k : Keyword) (ks : List Keyword) (b : Bool) → p x ≡ b → (Among (filter p ks) k → p k ≡ true) → Among (cond b (x ∷ filter p ks) (filter p ks)) k → p k ≡ true
@@ -79,9 +79,9 @@ first_among statement.End = inr (inr (inr (inr (inr (inl refl)))))
 first_among (statement.Fail code) = inr (inr (inr (inr (inr (inr (inl refl))))))
 first_among (statement.Give e) = inr (inr (inr (inr (inr (inr (inr (inl refl)))))))
 
-some_exact : (ks : List Keyword) (k : Keyword) → Among ks k → all_apart ks ≡ true → Exact (IsKeyword ks) (keyword_at ks)
+some_exact : (ks : List Keyword) (k : Keyword) → Among ks k → all_apart word ks ≡ true → Exact (IsKeyword ks) (keyword_at ks)
 some_exact [] k h e = absurd h
-some_exact (x ∷ ks) k h e = keywords_exact x ks e
+some_exact (x ∷ ks) k h e = among_exact word x ks e
 
 -- ---- a statement's line
 
@@ -128,7 +128,7 @@ module _ (d : ProcedureDraft) (named : AreNames d) where
   Stated k = Made (Said k) (λ s. kind.Statement s)
 
   stated_follows : Follows (IsKeyword (first_words d)) Stated
-  stated_follows = λ k k2 text x r b t before longer after. absurd (keywords_end (first_words d) (kept_all (may_begin d) all_first_words refl) k k2 text x r before longer)
+  stated_follows = λ k k2 text x r b t before longer after. absurd (among_end word (first_words d) (kept_all (may_begin d) all_first_words refl) k k2 text x r before longer)
 
   stated_has : (k : Keyword) → Begins (Stated k) []
   stated_has k =

@@ -5,6 +5,7 @@ use Rattle.std.proofs.lemmas.Bool.{false≢true, eqb-true, eq-eqb, lt-ltb, ltb-t
 use Rattle.std.specs.Fmt.{decimal}
 use Rattle.vp_text.specs.Tokens.{IsLiteral}
 use Rattle.vp_text.proofs.Exact.{Then, Made}
+use Rattle.vp_text.proofs.WordChoices.{Among}
 use Rattle.vp_base.specs.Words.{IsPlace}
 use Rattle.vp_model.specs.Catalogue.{RecordEntry}
 use Rattle.vp_procedure.specs.declared.draft.ProcedureDraft.{ProcedureDraft}
@@ -17,7 +18,6 @@ use Rattle.vp_procedure.specs.Procedures.{IsExpr, IsInPlace, IsStatement, expr_t
 use Rattle.vp_procedure.specs.LineReading.{may_begin}
 use Rattle.vp_procedure.specs.Keywords.{word, ends_of}
 use Rattle.vp_procedure.specs.StatementReading.{comparison}
-use Rattle.vp_procedure.proofs.KeywordWords.{Among}
 use Rattle.vp_procedure.proofs.ExprTexts.{ExprText, Nothing}
 use Rattle.vp_procedure.proofs.StatementTexts.{RecordText, ReadText, WriteText, SetText, IfText, FailText, ResultText}
 

@@ -1,6 +1,6 @@
 -- The fixed words of statements.
-use Rattle.std.specs.Prelude.{ℕ, Bool, true, false, List, [], ◌∷◌, length, codes, Result, Ok, Err}
-use Rattle.vp_text.specs.Reading.{◌>>=◌, literal_at, either}
+use Rattle.std.specs.Prelude.{ℕ, Bool, true, false, List, [], ◌∷◌, codes, Result}
+use Rattle.vp_text.specs.Reading.{word_among}
 use Rattle.vp_procedure.specs.declared.keyword.Keyword.{Keyword}
 use Rattle.vp_procedure.specs.declared.keyword.Keyword.TheVariants as kw
 
@@ -32,5 +32,4 @@ signs_of compared = kw.Plus ∷ kw.Minus ∷ ends_of compared
 
 -- the word of one of the keywords
 abbrev pub keyword_at : List Keyword → List ℕ → Result (Keyword × List ℕ) ℕ
-keyword_at [] bytes = Err (length bytes)
-keyword_at (keyword ∷ keywords) bytes = either (literal_at (word keyword) bytes >>= λ u. Ok (keyword, u.1)) (keyword_at keywords bytes)
+keyword_at = word_among word

@@ -10,6 +10,7 @@ use Rattle.vp_text.proofs.Exact.{Exact, inhabited, right, exact_from, exact_as, 
 use Rattle.vp_text.proofs.Numbers.{number_exact}
 use Rattle.vp_text.proofs.Fields.{literal_then, literal_outside}
 use Rattle.vp_text.proofs.Choices.{follows_from}
+use Rattle.vp_text.proofs.WordChoices.{Among, IsWordOf, all_apart, among_end, among_exact}
 use Rattle.vp_model.specs.Types.{Event}
 use Rattle.vp_model.specs.Types.event
 use Rattle.vp_model.specs.Texts.Calls.{event_text, call_text}
@@ -22,8 +23,11 @@ use Rattle.vp_schedule.specs.Kinds.{word, single_kinds, all_kinds, kinds_over, k
 use Rattle.vp_schedule.specs.Events.{IsListed, IsPair, IsEvent, IsEventText}
 use Rattle.vp_schedule.specs.EventReading.{other_sites, pair_at, called_at, fields_at, event_at}
 use Rattle.vp_schedule.proofs.Exact.{call_exact}
-use Rattle.vp_schedule.proofs.KindWords.{Among, IsKind, all_apart, kinds_end, kinds_exact}
 use Rattle.vp_schedule.proofs.OtherSites.{others_all, other_listed, listed_other}
+
+-- the word of one of the kinds
+abbrev IsKind : List EventKind → EventKind → List ℕ → Type 0
+IsKind = IsWordOf word
 
 -- ---- what follows the words
 
@@ -138,18 +142,18 @@ all_single (k ∷ kinds) all kind among = elim among [
 single_only : (kind : EventKind) → Among single_kinds kind → names_pair kind ≡ false
 single_only = all_single single_kinds (refl, (refl, (refl, (refl, (refl, (refl, (refl, tt)))))))
 
-words_end : (M : EventKind → Event → List ℕ → Type 0) (kinds : List EventKind) → all_apart kinds ≡ true → Follows (IsKind kinds) M
-words_end M kinds apart = λ a a2 text x r b t before longer after. absurd (kinds_end kinds apart a a2 text x r before longer)
+words_end : (M : EventKind → Event → List ℕ → Type 0) (kinds : List EventKind) → all_apart word kinds ≡ true → Follows (IsKind kinds) M
+words_end M kinds apart = λ a a2 text x r b t before longer after. absurd (among_end word kinds apart a a2 text x r before longer)
 
 abbrev read_by : List ℕ → List EventKind → List ℕ → Result (Event × List ℕ) ℕ
 read_by sites kinds bytes = kind_at kinds bytes >>= λ x. fields_at sites x.0 x.1
 
 all_parts_exact : (sites : List ℕ) → IsSites sites → 2 ≤ length sites → Exact (Then (IsKind all_kinds) (Fields sites)) (read_by sites all_kinds)
-all_parts_exact sites h two = then_exact (words_end (Fields sites) all_kinds refl) (kinds_exact Call (Deliver ∷ Flow ∷ Tick ∷ Probe ∷ Crash ∷ Restart ∷ Cut ∷ Heal ∷ []) refl) (fields_exact sites h two)
+all_parts_exact sites h two = then_exact (words_end (Fields sites) all_kinds refl) (among_exact word Call (Deliver ∷ Flow ∷ Tick ∷ Probe ∷ Crash ∷ Restart ∷ Cut ∷ Heal ∷ []) refl) (fields_exact sites h two)
 
 single_parts_exact : (sites : List ℕ) → IsSites sites → Exact (Then (IsKind single_kinds) (Single sites)) (read_by sites single_kinds)
 single_parts_exact sites h =
-    let words : Exact (IsKind single_kinds) (kind_at single_kinds) = kinds_exact Call (Deliver ∷ Flow ∷ Tick ∷ Probe ∷ Crash ∷ Restart ∷ []) refl in
+    let words : Exact (IsKind single_kinds) (kind_at single_kinds) = among_exact word Call (Deliver ∷ Flow ∷ Tick ∷ Probe ∷ Crash ∷ Restart ∷ []) refl in
     exact_from (λ bytes. then_right (one_value words) (words_end (Single sites) single_kinds refl) (λ kind. single_has sites h kind (names_pair kind) refl) (right words bytes)
     (λ kind rest e. right (single_exact sites h kind (single_only kind (words.ok bytes kind rest e).spelled.among)) rest))
 

@@ -1,7 +1,6 @@
 mod Tails
 pub mod Tables
 pub mod Exact
-mod KindWords
 mod OtherSites
 mod EventTexts
 mod Newlines

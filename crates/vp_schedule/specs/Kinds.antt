@@ -1,6 +1,6 @@
 -- The first words of event lines.
-use Rattle.std.specs.Prelude.{ℕ, List, [], ◌∷◌, length, codes, nat_lt, if◌then◌else◌, Result, Ok, Err}
-use Rattle.vp_text.specs.Reading.{◌>>=◌, literal_at, either}
+use Rattle.std.specs.Prelude.{ℕ, List, [], ◌∷◌, length, codes, nat_lt, if◌then◌else◌, Result}
+use Rattle.vp_text.specs.Reading.{word_among}
 use Rattle.vp_schedule.specs.declared.kind.EventKind.{EventKind}
 use Rattle.vp_schedule.specs.declared.kind.EventKind.TheVariants.{Call, Deliver, Flow, Tick, Probe, Crash, Restart, Cut, Heal}
 
@@ -30,5 +30,4 @@ kinds_over sites = if nat_lt (length sites) 2 then single_kinds else all_kinds
 
 -- the word of one of the kinds
 abbrev pub kind_at : List EventKind → List ℕ → Result (EventKind × List ℕ) ℕ
-kind_at [] bytes = Err (length bytes)
-kind_at (kind ∷ kinds) bytes = either (literal_at (word kind) bytes >>= λ u. Ok (kind, u.1)) (kind_at kinds bytes)
+kind_at = word_among word
