@@ -56,12 +56,13 @@ pub fn put_name<B: BufMut>(out: &mut B, name: &Name) -> Result<(), NoMemory>
 }
 
 /// Appends a view: its number in 8 bytes and its site in one.
-#[tactic(auto, using(vp_text::proofs::Printing::printing), unfolding(crate::specs::Fields::view_bytes))]
+#[tactic(auto, using(vp_text::proofs::Printing::printing), unfolding(crate::specs::Fields::view_bytes, crate::specs::Fields::number_bytes))]
 pub fn put_view<B: BufMut>(out: &mut B, view: &ViewId) -> Result<(), NoMemory>
     ensures { Appends result (B.written out.old) (view_bytes view.now) (B.written out.new) }
 {
-    put_u64(out, view.number)?;
-    put_byte(out, view.site)
+    let [a, b, c, d, e, f, g, h] = view.number.to_be_bytes();
+    out.put_slice(&[a, b, c, d, e, f, g, h, view.site])?;
+    Ok(())
 }
 
 /// Appends 1 and a view, or 0 for none.
@@ -79,13 +80,14 @@ pub fn put_maybe_view<B: BufMut>(out: &mut B, view: &Option<ViewId>) -> Result<(
 }
 
 /// Appends a transaction: its site in a byte, and its life and its place in 4 bytes each.
-#[tactic(auto, using(vp_text::proofs::Printing::printing), unfolding(crate::specs::Fields::txn_bytes))]
+#[tactic(auto, using(vp_text::proofs::Printing::printing), unfolding(crate::specs::Fields::txn_bytes, crate::specs::Fields::number_bytes))]
 pub fn put_txn<B: BufMut>(out: &mut B, txn: &TxnId) -> Result<(), NoMemory>
     ensures { Appends result (B.written out.old) (txn_bytes txn.now) (B.written out.new) }
 {
-    put_byte(out, txn.site.get())?;
-    put_u32(out, txn.life)?;
-    put_u32(out, txn.seq)
+    let [a, b, c, d] = txn.life.to_be_bytes();
+    let [e, f, g, h] = txn.seq.to_be_bytes();
+    out.put_slice(&[txn.site.get(), a, b, c, d, e, f, g, h])?;
+    Ok(())
 }
 
 /// Appends 1 and a transaction, or 0 for a refresh.

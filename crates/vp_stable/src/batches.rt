@@ -19,6 +19,9 @@ use vp_records::{BatchFault, Durable, decode_batch, encode_batch};
 /// How many bytes the length of a batch takes.
 const LENGTH_BYTES: usize = 8;
 
+/// Bytes that hold most batches, with their length and the gate after them; a longer one grows.
+const ROOM: usize = 128;
+
 /// The byte of an open gate. Every other byte is a closed one.
 pub const OPEN: u8 = 1;
 
@@ -28,7 +31,8 @@ pub fn after_gate(alloc: Global, batch: &Batch) -> Result<Vec<u8>, NoMemory>
     ensures bytes { IfOk result (λ piece. piece.items ≡ sized_batch batch.now ++ 0 ∷ []) }
     ensures can { IfOk result (λ _. CanStand batch.now) }
 {
-    let mut piece = vec![in alloc; 0; LENGTH_BYTES]?;
+    let mut piece = Vec::with_capacity(alloc, ROOM)?;
+    piece.extend_from_slice(&[0; LENGTH_BYTES])?;
     encode_batch(batch, &mut piece)?;
     let length = piece.len() - LENGTH_BYTES;
     BigEndian::write_u64(&mut piece, length as u64);
