@@ -23,6 +23,14 @@ pub trait HasTxn {
         ensures { result ≡ txn self.now };
 }
 
+impl HasTxn for TxnId {
+    ghost txn = { λ t. t };
+
+    fn name(&self) -> TxnId {
+        *self
+    }
+}
+
 impl HasTxn for Part {
     ghost txn = { λ p. p.txn };
 
