@@ -126,7 +126,7 @@ impl Host {
             unreachable!()
         };
         let alloc = catalog.sites().allocator();
-        let what = arrival(alloc, catalog, self.id, letter.from, &letter.bytes)?;
+        let what = arrival(alloc, catalog, self.id, letter.from, letter.bytes)?;
         let node = Node::from_parts(site, log);
         match node.handle(catalog, &mut self.disk, what) {
             Ok((node, turn_effects)) => {
@@ -170,7 +170,7 @@ impl Host {
             unreachable!()
         };
         let alloc = catalog.sites().allocator();
-        let what = arrival(alloc, catalog, self.id, letter.from, &letter.bytes)?;
+        let what = arrival(alloc, catalog, self.id, letter.from, letter.bytes)?;
         let (_, turn_effects) = turn_on(site, catalog, what)?;
         let batch = &turn_effects.effects.records;
         if batch.as_slice().is_empty() {

@@ -1,11 +1,9 @@
 //! Datagrams on their way.
 
-use bytes::Bytes;
-
-/// A datagram on its way from one port to another.
-#[derive(Drop)]
-pub struct Letter {
+/// A datagram on its way from one port to another. Its bytes are lent.
+#[derive(Clone, Copy, Drop)]
+pub struct Letter<'a> {
     pub from: u16,
     pub to: u16,
-    pub bytes: Bytes,
+    pub bytes: &'a [u8],
 }

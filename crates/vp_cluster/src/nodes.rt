@@ -16,24 +16,27 @@ ghost use Rattle.vp_cluster.specs.declared.letter.Letter.{Letter};
 use crate::host::{Logs, StoppedLog};
 use crate::hosts::Hosts;
 use crate::letter::Letter;
-use crate::letters::{put_letters, to_site};
+use crate::letters::{call_to, order_to};
 use crate::sent_letters::SentLetters;
 use crate::stopping::Stop;
 use std::alloc::Global;
 use std::marker::Model;
-use vp_base::{CopyOf, Effects, Event, Input, NoMemory, SiteId};
+use bytes::BytesMut;
+use vp_base::{Effects, Event, NoMemory, SiteId};
 use vp_catalog::Catalog;
 use vp_node::TurnEffects;
 use vp_records::Durable;
 use vp_site::{Site, StartFault};
 use vp_wire::Body;
-use vp_world::Stepper;
+use vp_world::{LentInput, Stepper};
 
 /// The hosts of the sites of a catalogue, and the letters of the messages that were sent, in order.
 #[derive(Drop)]
 pub struct Nodes {
     hosts: Hosts,
     letters: SentLetters,
+    /// Room for the letter of a client.
+    room: BytesMut,
 }
 
 impl Model for Nodes {
@@ -47,6 +50,23 @@ impl Model for Nodes {
     ghost invariant = { λ n. AreHosts n.hosts.catalogue n.hosts.hosts };
 }
 
+/// Makes the letter that the event brings to a site, if it brings one.
+fn letter_of<'a>(
+    catalog: &Catalog,
+    letters: &'a SentLetters,
+    room: &'a mut BytesMut,
+    event: &Event,
+) -> Result<Option<Letter<'a>>, NoMemory>
+{
+    match event {
+        Event::Call { site, call } => call_to(catalog, *site, call, room),
+        Event::Deliver { k } => Ok(letters.letter(*k)),
+        Event::Tick { site } => order_to(catalog, *site, Body::Tick, room),
+        Event::Probe { site } => order_to(catalog, *site, Body::ProbeNow, room),
+        _ => Ok(None),
+    }
+}
+
 impl Nodes {
     /// Starts a node for each site of the catalogue, in its first life.
     pub fn begin(catalog: Catalog) -> Result<Nodes, NoMemory>
@@ -56,6 +76,7 @@ impl Nodes {
         Ok(Nodes {
             hosts: Hosts::begin(catalog)?,
             letters: SentLetters::none(alloc),
+            room: BytesMut::new(alloc),
         })
     }
 
@@ -64,57 +85,6 @@ impl Nodes {
         ensures { IfOk result (λ logs. logs ≡ map site_log self.now.hosts) }
     {
         self.hosts.logs(alloc)
-    }
-
-    /// Makes the letter that the event brings to a site, if it brings one.
-    fn letter(&self, event: &Event) -> Result<Option<Letter>, NoMemory>
-        requires { IsEvent event.now }
-        ensures { IfOk result (λ letter. letter ≡ letter_of self.now.catalogue self.now.letters event.now) }
-    {
-        let catalog = self.hosts.catalog();
-        match event {
-            Event::Call { site, call } => to_site(catalog, *site, Body::Call(call.copy_of()?)),
-            Event::Deliver { k } => self.letters.letter(*k),
-            Event::Tick { site } => to_site(catalog, *site, Body::Tick),
-            Event::Probe { site } => to_site(catalog, *site, Body::ProbeNow),
-            _ => Ok(None),
-        }
-    }
-
-    /// Does the turn of the letter at the host of its port, to which the site is lent. What its step sends are letters from then on.
-    fn handle(&mut self, site: Site, letter: &Letter) -> Result<(Site, Effects), NoMemory>
-        requires { LendsAt self.old.catalogue site letter.now.to self.old.hosts }
-        ensures comes { OnOk result (Comes letter.now site self.old self.new) }
-        ensures stepped { IfOk result
-            (λ it. IsStepOf self.old.catalogue site
-            (arrival self.old.catalogue site.id (as_received letter.now)) it.0 it.1) }
-        ensures same { OnOk result (self.new.catalogue ≡ self.old.catalogue) }
-    {
-        let (site, turn_effects) = self.hosts.handle(site, letter)?;
-        let TurnEffects {
-            effects,
-            datagrams,
-            ..
-        } = turn_effects;
-        let count = effects.messages.as_slice().len();
-        put_letters(letter.to, count, datagrams, &mut self.letters)?;
-        Ok((site, effects))
-    }
-
-    /// Stops the site, which is lent for the letter, within the append of its turn.
-    fn stop_by(
-        &mut self,
-        site: Site,
-        letter: &Letter,
-        stop: &Stop,
-    ) -> Result<Option<StoppedLog>, NoMemory>
-        requires { LendsAt self.old.catalogue site letter.now.to self.old.hosts }
-        ensures stops { IfOk result (λ left. StopsWith letter.now site left self.old self.new) }
-        ensures kept { IfOk result (λ left. IfSome left (λ it. it.kept ≡ is_kept stop.now)) }
-        ensures letters { self.new.letters ≡ self.old.letters }
-        ensures same { self.new.catalogue ≡ self.old.catalogue }
-    {
-        self.hosts.stop(site, letter, stop)
     }
 
     /// Does the event's step of the site, which is lent for it and stops within the append of its batch. Returns its log, and whether
@@ -139,9 +109,14 @@ impl Nodes {
         ensures letters { self.new.letters ≡ self.old.letters }
         ensures same { self.new.catalogue ≡ self.old.catalogue }
     {
-        match self.letter(event)? {
+        let Nodes {
+            hosts,
+            letters,
+            room,
+        } = self;
+        match letter_of(hosts.catalog(), letters, room, event)? {
             None => Ok(None),
-            Some(letter) => self.stop_by(site, &letter, stop),
+            Some(letter) => hosts.stop(site, &letter, stop),
         }
     }
 }
@@ -159,12 +134,20 @@ impl Stepper for Nodes {
         _: &Catalog,
         event: &Event,
         site: Site,
-        _: &Input,
+        _: &LentInput,
     ) -> Result<(Site, Effects), NoMemory> {
-        match self.letter(event)? {
-            None => unreachable!(),
-            Some(letter) => self.handle(site, &letter),
-        }
+        let Nodes {
+            hosts,
+            letters,
+            room,
+        } = self;
+        let Some(letter) = letter_of(hosts.catalog(), letters, room, event)? else {
+            unreachable!()
+        };
+        let from = letter.to;
+        let (site, TurnEffects { effects, .. }) = hosts.handle(site, &letter)?;
+        letters.put_all(hosts.catalog(), from, effects.messages.as_slice())?;
+        Ok((site, effects))
     }
 
     fn crash(&mut self, site: SiteId) {

@@ -4,11 +4,12 @@ ghost use Rattle.std.specs.Prelude.{◌≡◌, ◌≤◌, ◌<◌, ◌+◌, ◌+
 ghost use Rattle.vp_cluster.specs.Letters.{in_order, sent_from, start_in, AreInOrder};
 
 use crate::letter::Letter;
-use bytes::Bytes;
+use bytes::BytesMut;
 use std::alloc::Global;
 use std::marker::Model;
-use vp_base::NoMemory;
-use vp_outside::Datagram;
+use vp_base::{NoMemory, Sent};
+use vp_catalog::Catalog;
+use vp_wire::encode_message;
 
 /// A letter whose bytes are among others, from this index to that of the next letter.
 #[derive(Clone, Copy)]
@@ -21,7 +22,7 @@ struct LetterSpan {
 /// The letters that were sent, in order. Their bytes are side by side, since a schedule may send 2,000,000 of them, most of which are
 /// short.
 pub struct SentLetters {
-    bytes: Vec<u8>,
+    bytes: BytesMut,
     filed: Vec<LetterSpan>,
 }
 
@@ -70,41 +71,45 @@ impl SentLetters {
         ensures { result ≡ [] }
     {
         SentLetters {
-            bytes: Vec::new(alloc),
+            bytes: BytesMut::new(alloc),
             filed: Vec::new(alloc),
         }
     }
 
-    /// Adds the datagram, which was sent from this port, as the last letter.
-    pub fn put(&mut self, from: u16, datagram: &Datagram) -> Result<(), NoMemory>
-        ensures { OnOk result (self.new ≡ self.old ++ sent_from from datagram.now ∷ []) }
+    /// Adds the message's datagram, which is sent from this port, as the last letter; a message to a site that the catalogue lacks has
+    /// none.
+    fn put(&mut self, catalog: &Catalog, from: u16, sent: &Sent) -> Result<(), NoMemory>
     {
+        let Some(to) = catalog.port(sent.to) else {
+            return Ok(());
+        };
         let start = self.bytes.len();
-        self.bytes.extend_from_slice(&datagram.bytes)?;
-        self.filed.push(LetterSpan {
-            from,
-            to: datagram.port,
-            start,
-        })?;
+        encode_message(sent.from, sent.to, &sent.message, &mut self.bytes)?;
+        self.filed.push(LetterSpan { from, to, start })?;
         Ok(())
     }
 
-    /// Copies letter `k`, counted from 1; none where fewer were sent.
-    pub fn letter(&self, k: u32) -> Result<Option<Letter>, NoMemory>
-        ensures { IfOk result (λ letter. letter ≡ in_order k self.now) }
+    /// Adds the datagrams of the messages, which are sent from this port, to the letters.
+    pub fn put_all(&mut self, catalog: &Catalog, from: u16, messages: &[Sent]) -> Result<(), NoMemory>
+    {
+        for sent in messages {
+            self.put(catalog, from, sent)?;
+        }
+        Ok(())
+    }
+
+    /// Letter `k`, counted from 1; none where fewer were sent.
+    pub fn letter(&self, k: u32) -> Option<Letter<'_>>
     {
         if k == 0 {
-            return Ok(None);
+            return None;
         }
-        let Some(filed) = self.filed.get(k as usize - 1) else {
-            return Ok(None);
-        };
+        let filed = self.filed.get(k as usize - 1)?;
         let (start, end) = span(&self.filed, k as usize - 1, self.bytes.len());
-        let bytes = &self.bytes[start..end];
-        Ok(Some(Letter {
+        Some(Letter {
             from: filed.from,
             to: filed.to,
-            bytes: Bytes::copy_from_slice(*self.bytes.allocator(), bytes)?,
-        }))
+            bytes: &self.bytes[start..end],
+        })
     }
 }

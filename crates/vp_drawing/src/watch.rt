@@ -7,12 +7,12 @@ ghost use Rattle.vp_drawing.specs.Looks.{first_look, held_id, newly_joined, look
 
 use std::alloc::Global;
 use std::marker::Model;
-use vp_base::{CopyOf, Effects, Event, Input, NoMemory, OPENING, RecId, Seq, SiteId, View, ViewId};
+use vp_base::{CopyOf, Effects, Event, NoMemory, OPENING, RecId, Seq, SiteId, View, ViewId};
 use vp_catalog::Catalog;
 use vp_pictures::Look;
 use vp_records::Durable;
 use vp_site::{Site, StartFault};
-use vp_world::{PlainStepper, Stepper};
+use vp_world::{LentInput, PlainStepper, Stepper};
 
 /// How each site of a catalogue looks, and the view that the site of the last step joined by it.
 #[derive(Drop)]
@@ -180,7 +180,7 @@ impl Stepper for Watch {
         catalog: &Catalog,
         _: &Event,
         site: Site,
-        input: &Input,
+        input: &LentInput,
     ) -> Result<(Site, Effects), NoMemory> {
         let before = held_id(&site);
         let (site, effects) = site.step(catalog, input)?;

@@ -68,29 +68,44 @@ impl PackedMessage {
         })
     }
 
+    /// The site that sent the message.
+    pub fn from(&self) -> SiteId
+        ensures { result ≡ self.now.from }
+    {
+        match &self.form {
+            Form::RefreshRequest { from, .. } => *from,
+            Form::Other { sent } => sent.as_ref().from,
+        }
+    }
+
+    /// The site that the message is for.
+    pub fn to(&self) -> SiteId
+        ensures { result ≡ self.now.to }
+    {
+        match &self.form {
+            Form::RefreshRequest { to, .. } => *to,
+            Form::Other { sent } => sent.as_ref().to,
+        }
+    }
+
     /// Makes the message again, as it was sent.
-    pub fn sent(&self) -> Result<Sent, NoMemory>
-        ensures { IfOk result (λ sent. sent ≡ self.now) }
+    pub fn message(&self) -> Result<Message, NoMemory>
+        ensures { IfOk result (λ message. message ≡ self.now.message) }
     {
         match &self.form {
             Form::RefreshRequest {
-                from,
-                to,
                 rec,
                 view_site,
                 view_number,
+                ..
             } => {
                 let view = ViewId {
                     number: *view_number,
                     site: *view_site,
                 };
-                Ok(Sent {
-                    from: *from,
-                    to: *to,
-                    message: Message::RefreshRequest { view, rec: *rec },
-                })
+                Ok(Message::RefreshRequest { view, rec: *rec })
             }
-            Form::Other { sent } => sent.as_ref().copy_of(),
+            Form::Other { sent } => sent.as_ref().message.copy_of(),
         }
     }
 }

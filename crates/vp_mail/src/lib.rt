@@ -11,4 +11,5 @@ mod mail;
 mod queue;
 
 pub use cuts::Cuts;
+pub use kept::PackedMessage;
 pub use mail::{Mail, PAIRS, SITES};

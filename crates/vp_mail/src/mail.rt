@@ -132,25 +132,24 @@ impl Mail {
     }
 
     /// The message of this number, as it was sent; `None` where there is none.
-    pub fn message(&self, k: u32) -> Result<Option<Sent>, NoMemory>
-        ensures { IfOk result (λ sent. sent ≡ message_in k self.now.sent) }
+    pub fn message(&self, k: u32) -> Option<&PackedMessage>
+        ensures { option_copied result ≡ message_in k self.now.sent }
     {
-        match message_in(&self.sent, k) {
-            None => Ok(None),
-            Some(kept) => Ok(Some(kept.sent()?)),
+        if k == 0 {
+            return None;
         }
+        self.sent.get(k as usize - 1)
     }
 
-    /// Delivers the message `sent`, which has this number; it may be delivered again. Where memory is lacking, the mail stays as it
-    /// is.
-    pub fn deliver(&mut self, k: u32, sent: &Sent) -> Result<(), NoMemory>
-        requires { message_in k self.old.sent ≡ Some sent.now }
+    /// Delivers message `k`, which goes from site to site; it may be delivered again. Where memory is lacking, the mail stays as it is.
+    pub fn deliver(&mut self, k: u32, from: SiteId, to: SiteId) -> Result<(), NoMemory>
+        requires { IfSome (message_in k self.old.sent) (λ sent. (sent.from ≡ from) × (sent.to ≡ to)) }
         ensures delivered { OnOk result
             (self.new ≡ record self.old { delivered = self.old.delivered ++ k ∷ [] }) }
         ensures err { OnErr result (self.new ≡ self.old) }
     {
         self.delivered.push(k)?;
-        let pair = pair_of(sent.from, sent.to);
+        let pair = pair_of(from, to);
         let queue = &mut self.queues[pair];
         queue.take(k);
         self.firsts[pair] = queue.first();
@@ -194,13 +193,4 @@ impl Mail {
         }
         Ok(())
     }
-}
-
-fn message_in(sent: &[PackedMessage], k: u32) -> Option<&PackedMessage>
-    ensures { option_copied result ≡ message_in k sent.now }
-{
-    if k == 0 {
-        return None;
-    }
-    sent.get(k as usize - 1)
 }

@@ -18,6 +18,7 @@ use crate::arrivals::arrival;
 use crate::end::NodeEnd;
 use crate::keeping::keep;
 use crate::recording::arrival_line;
+use crate::sending::datagrams_of;
 use crate::starting::next_life;
 use crate::taking::turn_on;
 use crate::turned::{TurnEffects, Turned};
@@ -188,7 +189,8 @@ impl Node {
         let alloc = catalog.sites().allocator();
         let what = arrival(alloc, catalog, self.site.id(), port, bytes)?;
         let line = arrival_line(alloc, bytes, &what)?;
-        let (node, turn_effects) = self.handle(catalog, disk, what)?;
-        Ok((node, turn_effects.recorded(line)?))
+        let (node, TurnEffects { effects, stop }) = self.handle(catalog, disk, what)?;
+        let datagrams = datagrams_of(catalog, node.site.id(), &effects)?;
+        Ok((node, Turned::new(line, datagrams, stop)?))
     }
 }

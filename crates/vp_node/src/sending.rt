@@ -8,7 +8,7 @@ ghost use Rattle.vp_wire.specs.Grammar.{IsFrame};
 
 use bytes::BytesMut;
 use std::alloc::Global;
-use vp_base::{NoMemory, Reply, Sent, SiteId};
+use vp_base::{Effects, NoMemory, Reply, Sent, SiteId};
 use vp_catalog::Catalog;
 use vp_outside::{Datagram, Datagrams};
 use vp_wire::{encode_message, encode_reply};
@@ -117,8 +117,7 @@ fn put_replies(
 pub fn datagrams_of(
     catalog: &Catalog,
     id: SiteId,
-    messages: &[Sent],
-    replies: &[Reply],
+    effects: &Effects,
 ) -> Result<Datagrams, NoMemory>
     requires messages { AllByRecursion (λ sent. IsFrame (message_frame sent)) messages.now }
     requires replies { AllByRecursion (λ reply. IsFrame (reply_frame id reply)) replies.now }
@@ -127,6 +126,8 @@ pub fn datagrams_of(
         map (reply_datagram id) replies.now) }
 {
     let alloc = catalog.sites().allocator();
+    let messages = effects.messages.as_slice();
+    let replies = effects.replies.as_slice();
     let mut datagrams = Datagrams::new(alloc);
     let frames = messages.len().saturating_add(replies.len());
     let mut room = room_for(alloc, frames)?;

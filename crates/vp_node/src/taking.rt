@@ -8,7 +8,6 @@ ghost use Rattle.vp_runs.specs.Arrivals.{IsArrival};
 ghost use Rattle.vp_runs.specs.Turns.{step_turn, quiet_turn, turn_on};
 ghost use Rattle.vp_node.specs.Taking.{Does, IsStepOf};
 
-use crate::sending::datagrams_of;
 use crate::turned::TurnEffects;
 use std::alloc::Global;
 use vp_base::{Input, NoMemory};
@@ -29,16 +28,14 @@ fn step(site: Site, catalog: &Catalog, input: Input) -> Result<(Site, TurnEffect
 {
     steps_are_shaped();
     given_are_frames();
-    let id = site.id();
     let (site, effects) = site.step(catalog, &input)?;
-    let messages = effects.messages.as_slice();
-    let datagrams = datagrams_of(catalog, id, messages, effects.replies.as_slice())?;
-    let turn_effects = TurnEffects {
-        effects,
-        datagrams,
-        stop: false,
-    };
-    Ok((site, turn_effects))
+    Ok((
+        site,
+        TurnEffects {
+            effects,
+            stop: false,
+        },
+    ))
 }
 
 /// Does a turn without a step.

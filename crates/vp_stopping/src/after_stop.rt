@@ -3,12 +3,12 @@
 ghost use Rattle.std.specs.Prelude.{◌≡◌, ◌==◌, false};
 ghost use Rattle.std.specs.Option.{option_map_or};
 
-use vp_base::{Effects, Event, Input, NoMemory, SiteId};
+use vp_base::{Effects, Event, NoMemory, SiteId};
 use vp_catalog::Catalog;
 use vp_cluster::Nodes;
 use vp_records::Durable;
 use vp_site::{Site, StartFault};
-use vp_world::{PlainStepper, Stepper};
+use vp_world::{LentInput, PlainStepper, Stepper};
 
 /// Who does the steps after a stop: the sites by themselves; but the one that stopped is started by its node, from the log that the stop
 /// has left. From then on that site does its steps by itself too.
@@ -43,7 +43,7 @@ impl Stepper for AfterStop {
         catalog: &Catalog,
         event: &Event,
         site: Site,
-        input: &Input,
+        input: &LentInput,
     ) -> Result<(Site, Effects), NoMemory> {
         PlainStepper.step(catalog, event, site, input)
     }

@@ -19,4 +19,4 @@ pub use fault::WireFault;
 pub use frame::{Body, Frame};
 pub use kind::{AnswerKind, CallKind, FrameKind, MessageKind};
 pub use laws::{encoded_is_decoded, frames_are_read, spellings_are_of_one_frame};
-pub use writing::{encode, encode_message, encode_reply};
+pub use writing::{encode, encode_call, encode_message, encode_reply};

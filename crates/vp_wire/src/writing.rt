@@ -18,7 +18,7 @@ use crate::frame::{Body, Frame, SENT};
 use crate::kind::{FrameKind, MessageKind};
 use bytes::{BufMut, BytesMut};
 use vp_base::{
-    Answer, Boxed, CallNo, Change, Message, NoMemory, Obstacle, RecId, SiteId, Stored, TxnId,
+    Answer, Boxed, Call, CallNo, Change, Message, NoMemory, Obstacle, RecId, SiteId, Stored, TxnId,
     Value, ViewId,
 };
 use vp_bytes::{
@@ -70,6 +70,16 @@ pub fn encode_reply(from: SiteId, answer: &Answer, out: &mut BytesMut) -> Result
 {
     put_head(out, SENT, FrameKind::Reply, from.get(), 0)?;
     put_answer(out, Version::Second, answer)
+}
+
+/// Like `encode`, for the frame of a client's call to a site, which is sent in version 2; it takes the call by reference.
+#[tactic(auto, using(vp_bytes::proofs::Writing::writing))]
+pub fn encode_call(to: SiteId, call: &Call, out: &mut BytesMut) -> Result<(), NoMemory>
+    requires { IsFrame (frame_of 0 to (body.Call call.now)) }
+    ensures { Appends result out.old.items (frame_bytes (frame_of 0 to (body.Call call.now))) out.new.items }
+{
+    put_head(out, SENT, FrameKind::Call, 0, to.get())?;
+    put_call(out, Version::Second, call)
 }
 
 /// Appends what every frame begins with: its version, the byte of its kind, the sender and the receiver.

@@ -12,7 +12,7 @@ use vp_catalog::Catalog;
 /// An event that was done in a world. A contract sees the world after it and its line. The messages and the commits of the step are held
 /// by the line until the world goes on, so that none is copied.
 pub struct WorldStep {
-    pub(crate) catalog: Catalog,
+    pub(crate) catalog: Box<Catalog>,
     pub(crate) state: Box<State>,
     pub(crate) line: Line,
 }
@@ -34,7 +34,7 @@ impl Model for WorldStep {
 
     ghost Value = { Known × Line };
 
-    ghost view = { λ h. (record { catalogue = h.catalog; world = with_line h.line.shown h.state.value }, h.line) };
+    ghost view = { λ h. (record { catalogue = h.catalog.value; world = with_line h.line.shown h.state.value }, h.line) };
 
     ghost invariant = { λ h. IsWithinLimits (with_line h.line.shown h.state.value) };
 }

@@ -6,6 +6,7 @@
 
 mod end;
 mod happened;
+mod lent;
 mod place;
 mod places;
 mod state;
@@ -14,5 +15,6 @@ mod world;
 
 pub use end::WorldEnd;
 pub use happened::WorldStep;
+pub use lent::LentInput;
 pub use stepper::{PlainStepper, Stepper};
 pub use world::World;

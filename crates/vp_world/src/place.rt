@@ -10,10 +10,11 @@ ghost use Rattle.vp_model.specs.World.{start_place, after_step};
 ghost use Rattle.vp_world.specs.Asked.{Asked, restart_asked};
 ghost use Rattle.vp_world.specs.Places.{newly_agreed, place_effects, stepped_place, crashed_place, restarted_place, restart_line, Did, KeepsSome, GivesUp};
 
+use crate::lent::LentInput;
 use crate::stepper::Stepper;
 use std::marker::Model;
 use vp_base::{
-    CopyOf, Effects, Event, Input, LogRecord, Newest, NoMemory, Shown, SiteId, View, ViewId,
+    CopyOf, Effects, Event, LogRecord, Newest, NoMemory, Shown, SiteId, View, ViewId,
 };
 use vp_catalog::Catalog;
 use vp_records::Durable;
@@ -159,7 +160,7 @@ impl Place {
         &mut self,
         catalog: &Catalog,
         event: &Event,
-        input: &Input,
+        input: &LentInput,
         stepper: &mut S,
     ) -> Result<Option<PlaceEffects>, NoMemory>
         requires { IfSome self.old.up
@@ -183,7 +184,7 @@ impl Place {
         site: Site,
         catalog: &Catalog,
         event: &Event,
-        input: &Input,
+        input: &LentInput,
         stepper: &mut S,
     ) -> Result<PlaceEffects, NoMemory>
         requires { S.may catalog.now (Asked.steps event.now site input.now) stepper.old }

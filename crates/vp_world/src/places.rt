@@ -12,10 +12,11 @@ ghost use Rattle.vp_world.specs.Asked.{Asked, restart_asked};
 ghost use Rattle.vp_world.specs.Places.{site_in, place_effects, stepped_place, crashed_place, restarted_place, restart_line, Did, GivesUpAt};
 
 use crate::place::{Place, PlaceEffects};
+use crate::lent::LentInput;
 use crate::stepper::Stepper;
 use std::alloc::Global;
 use std::marker::Model;
-use vp_base::{Event, Input, Newest, NoMemory, Shown, SiteId};
+use vp_base::{Event, Newest, NoMemory, Shown, SiteId};
 use vp_catalog::Catalog;
 use vp_site::Site;
 
@@ -70,7 +71,7 @@ fn step_at<S: Stepper>(
     catalog: &Catalog,
     id: SiteId,
     event: &Event,
-    input: &Input,
+    input: &LentInput,
     stepper: &mut S,
 ) -> Result<Option<PlaceEffects>, NoMemory>
     requires { IfSome (site_in id places.old)
@@ -162,7 +163,7 @@ impl Places {
         catalog: &Catalog,
         id: SiteId,
         event: &Event,
-        input: &Input,
+        input: &LentInput,
         stepper: &mut S,
     ) -> Result<Option<PlaceEffects>, NoMemory>
         requires { IfSome (site_in id self.old)

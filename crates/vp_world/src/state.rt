@@ -15,14 +15,15 @@ ghost use Rattle.vp_world.specs.Places.{Did};
 ghost use Rattle.vp_world.specs.Heads.{is_open, head_of, lesser};
 
 use crate::end::WorldEnd;
+use crate::lent::LentInput;
 use crate::place::PlaceEffects;
 use crate::places::Places;
 use crate::stepper::Stepper;
 use std::alloc::Global;
 use std::marker::Model;
 use vp_base::{
-    Call, Commits, CopyOf, Counted, Effects, Event, Input, MOST_MESSAGES, MOST_STEPS, NoMemory,
-    OPENING, Sent, Shown, SiteId, View,
+    Call, Commits, CopyOf, Counted, Effects, Event, MOST_MESSAGES, MOST_STEPS, NoMemory,
+    OPENING, Shown, SiteId, View,
 };
 use vp_catalog::Catalog;
 use vp_mail::{Cuts, Mail, PAIRS, SITES};
@@ -217,6 +218,15 @@ impl State {
         Ok(step_line(effects, first))
     }
 
+    /// Takes what a step of the site gives; none where it is down.
+    fn line_of(&mut self, id: SiteId, taken: Option<PlaceEffects>) -> Result<Shown, WorldEnd>
+    {
+        match taken {
+            None => Ok(Shown::Down { site: id }),
+            Some(taken) => self.take_in(taken),
+        }
+    }
+
     /// Does the step of the input, which the event brings, at a site, if it is up. If the messages are too many, or memory runs out, the
     /// state may only be dropped, as after each function below.
     fn at_site<S: Stepper>(
@@ -224,7 +234,7 @@ impl State {
         catalog: &Catalog,
         event: &Event,
         id: SiteId,
-        input: &Input,
+        input: &LentInput,
         stepper: &mut S,
     ) -> Result<Shown, WorldEnd>
         requires few { length self.old.sent ≤ 2000000 }
@@ -234,10 +244,8 @@ impl State {
         ensures did { OnOk result
             (Did S.did (step_at self.old event.now id input.now) stepper.old stepper.new) }
     {
-        match self.places.step(catalog, id, event, input, stepper)? {
-            None => Ok(Shown::Down { site: id }),
-            Some(taken) => self.take_in(taken),
-        }
+        let taken = self.places.step(catalog, id, event, input, stepper)?;
+        self.line_of(id, taken)
     }
 
     /// Delivers message `k`, which is this one, if its receiver is up and its pair is not cut.
@@ -245,7 +253,8 @@ impl State {
         &mut self,
         catalog: &Catalog,
         k: u32,
-        sent: Sent,
+        from: SiteId,
+        to: SiteId,
         stepper: &mut S,
     ) -> Result<Shown, WorldEnd>
         requires few { length self.old.sent ≤ 2000000 }
@@ -256,18 +265,21 @@ impl State {
         ensures did { OnOk result
             (Did S.did (step_by self.old (event.Deliver k) sent) stepper.old stepper.new) }
     {
-        let from = sent.from;
-        let to = sent.to;
         if !self.places.is_up(to) {
             return Ok(Shown::Down { site: to });
         }
         if self.cuts.has(from, to) {
             return Ok(Shown::Parted { from, to });
         }
-        self.mail.deliver(k, &sent)?;
-        let message = sent.into_message();
-        let input = Input::Message { from, message };
-        self.at_site(catalog, &Event::Deliver { k }, to, &input, stepper)
+        self.mail.deliver(k, from, to)?;
+        let Some(sent) = self.mail.message(k) else {
+            unreachable!()
+        };
+        let input = LentInput::message(sent);
+        let taken = self
+            .places
+            .step(catalog, to, &Event::Deliver { k }, &input, stepper)?;
+        self.line_of(to, taken)
     }
 
     fn deliver<S: Stepper>(
@@ -282,10 +294,11 @@ impl State {
         ensures did { OnOk result
             (DoesEvent S.did catalog.now (event.Deliver k) self.old stepper.old stepper.new) }
     {
-        match self.mail.message(k)? {
-            None => Ok(Shown::NoMessage),
-            Some(sent) => self.hand_over(catalog, k, sent, stepper),
-        }
+        let Some(sent) = self.mail.message(k) else {
+            return Ok(Shown::NoMessage);
+        };
+        let (from, to) = (sent.from(), sent.to());
+        self.hand_over(catalog, k, from, to, stepper)
     }
 
     /// This site, if it is up.
@@ -300,18 +313,14 @@ impl State {
     }
 
     /// The receiver of message `k`, if it may be delivered now.
-    fn receiver(&self, k: u32) -> Result<Option<SiteId>, NoMemory>
-        ensures { IfOk result (λ site. site ≡ receiver self.now k) }
+    fn receiver(&self, k: u32) -> Option<SiteId>
+        ensures { result ≡ receiver self.now k }
     {
-        match self.mail.message(k)? {
-            None => Ok(None),
-            Some(sent) => {
-                if self.cuts.has(sent.from, sent.to) {
-                    Ok(None)
-                } else {
-                    Ok(self.if_up(sent.to))
-                }
-            }
+        let sent = self.mail.message(k)?;
+        if self.cuts.has(sent.from(), sent.to()) {
+            None
+        } else {
+            self.if_up(sent.to())
         }
     }
 
@@ -321,7 +330,7 @@ impl State {
     {
         match event {
             Event::Call { site, .. } => Ok(self.if_up(*site)),
-            Event::Deliver { k } => self.receiver(*k),
+            Event::Deliver { k } => Ok(self.receiver(*k)),
             Event::Tick { site } => Ok(self.if_up(*site)),
             Event::Probe { site } => Ok(self.if_up(*site)),
             _ => Ok(None),
@@ -334,10 +343,11 @@ impl State {
         ensures passed { OnOk result (self.new ≡ passed_over k self.old) }
         ensures err { OnErr result (self.new ≡ self.old) }
     {
-        match self.mail.message(k)? {
-            None => Ok(()),
-            Some(sent) => self.mail.deliver(k, &sent),
-        }
+        let Some(sent) = self.mail.message(k) else {
+            return Ok(());
+        };
+        let (from, to) = (sent.from(), sent.to());
+        self.mail.deliver(k, from, to)
     }
 
     fn crash<S: Stepper>(&mut self, id: SiteId, stepper: &mut S) -> Shown
@@ -388,14 +398,7 @@ impl State {
         ensures did { OnOk result
             (Did S.did (step_at self.old event.now site (input.Call 0 call.now)) stepper.old stepper.new) }
     {
-        let call = call.copy_of()?;
-        self.at_site(
-            catalog,
-            event,
-            site,
-            &Input::Call { from: 0, call },
-            stepper,
-        )
+        self.at_site(catalog, event, site, &LentInput::call(call), stepper)
     }
 
     #[tactic(auto, unfolding(vp_model::specs::World::happens))]
@@ -414,8 +417,8 @@ impl State {
             Event::Call { site, call } => self.call(catalog, event, *site, call, stepper),
             Event::Deliver { k } => self.deliver(catalog, *k, stepper),
             Event::Flow { .. } => Ok(Shown::Nothing),
-            Event::Tick { site } => self.at_site(catalog, event, *site, &Input::Tick, stepper),
-            Event::Probe { site } => self.at_site(catalog, event, *site, &Input::Probe, stepper),
+            Event::Tick { site } => self.at_site(catalog, event, *site, &LentInput::tick(), stepper),
+            Event::Probe { site } => self.at_site(catalog, event, *site, &LentInput::probe(), stepper),
             Event::Cut { a, b } => {
                 self.cuts.cut(*a, *b)?;
                 Ok(Shown::Nothing)

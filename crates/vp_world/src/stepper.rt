@@ -5,7 +5,8 @@ ghost use Rattle.vp_model.specs.Site.{SiteState};
 ghost use Rattle.vp_model.specs.Step.{step};
 ghost use Rattle.vp_world.specs.Asked.{life_start, IfStarted};
 
-use vp_base::{CopyOf, Effects, Event, Input, NoMemory, SiteId};
+use crate::lent::LentInput;
+use vp_base::{CopyOf, Effects, Event, NoMemory, SiteId};
 use vp_catalog::Catalog;
 use vp_records::Durable;
 use vp_site::{Site, StartFault};
@@ -27,7 +28,7 @@ pub trait Stepper {
         catalog: &Catalog,
         event: &Event,
         site: Site,
-        input: &Input,
+        input: &LentInput,
     ) -> Result<(Site, Effects), NoMemory>
         requires { may catalog.now (Asked.steps event.now site input.now) self.old }
         ensures stepped { IfOk result
@@ -66,9 +67,9 @@ impl Stepper for PlainStepper {
         catalog: &Catalog,
         _: &Event,
         site: Site,
-        input: &Input,
+        input: &LentInput,
     ) -> Result<(Site, Effects), NoMemory> {
-        site.step(catalog, input)
+        site.step(catalog, &input.copied()?)
     }
 
     fn crash(&mut self, _: SiteId) {}

@@ -19,7 +19,7 @@ use vp_site::Site;
 /// The sites of a catalogue, with their messages. The state is boxed, so that few bytes are moved where a world is passed from call to
 /// call.
 pub struct World {
-    pub(crate) catalog: Catalog,
+    pub(crate) catalog: Box<Catalog>,
     pub(crate) state: Box<State>,
 }
 
@@ -37,7 +37,7 @@ impl Model for World {
 
     ghost Value = { Known };
 
-    ghost view = { λ w. record { catalogue = w.catalog; world = w.state.value } };
+    ghost view = { λ w. record { catalogue = w.catalog.value; world = w.state.value } };
 
     ghost invariant = { λ w. IsWithinLimits w.state.value };
 }
@@ -50,7 +50,10 @@ impl World {
     {
         let alloc = catalog.sites().allocator();
         let state = Box::new(alloc, State::start(alloc, &catalog)?)?;
-        Ok(World { catalog, state })
+        Ok(World {
+            catalog: Box::new(alloc, catalog)?,
+            state,
+        })
     }
 
     /// Does the event, and returns the line that the trace shows for it. A flow is a step that changes nothing else: its messages are
