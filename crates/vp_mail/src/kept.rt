@@ -1,11 +1,20 @@
 //! The form in which the mail keeps a message.
 
 ghost use Rattle.std.specs.Prelude.{◌≡◌, IfOk};
-ghost use Rattle.vp_mail.specs.Keeping.{sent_as};
+ghost use Rattle.vp_mail.specs.Keeping.{brief_of, sent_as};
 
 use std::alloc::Global;
 use std::marker::Model;
-use vp_base::{Boxed, CopyOf, Message, NoMemory, RecId, Sent, SiteId, ViewId};
+use vp_base::{Boxed, CallNo, CopyOf, Message, NoMemory, RecId, Sent, SiteId, TxnId, ViewId};
+
+/// What a message says of its transaction that says little else.
+#[derive(Clone, Copy, Drop)]
+enum Brief {
+    WriteAnswer { number: CallNo },
+    Vote,
+    Outcome { commit: bool },
+    Ack,
+}
 
 /// What is kept for a message. The fields of a request's view are kept one by one, since a `ViewId` would take 16 bytes for its 9.
 #[derive(Drop)]
@@ -17,13 +26,19 @@ enum Form {
         view_site: u8,
         view_number: u64,
     },
+    Brief {
+        from: SiteId,
+        to: SiteId,
+        txn: TxnId,
+        brief: Brief,
+    },
     Other {
         sent: Boxed<Sent>,
     },
 }
 
 /// A message that was sent. A site asks each other holder of a copy that it has to refresh, again with each tick, so most messages
-/// of a large world are refresh requests: those are kept here in 24 bytes, and any other message in a box.
+/// of a large world are refresh requests: those and brief ones are kept here in 24 bytes, and any other message in a box.
 #[derive(Drop)]
 pub struct PackedMessage {
     form: Form,
@@ -38,13 +53,37 @@ impl Model for PackedMessage {
     ghost view = { λ k. sent_as k.form };
 }
 
+impl Brief {
+    /// The message that says this of the transaction.
+    fn of(self, txn: TxnId) -> Message
+        ensures { result ≡ brief_of txn self }
+    {
+        match self {
+            Brief::WriteAnswer { number } => Message::WriteAnswer { txn, number },
+            Brief::Vote => Message::Vote { txn },
+            Brief::Outcome { commit } => Message::Outcome { txn, commit },
+            Brief::Ack => Message::Ack { txn },
+        }
+    }
+}
+
 /// What is kept for this message.
 fn form_of(alloc: Global, sent: Sent) -> Result<Form, NoMemory>
     ensures { IfOk result (λ form. sent_as form ≡ sent) }
 {
     let from = sent.from;
     let to = sent.to;
+    let brief = |txn: TxnId, brief: Brief| Form::Brief {
+        from,
+        to,
+        txn,
+        brief,
+    };
     match sent.into_message() {
+        Message::WriteAnswer { txn, number } => Ok(brief(txn, Brief::WriteAnswer { number })),
+        Message::Vote { txn } => Ok(brief(txn, Brief::Vote)),
+        Message::Outcome { txn, commit } => Ok(brief(txn, Brief::Outcome { commit })),
+        Message::Ack { txn } => Ok(brief(txn, Brief::Ack)),
         Message::RefreshRequest { view, rec } => Ok(Form::RefreshRequest {
             from,
             to,
@@ -74,6 +113,7 @@ impl PackedMessage {
     {
         match &self.form {
             Form::RefreshRequest { from, .. } => *from,
+            Form::Brief { from, .. } => *from,
             Form::Other { sent } => sent.as_ref().from,
         }
     }
@@ -84,6 +124,7 @@ impl PackedMessage {
     {
         match &self.form {
             Form::RefreshRequest { to, .. } => *to,
+            Form::Brief { to, .. } => *to,
             Form::Other { sent } => sent.as_ref().to,
         }
     }
@@ -105,6 +146,7 @@ impl PackedMessage {
                 };
                 Ok(Message::RefreshRequest { view, rec: *rec })
             }
+            Form::Brief { txn, brief, .. } => Ok(brief.of(*txn)),
             Form::Other { sent } => sent.as_ref().message.copy_of(),
         }
     }

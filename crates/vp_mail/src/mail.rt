@@ -1,6 +1,6 @@
 //! The messages between the sites.
 
-ghost use Rattle.std.specs.Prelude.{◌≡◌, ◌≤◌, ◌<◌, ◌+◌, ◌++◌, ◌∷◌, ℕ, [], OnOk, OnErr, IfOk, Some, slice_index_or, nat_lt, map, length, take, if◌then◌else◌, option_copied};
+ghost use Rattle.std.specs.Prelude.{◌≡◌, ◌≤◌, ◌<◌, ◌+◌, ◌++◌, ◌∷◌, ℕ, [], OnOk, OnErr, IfOk, IsSome, Some, slice_index_or, nat_lt, map, length, take, if◌then◌else◌, option_copied};
 ghost use Rattle.vp_model.specs.Words.{first};
 ghost use Rattle.vp_mail.specs.Queues.{pair_of, waiting, AreBelow, AreSites, AreSited};
 ghost use Rattle.vp_mail.specs.Posted.{message_in, post_messages, first_number};
@@ -141,15 +141,18 @@ impl Mail {
         self.sent.get(k as usize - 1)
     }
 
-    /// Delivers message `k`, which goes from site to site; it may be delivered again. Where memory is lacking, the mail stays as it is.
-    pub fn deliver(&mut self, k: u32, from: SiteId, to: SiteId) -> Result<(), NoMemory>
-        requires { IfSome (message_in k self.old.sent) (λ sent. (sent.from ≡ from) × (sent.to ≡ to)) }
+    /// Delivers message `k`; it may be delivered again. Where memory is lacking, the mail stays as it is.
+    pub fn deliver(&mut self, k: u32) -> Result<(), NoMemory>
+        requires { IsSome (message_in k self.old.sent) }
         ensures delivered { OnOk result
             (self.new ≡ record self.old { delivered = self.old.delivered ++ k ∷ [] }) }
         ensures err { OnErr result (self.new ≡ self.old) }
     {
+        let Some(sent) = self.message(k) else {
+            unreachable!()
+        };
+        let pair = pair_of(sent.from(), sent.to());
         self.delivered.push(k)?;
-        let pair = pair_of(from, to);
         let queue = &mut self.queues[pair];
         queue.take(k);
         self.firsts[pair] = queue.first();
