@@ -13,7 +13,7 @@ ghost use Rattle.vp_participant.specs.Refusals.{lock_refusal, lock_refused, obst
 ghost use Rattle.vp_participant.specs.Doubts.{doubt_ended, is_written};
 ghost use Rattle.vp_participant.specs.Ballots.{ballot, ballot_of, first_ballot};
 
-use crate::doubts::{add_doubt, add_doubted, is_in_doubt, is_written, lock_doubts, take_doubt};
+use crate::doubts::{DoubtList, lock_doubts};
 use crate::fault::{PartFault, PrepareFault};
 use crate::held::{id_of, is_held};
 use crate::parts::mark_voted;
@@ -21,10 +21,9 @@ use crate::requests::{Prepare, Request};
 use std::alloc::Global;
 use std::marker::Model;
 use vp_base::{
-    Bars, Change, CopyOf, Doubt, InDoubt, Lock, LogRecord, NoMemory, Owner, Part, RecId, TxnId,
-    Txns, View, ViewId, Writes,
+    Bars, Change, CopyOf, InDoubt, Lock, LogRecord, NoMemory, Owner, Part, RecId, TxnId, Txns,
+    View, ViewId, Writes,
 };
-use vp_lists::copy_all;
 use vp_locks::{Keeps, Locks};
 use vp_records::Durable;
 use vp_tables::{Table, TxnSet};
@@ -48,7 +47,7 @@ pub struct Settled {
 /// this and the lock table that was lent may be changed in part: drop both.
 pub struct Participant {
     parts: Table<Part>,
-    doubts: Vec<Doubt>,
+    doubts: DoubtList,
     ended: TxnSet,
 }
 
@@ -67,7 +66,7 @@ impl Model for Participant {
 
     ghost Value = { ParticipantState };
 
-    ghost view = { λ p. record { parts = p.parts; doubts = p.doubts.items; ended = p.ended } };
+    ghost view = { λ p. record { parts = p.parts; doubts = p.doubts; ended = p.ended } };
 }
 
 impl Participant {
@@ -82,11 +81,11 @@ impl Participant {
             (λ p. p ≡ record { parts = []; doubts = durable.now.doubts; ended = [] }) }
         ensures locks { OnOk result (locks.new ≡ locks.old ++ flat_map locks_in_doubt durable.now.doubts) }
     {
-        let doubts = durable.doubts().as_slice();
-        lock_doubts(locks, doubts)?;
+        let doubts = durable.doubts();
+        lock_doubts(locks, doubts.as_slice())?;
         Ok(Participant {
             parts: Table::new(alloc),
-            doubts: copy_all(alloc, doubts)?,
+            doubts: DoubtList::copied(alloc, doubts)?,
             ended: TxnSet::new(alloc),
         })
     }
@@ -95,7 +94,7 @@ impl Participant {
     fn join(&mut self, txn: &TxnId, view: ViewId) -> Result<(), NoMemory>
         ensures { OnOk result (self.new ≡ with_part txn.now view self.old) }
     {
-        if self.parts.has(txn) || is_in_doubt(&self.doubts, txn) {
+        if self.parts.has(txn) || self.doubts.has(txn) {
             return Ok(());
         }
         self.parts.put(Part {
@@ -186,7 +185,7 @@ impl Participant {
         ensures doubt { OnOk result (self.new ≡ with_new_doubt part.now writes.now self.old) }
     {
         self.parts.remove(&part.txn);
-        add_doubt(&mut self.doubts, part, writes)?;
+        self.doubts.add(part, writes)?;
         Ok(LogRecord::Yes {
             txn: part.txn,
             view: part.view,
@@ -250,7 +249,7 @@ impl Participant {
         if let Some(why) = self.refusal(held, &asked.txn, asked.view) {
             return Err(why);
         }
-        if is_in_doubt(&self.doubts, &asked.txn) {
+        if self.doubts.has(&asked.txn) {
             return Ok(Voted::Yes { forced: None });
         }
         match self.parts.get(&asked.txn).copied() {
@@ -277,10 +276,10 @@ impl Participant {
         self.parts.remove(&txn);
         locks.release(txn);
         Ok(Settled {
-            doubt: take_doubt(&mut self.doubts, &txn).map(|doubt| (
-                doubt.view,
-                doubt.into_writes(),
-            )),
+            doubt: self
+                .doubts
+                .take(&txn)
+                .map(|doubt| (doubt.view, doubt.into_writes())),
         })
     }
 
@@ -288,15 +287,14 @@ impl Participant {
     pub fn doubts(&self, rec: RecId) -> bool
         ensures { result ≡ is_written self.now.doubts rec }
     {
-        is_written(&self.doubts, rec)
+        self.doubts.writes(rec)
     }
 
     /// Copies the transactions in doubt, with their views and writes.
     pub fn in_doubt(&self) -> Result<InDoubt, NoMemory>
         ensures { IfOk result (λ doubts. doubts ≡ self.now.doubts) }
     {
-        let doubts = copy_all(*self.doubts.allocator(), &self.doubts)?;
-        Ok(InDoubt::from_vec(doubts))
+        self.doubts.list()
     }
 
     /// The transactions with a part here or in doubt here, whose outcomes are not known, ascending.
@@ -304,7 +302,7 @@ impl Participant {
         ensures { IfOk result (λ txns. txns ≡ known self.now) }
     {
         let mut txns = self.parts.names()?;
-        add_doubted(&mut txns, &self.doubts)?;
+        self.doubts.add_names(&mut txns)?;
         Ok(Txns::from_vec(txns))
     }
 
@@ -328,7 +326,7 @@ impl Keeps for Participant {
     fn keeps(&self, lock: &Lock) -> bool {
         match &lock.owner {
             Owner::Refresh => false,
-            Owner::Txn(txn) if is_in_doubt(&self.doubts, txn) => lock.exclusive,
+            Owner::Txn(txn) if self.doubts.has(txn) => lock.exclusive,
             Owner::Txn(txn) => !self.parts.has(txn),
         }
     }
