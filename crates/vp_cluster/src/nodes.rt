@@ -108,14 +108,9 @@ impl Nodes {
         ensures letters { self.new.letters ≡ self.old.letters }
         ensures same { self.new.catalogue ≡ self.old.catalogue }
     {
-        let Nodes {
-            hosts,
-            letters,
-            room,
-        } = self;
-        match letter_of(hosts.catalog(), letters, room, event)? {
+        match letter_of(self.hosts.catalog(), &self.letters, &mut self.room, event)? {
             None => Ok(None),
-            Some(letter) => hosts.stop(site, &letter, stop),
+            Some(letter) => self.hosts.stop(site, &letter, stop),
         }
     }
 }
@@ -135,17 +130,12 @@ impl Stepper for Nodes {
         site: Site,
         _: &LentInput,
     ) -> Result<(Site, Effects), NoMemory> {
-        let Nodes {
-            hosts,
-            letters,
-            room,
-        } = self;
-        let Some(letter) = letter_of(hosts.catalog(), letters, room, event)? else {
-            unreachable!()
-        };
+        let letter = letter_of(self.hosts.catalog(), &self.letters, &mut self.room, event)?;
+        let Some(letter) = letter else { unreachable!() };
         let from = letter.to;
-        let (site, TurnEffects { effects, .. }) = hosts.handle(site, &letter)?;
-        letters.put_all(hosts.catalog(), from, effects.messages.as_slice())?;
+        let (site, TurnEffects { effects, .. }) = self.hosts.handle(site, &letter)?;
+        let messages = effects.messages.as_slice();
+        self.letters.put_all(self.hosts.catalog(), from, messages)?;
         Ok((site, effects))
     }
 
