@@ -15,9 +15,10 @@ use crate::words::{
 };
 use std::alloc::Global;
 use vp_base::{
-    Answer, Commit, Event, Line, NoMemory, RecId, Reply, Sent, Shown, SiteId, View, ViewId, Word,
+    Answer, Commit, Event, NoMemory, RecId, Reply, Sent, Shown, SiteId, View, ViewId, Word,
 };
 use vp_catalog::Catalog;
+use vp_trace::LentLine;
 
 /// The index of the colour of locks, after those of views.
 const LOCKS: u64 = 12;
@@ -172,7 +173,7 @@ impl Sheet {
         &mut self,
         catalog: &Catalog,
         number: u32,
-        line: &Line,
+        line: &LentLine,
         looks: &[(SiteId, Look)],
         joined: &Option<View>,
     ) -> Result<(), NoMemory>
@@ -183,7 +184,7 @@ impl Sheet {
         if is_drawn {
             self.draw_step(catalog, number, line, looks, joined)
         } else {
-            self.hide(catalog, &line.shown)
+            self.hide(catalog, line.shown)
         }
     }
 
@@ -192,18 +193,18 @@ impl Sheet {
         &mut self,
         catalog: &Catalog,
         is_drawn: bool,
-        line: &Line,
+        line: &LentLine,
     ) -> Result<(), NoMemory>
         ensures { OnOk result
             (self.new ≡ with_arrow catalog.now is_drawn line.now.event line.now.shown self.old) }
     {
-        let Event::Deliver { k } = &line.event else {
+        let Event::Deliver { k } = line.event else {
             return Ok(());
         };
         let Some(mark) = self.mark(*k) else {
             return Ok(());
         };
-        let arrow = self.delivery(catalog, is_drawn, &line.shown, mark);
+        let arrow = self.delivery(catalog, is_drawn, line.shown, mark);
         self.came.push(u64::from(*k))?;
         self.draw_arrow(arrow)
     }
@@ -259,17 +260,17 @@ impl Sheet {
         &mut self,
         catalog: &Catalog,
         number: u32,
-        line: &Line,
+        line: &LentLine,
         looks: &[(SiteId, Look)],
         joined: &Option<View>,
     ) -> Result<(), NoMemory>
         ensures { OnOk result (self.new ≡ draw_step catalog.now number line.now looks.now joined.now self.old) }
     {
         let y = top(self.lines);
-        let x = self.event_x(catalog, &line.event);
-        self.draw_arrow(cut_of(catalog, y + 18, &line.event))?;
-        self.say_event(x, number, &line.event)?;
-        self.say_shown(catalog, x, &line.shown)?;
+        let x = self.event_x(catalog, line.event);
+        self.draw_arrow(cut_of(catalog, y + 18, line.event))?;
+        self.say_event(x, number, line.event)?;
+        self.say_shown(catalog, x, line.shown)?;
         self.say_view(catalog, x, joined)?;
         self.draw_looks(catalog, y, looks)
     }

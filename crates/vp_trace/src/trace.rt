@@ -10,7 +10,8 @@ use crate::answers::print_answer;
 use crate::calls::print_event;
 use crate::fields::{print_count, print_site, print_txn, print_view, print_word};
 use crate::messages::print_message;
-use vp_base::{Commit, Line, NoMemory, Reply, Sent, Shown, SiteId};
+use crate::line::LentLine;
+use vp_base::{Commit, NoMemory, Reply, Sent, Shown, SiteId};
 use vp_catalog::Catalog;
 use vp_text::print_number;
 
@@ -139,7 +140,7 @@ fn print_shown(catalog: &Catalog, shown: &Shown, out: &mut Vec<u8>) -> Result<()
 /// Appends the line `number EVENT` and the lines of what the event gave. After an error a beginning of them may have been appended.
 pub fn print_line(
     number: u32,
-    line: &Line,
+    line: &LentLine,
     catalog: &Catalog,
     out: &mut Vec<u8>,
 ) -> Result<(), NoMemory>
@@ -147,7 +148,7 @@ pub fn print_line(
 {
     print_count(out, number)?;
     out.push(b' ')?;
-    print_event(&line.event, out)?;
+    print_event(line.event, out)?;
     out.push(b'\n')?;
-    print_shown(catalog, &line.shown, out)
+    print_shown(catalog, line.shown, out)
 }
