@@ -9,8 +9,8 @@ ghost use Rattle.vp_model.specs.Texts.Trace.{commit_line, sent_line, sent_lines,
 use crate::answers::print_answer;
 use crate::calls::print_event;
 use crate::fields::{print_count, print_site, print_txn, print_view, print_word};
-use crate::messages::print_message;
 use crate::line::LentLine;
+use crate::messages::print_message;
 use vp_base::{Commit, NoMemory, Reply, Sent, Shown, SiteId};
 use vp_catalog::Catalog;
 use vp_text::print_number;
