@@ -26,8 +26,7 @@ use Rattle.vp_world.specs.Steps.{asked_of, IsReady}
 use Rattle.vp_runs.specs.Kept.{kept_in as batches_in}
 use Rattle.vp_runs.proofs.Happened.{Acts, Effect}
 use Rattle.vp_runs.proofs.Datagrams.{has_port}
-use Rattle.vp_cluster.specs.declared.letter.Letter.{Letter}
-use Rattle.vp_cluster.specs.Letter.{as_received}
+use Rattle.vp_cluster.specs.Letter.{Letter, as_received}
 use Rattle.vp_cluster.specs.Letters.{letter_of}
 use Rattle.vp_cluster.specs.Hosts.{IsAt, Lends, turn_at}
 use Rattle.vp_cluster.specs.Ports.{LendsAt}

@@ -1,13 +1,13 @@
 -- A letter that comes changes the nodes as it changes their hosts.
-use Rattle.std.proofs.Common.{◌≡◌, sym, subst, List, ◌++◌, length, take, map}
-use Rattle.std.specs.Prelude.{Option, Some, Result, Ok, Err, OnOk}
+use Rattle.std.proofs.Common.{◌≡◌, sym, subst, List, ◌++◌, map}
+use Rattle.std.specs.Prelude.{Option, Some, Result, Ok, Err, OnOk, flat_map}
 use Rattle.vp_model.specs.Types.{Event}
 use Rattle.vp_model.specs.Catalogue.{Catalogue}
 use Rattle.vp_model.specs.Site.{SiteState}
+use Rattle.vp_runs.specs.Turns.{message_datagram}
 use Rattle.vp_node.specs.declared.turned.TurnEffects.{TurnEffects}
-use Rattle.vp_cluster.specs.declared.letter.Letter.{Letter}
 use Rattle.vp_cluster.specs.Hosts.{HostValue, Stops, Takes}
-use Rattle.vp_cluster.specs.Letter.{as_received}
+use Rattle.vp_cluster.specs.Letter.{Letter, as_received}
 use Rattle.vp_cluster.specs.Letters.{sent_from, letter_of}
 use Rattle.vp_cluster.specs.Ports.{ChangesAt}
 use Rattle.vp_cluster.specs.declared.host.StoppedLog.{StoppedLog}
@@ -15,7 +15,7 @@ use Rattle.vp_cluster.specs.Nodes.{NodesValue, Comes, Posts, StopsWith}
 
 pub letter_came : (letter : Letter) (site after : SiteState) (turn_effects : TurnEffects) (catalogue : Catalogue) (hosts next : List HostValue) (letters more : List Letter) (old : NodesValue)
     → record { catalogue = catalogue; hosts = hosts; letters = letters } ≡ old
-    → ChangesAt letter.to (λ host next. Takes catalogue (as_received letter) site host next after turn_effects) hosts next → more ≡ letters ++ map (sent_from letter.to) (take (length turn_effects.effects.messages) turn_effects.datagrams)
+    → ChangesAt letter.to (λ host next. Takes catalogue (as_received letter) site host next after turn_effects) hosts next → more ≡ letters ++ map (sent_from letter.to) (flat_map (message_datagram catalogue) turn_effects.effects.messages)
     → Comes letter site old (record { catalogue = catalogue; hosts = next; letters = more })
 letter_came letter site after turn_effects catalogue hosts next letters more old is changes put =
     subst (λ (old : NodesValue). Comes letter site old (record { catalogue = catalogue; hosts = next; letters = more })) is (after, turn_effects, changes, put)

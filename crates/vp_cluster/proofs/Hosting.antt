@@ -86,7 +86,7 @@ module _ (catalogue : Catalogue) (d : Datagram) (site : SiteState) (id port : �
     turned_at : (batches : List (List LogRecord)) → StandsAt from batches (log_in before) → IsAt (after_turn (node_at site batches) turn).batches (Some turn.site) following
     turned_at batches stands = record { has = have (stands_kept batches stands); is_up = refl; stands = stands_kept batches stands }
 
-  takes_turn : (turn_effects : TurnEffects) → IsHost catalogue before → asked_of new ≡ asked_of old → Gives turn after turn_effects → IsStepOf catalogue site (arrival catalogue site.id d) after.site turn_effects.effects
+  takes_turn : (turn_effects : TurnEffects) → IsHost catalogue before → asked_of new ≡ asked_of old → Gives catalogue site.id turn after turn_effects → IsStepOf catalogue site (arrival catalogue site.id d) after.site turn_effects.effects
       → Steps (Saves turn from after.at) (state_after old true 0) (state_after new true 0) → IsKept catalogue after (state_after new true 0) → Takes catalogue d site before following after.site turn_effects
   takes_turn turn_effects is asked gives stepped saved kept = record {
     stays = record {
@@ -95,13 +95,12 @@ module _ (catalogue : Catalogue) (d : Datagram) (site : SiteState) (id port : �
       same_port = refl;
     };
     site_is = gives.site;
-    datagrams_are = gives.datagrams;
     stepped = stepped;
     up = λ batches h. turned_at asked saved batches h.stands;
   }
 
 pub takes : (catalogue : Catalogue) (d : Datagram) (site : SiteState) (host : HostValue) (new : List Change) (from : Standing) (after : NodeValue) (turn_effects : TurnEffects) → host.log ≡ Some from → IsHost catalogue host
-    → asked_of new ≡ asked_of host.disk → Gives (turn_at catalogue site d) after turn_effects → IsStepOf catalogue site (arrival catalogue site.id d) after.site turn_effects.effects
+    → asked_of new ≡ asked_of host.disk → Gives catalogue site.id (turn_at catalogue site d) after turn_effects → IsStepOf catalogue site (arrival catalogue site.id d) after.site turn_effects.effects
     → Steps (Saves (turn_at catalogue site d) from after.at) (disk_of host) (state_after new true 0) → IsKept catalogue after (state_after new true 0)
     → Takes catalogue d site host (host_with host.id host.port new (Some after.at)) after.site turn_effects
 takes catalogue d site host new from after turn_effects up is asked gives stepped saved kept =
@@ -217,7 +216,7 @@ module _ (catalogue : Catalogue) (parts host : HostValue) (same : parts ≡ host
       (what : Arrival) (comes : what ≡ arrival catalogue parts.id d) (new : List Change) (asked : asked_of new ≡ asked_of parts.disk) where
     abbrev Gave : NodeValue → Arrival → NodeValue → TurnEffects → Type 0
     Gave node what after turn_effects =
-        Gives (turn_on catalogue node.site what) after turn_effects × IsStepOf catalogue node.site what after.site turn_effects.effects
+        Gives catalogue node.site.id (turn_on catalogue node.site what) after turn_effects × IsStepOf catalogue node.site what after.site turn_effects.effects
         × Steps (Saves (turn_on catalogue node.site what) node.at after.at) (disk_of parts) (state_after new true 0)
 
     pub parts_take : (after : NodeValue) (turn_effects : TurnEffects) (back : SiteState × Standing) → back ≡ (after.site, after.at) → Gave node what after turn_effects → IsKept catalogue after (state_after new true 0)

@@ -6,7 +6,6 @@ mod HostStops
 mod Hosting
 mod Replaced
 pub mod Acting
-mod Calls
 mod Coming
 mod Filed
 mod Found

@@ -1,6 +1,6 @@
 -- The letter that an event brings to a site, and the letters of the messages of a step.
-use Rattle.std.proofs.Common.{◌≡◌, ◌≢◌, ◌∙◌, ap, sym, ℕ, ◌-◌, Bool, true, false, cond, List, ◌∷◌, [], ◌++◌, length, map, refl, arith}
-use Rattle.std.specs.Prelude.{Option, Some, None, ◌==◌, nat_eq, slice_get, find, take, flat_map, option_map}
+use Rattle.std.proofs.Common.{◌≡◌, ◌≢◌, ◌∙◌, ap, sym, ℕ, ◌-◌, Bool, true, false, cond, List, ◌∷◌, [], ◌++◌, map, refl, arith}
+use Rattle.std.specs.Prelude.{Option, Some, None, ◌==◌, nat_eq, slice_get, find, flat_map, option_map}
 use Rattle.std.specs.Option.{option_map_or}
 use Rattle.std.specs.List.{IsDistinct}
 use Rattle.std.proofs.lemmas.Bool.Decides.{nat_tests}
@@ -26,8 +26,7 @@ use Rattle.vp_runs.specs.Asking.{call_frame}
 use Rattle.vp_runs.specs.Turns.{datagram_to, message_datagram}
 use Rattle.vp_runs.proofs.Arriving.{messages_arrive, calls_arrive}
 use Rattle.vp_runs.proofs.Datagrams.{has_port, own, no_port, tick_comes, probe_comes}
-use Rattle.vp_cluster.specs.declared.letter.Letter.{Letter}
-use Rattle.vp_cluster.specs.Letter.{as_received}
+use Rattle.vp_cluster.specs.Letter.{Letter, as_received}
 use Rattle.vp_cluster.specs.Letters.{letter_to, sent_from, letter_of, port_of, letter_for}
 
 -- ---- ports
@@ -140,22 +139,18 @@ module _ (catalogue : Catalogue) (k : IsCatalogue catalogue) where
 
   -- ---- what a step sends
 
-  one_more : (m : Sent) (ms : List Sent) (d : Datagram) (ds rest more : List Datagram) → ds ≡ d ∷ [] → take (length (m ∷ ms)) ((ds ++ rest) ++ more) ≡ d ∷ take (length ms) (rest ++ more)
-  one_more m ms d ds rest more e = rw e refl
-
   letter_is : (m : Sent) (from to : ℕ) → value_at m.from catalogue.sites ≡ Some from → value_at m.to catalogue.sites ≡ Some to → sent_from from (datagram_to to (message_frame m)) ≡ letter_for catalogue m
   letter_is m from to f t = rw (sym (port_is m.from from f), sym (port_is m.to to t)) refl
 
-  -- the first datagrams of a step are its messages' letters
-  pub posted : (s port : ℕ) → value_at s catalogue.sites ≡ Some port → (messages : List Sent) → ((m : Sent) → Has messages m → (m.from ≡ s) × Has (sites_of catalogue) m.to) → (more : List Datagram)
-      → map (sent_from port) (take (length messages) (flat_map (message_datagram catalogue) messages ++ more)) ≡ map (letter_for catalogue) messages
-  posted s port at [] all more = refl
-  posted s port at (m ∷ ms) all more =
+  -- the datagrams of a step's messages are their letters
+  pub posted : (s port : ℕ) → value_at s catalogue.sites ≡ Some port → (messages : List Sent) → ((m : Sent) → Has messages m → (m.from ≡ s) × Has (sites_of catalogue) m.to)
+      → map (sent_from port) (flat_map (message_datagram catalogue) messages) ≡ map (letter_for catalogue) messages
+  posted s port at [] all = refl
+  posted s port at (m ∷ ms) all =
       let q = all m (has_first m ms) in
       let to = has_port catalogue.sites m.to q.1 in
       let from : value_at m.from catalogue.sites ≡ Some port = ap (λ (s : ℕ). value_at s catalogue.sites) q.0 ∙ at in
-      let d : Datagram = datagram_to to.0 (message_frame m) in
-      let one : message_datagram catalogue m ≡ d ∷ [] = ap (λ (o : Option ℕ). option_map_or (λ port. datagram_to port (message_frame m) ∷ []) o []) to.1 in
-      ap (map (sent_from port)) (one_more m ms d (message_datagram catalogue m) (flat_map (message_datagram catalogue) ms) more one)
-      ∙ ap (λ (letter : Letter). letter ∷ map (sent_from port) (take (length ms) (flat_map (message_datagram catalogue) ms ++ more))) (letter_is m port to.0 from to.1)
-      ∙ ap (λ (letters : List Letter). letter_for catalogue m ∷ letters) (posted s port at ms (λ m h. all m (has_more _ ms m h)) more)
+      let one : message_datagram catalogue m ≡ datagram_to to.0 (message_frame m) ∷ [] = ap (λ (o : Option ℕ). option_map_or (λ port. datagram_to port (message_frame m) ∷ []) o []) to.1 in
+      ap (λ (ds : List Datagram). map (sent_from port) (ds ++ flat_map (message_datagram catalogue) ms)) one
+      ∙ ap (λ (letter : Letter). letter ∷ map (sent_from port) (flat_map (message_datagram catalogue) ms)) (letter_is m port to.0 from to.1)
+      ∙ ap (λ (letters : List Letter). letter_for catalogue m ∷ letters) (posted s port at ms (λ m h. all m (has_more _ ms m h)))

@@ -1,6 +1,6 @@
 -- Nodes that do what one moment brings stay tied to it.
-use Rattle.std.proofs.Common.{◌≡◌, ◌≢◌, ◌∙◌, ap, sym, subst, ℕ, ◌+◌, ◌-◌, ◌^◌, ◌==◌, cond, true, false, arith, List, ◌∷◌, [], ◌++◌, length, map, refl, ⊎_elim}
-use Rattle.std.specs.Prelude.{Option, Some, None, is_some, option_map, option_and_then, take}
+use Rattle.std.proofs.Common.{◌≡◌, ◌≢◌, ◌∙◌, ap, sym, subst, ℕ, ◌+◌, ◌-◌, ◌^◌, ◌==◌, cond, true, false, arith, List, ◌∷◌, [], ◌++◌, map, refl, ⊎_elim}
+use Rattle.std.specs.Prelude.{Option, Some, None, is_some, option_map, option_and_then, flat_map}
 use Rattle.std.specs.Option.{option_map_or}
 use Rattle.std.proofs.lemmas.Bool.Decides.{nat_tests}
 use Rattle.std.proofs.lemmas.List.{map-append}
@@ -20,10 +20,9 @@ use Rattle.vp_laws.proofs.Lists.Views.{same_site}
 use Rattle.vp_laws.proofs.Worlds.Scenes.{place-id}
 use Rattle.vp_laws.proofs.Table.Views.{local-step}
 use Rattle.vp_laws.proofs.Table.Durable.{step-folds}
-use Rattle.vp_outside.specs.declared.datagram.Datagram.{Datagram}
 use Rattle.vp_runs.specs.Keeping.{durable_in, kept_with}
 use Rattle.vp_runs.specs.Runs.{start_node, after_turn}
-use Rattle.vp_runs.specs.Turns.{Turn, step_turn, datagrams_of, reply_datagram}
+use Rattle.vp_runs.specs.Turns.{Turn, step_turn, message_datagram}
 use Rattle.vp_runs.specs.Kept.{with_life, kept_after, kept_in as batches_in}
 use Rattle.vp_runs.proofs.Happened.{Leaves, LeavesIt, LeavesOthers, Acts, put_down, RestartEffect, IsPlain, Effect, happened}
 use Rattle.vp_runs.proofs.Folds.{folds_on}
@@ -31,8 +30,7 @@ use Rattle.vp_node.specs.declared.turned.TurnEffects.{TurnEffects}
 use Rattle.vp_world.specs.Asked.{Asked, life_start, restart_asked}
 use Rattle.vp_world.specs.Places.{Did}
 use Rattle.vp_world.specs.Steps.{asked_of, DoesEvent}
-use Rattle.vp_cluster.specs.declared.letter.Letter.{Letter}
-use Rattle.vp_cluster.specs.Letter.{as_received}
+use Rattle.vp_cluster.specs.Letter.{Letter, as_received}
 use Rattle.vp_cluster.specs.Letters.{sent_from, letter_of, letter_for}
 use Rattle.vp_cluster.specs.Hosts.{HostValue, IsAt, node_at, turn_at, Takes, Crashes, Restarts}
 use Rattle.vp_cluster.specs.Ports.{host_at, ChangesOf}
@@ -189,13 +187,10 @@ module _ (catalogue : Catalogue) (k : IsCatalogue catalogue) (m : Moment) (momen
         let was = subst (λ (up : Option SiteState). IsAt (log s) up own.host) (acting.up_is catalogue k m moments old facts tied s a) own.at in
         subst (λ (turn : Turn). IsAt (after_turn (node_at a.x (log s)) turn).batches (Some turn.site) host_now.0) turn_is (host_now.2.up (log s) was)
 
-    datagrams_are : turn_effects.datagrams ≡ taken.datagrams
-    datagrams_are = host_now.2.datagrams_are ∙ ap (λ (turn : Turn). turn.datagrams) turn_is
-
-    as_many : length turn_effects.effects.messages ≡ length effects.messages
-    as_many =
+    messages_are : turn_effects.effects.messages ≡ effects.messages
+    messages_are =
         let stepped = host_now.2.stepped a.given (acting.comes catalogue k m moments old facts tied s a) in
-        ap (λ (o : Stepped). length o.effects.messages) stepped ∙ ap (λ (c : Catalogue). length (step c a.x a.given).effects.messages) tied.catalogue_is
+        ap (λ (o : Stepped). o.effects.messages) stepped ∙ ap (λ (c : Catalogue). (step c a.x a.given).effects.messages) tied.catalogue_is
 
     left : (after_step (step catalogue a.x a.given) own.place).durable ≡ durable_of (step catalogue a.x a.given).site
     left = ap (apply_all effects.records) (acting.durable_is catalogue k m moments old facts tied s a) ∙ step-folds catalogue a.x a.given
@@ -222,12 +217,11 @@ module _ (catalogue : Catalogue) (k : IsCatalogue catalogue) (m : Moment) (momen
         let local = local-step catalogue a.x a.given (facts.views.site s a.x a.up).tidy in
         ((local.sent sent h).0 ∙ is_id, facts.routed sent (subst (λ (all : List Sent). Has all sent) (sym a.sent_is) (has_right m.before.sent effects.messages sent h)))
 
-    letters_more : map (sent_from letter.0.to) (take (length turn_effects.effects.messages) turn_effects.datagrams) ≡ map (letter_for catalogue) effects.messages
-    unfolding datagrams_of
+    letters_more : map (sent_from letter.0.to) (flat_map (message_datagram old.catalogue) turn_effects.effects.messages) ≡ map (letter_for catalogue) effects.messages
     letters_more =
-        ap (λ (count : ℕ). map (sent_from letter.0.to) (take count turn_effects.datagrams)) as_many
-        ∙ ap (λ (given : List Datagram). map (sent_from letter.0.to) (take (length effects.messages) given)) datagrams_are
-        ∙ posted catalogue k s letter.0.to letter.2.to_is effects.messages from_here (map (reply_datagram a.x.id) effects.replies)
+        ap (λ (messages : List Sent). map (sent_from letter.0.to) (flat_map (message_datagram old.catalogue) messages)) messages_are
+        ∙ ap (λ (c : Catalogue). map (sent_from letter.0.to) (flat_map (message_datagram c) effects.messages)) tied.catalogue_is
+        ∙ posted catalogue k s letter.0.to letter.2.to_is effects.messages from_here
 
     letters_now : new.letters ≡ map (letter_for catalogue) m.after.sent
     letters_now =

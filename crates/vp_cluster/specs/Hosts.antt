@@ -93,7 +93,6 @@ turn_at catalogue site d = turn_on catalogue site (arrival catalogue site.id d)
 pub record Takes (catalogue : Catalogue) (d : Datagram) (site : SiteState) (old new : HostValue) (after : SiteState) (turn_effects : TurnEffects) : Type 0 where
   pub stays : Stays catalogue old new
   pub site_is : after ≡ (turn_at catalogue site d).site
-  pub datagrams_are : turn_effects.datagrams ≡ (turn_at catalogue site d).datagrams
   pub stepped : IsStepOf catalogue site (arrival catalogue site.id d) after turn_effects.effects
   pub up : (batches : List (List LogRecord)) → IsAt batches (Some site) old → IsAt (after_turn (node_at site batches) (turn_at catalogue site d)).batches (Some (turn_at catalogue site d).site) new
 

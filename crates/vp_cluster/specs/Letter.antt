@@ -1,6 +1,12 @@
 -- Datagrams between the ports of a cluster.
+use Rattle.std.specs.Prelude.{ℕ, List}
 use Rattle.vp_outside.specs.declared.datagram.Datagram.{Datagram}
-use Rattle.vp_cluster.specs.declared.letter.Letter.{Letter}
+
+-- a datagram on its way from one port to another
+pub record Letter : Type 0 where
+  pub from : ℕ
+  pub to : ℕ
+  pub bytes : List ℕ
 
 -- a letter as its receiver gets it
 abbrev pub as_received : Letter → Datagram

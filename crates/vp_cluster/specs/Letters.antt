@@ -11,7 +11,7 @@ use Rattle.vp_wire.specs.declared.frame.Frame.{Frame}
 use Rattle.vp_wire.specs.declared.frame.Body.TheVariants as body
 use Rattle.vp_wire.specs.Grammar.{frame_of, frame_bytes}
 use Rattle.vp_runs.specs.Asking.{call_frame}
-use Rattle.vp_cluster.specs.declared.letter.Letter.{Letter}
+use Rattle.vp_cluster.specs.Letter.{Letter}
 use Rattle.vp_cluster.specs.declared.sent_letters.LetterSpan.{LetterSpan}
 
 -- the frame in a letter from port 0, which is no site's, to the port of the site

@@ -1,5 +1,5 @@
 -- The nodes of a cluster: what they may be asked for, and what they make of that.
-use Rattle.std.specs.Prelude.{◌≡◌, ℕ, List, [], ◌++◌, map, length, take, Option, Some, None}
+use Rattle.std.specs.Prelude.{◌≡◌, ℕ, List, [], ◌++◌, map, flat_map, Option, Some, None}
 use Rattle.vp_model.specs.Types.{Event, Input, LogRecord}
 use Rattle.vp_model.specs.Words.{value_at}
 use Rattle.vp_model.specs.Catalogue.{Catalogue}
@@ -8,12 +8,12 @@ use Rattle.vp_runs.specs.declared.arrival.Arrival.TheVariants as arrives
 use Rattle.vp_laws.specs.ShapeLaws.{IsEvent}
 use Rattle.vp_runs.specs.Arrivals.{arrival}
 use Rattle.vp_runs.specs.Keeping.{durable_in}
+use Rattle.vp_runs.specs.Turns.{message_datagram}
 use Rattle.vp_world.specs.Asked.{Asked, life_start}
 use Rattle.vp_node.specs.declared.turned.TurnEffects.{TurnEffects}
-use Rattle.vp_cluster.specs.declared.letter.Letter.{Letter}
 use Rattle.vp_cluster.specs.declared.host.StoppedLog.{StoppedLog}
 use Rattle.vp_cluster.specs.Hosts.{HostValue, IsAt, Takes, Stops, Crashes, Restarts, Begins}
-use Rattle.vp_cluster.specs.Letter.{as_received}
+use Rattle.vp_cluster.specs.Letter.{Letter, as_received}
 use Rattle.vp_cluster.specs.Ports.{host_at, LendsAt, ChangesAt, ChangesOf}
 use Rattle.vp_cluster.specs.Letters.{sent_from, letter_of}
 
@@ -53,12 +53,12 @@ MayDo catalogue (Asked.restarts id site) nodes = MayRestart catalogue id site no
 
 -- ---- what they do
 
--- The letter comes to the host at its port, to which this site is lent. The first of the datagrams of its turn are those of the messages
--- of its step, and are letters from then on.
+-- The letter comes to the host at its port, to which this site is lent. The datagrams of the messages of its step are letters from then
+-- on.
 abbrev pub Comes : Letter → SiteState → NodesValue → NodesValue → Type 0
 Comes letter site old new = (after : SiteState) × (turn_effects : TurnEffects)
     × ChangesAt letter.to (λ host next. Takes old.catalogue (as_received letter) site host next after turn_effects) old.hosts new.hosts
-    × (new.letters ≡ old.letters ++ map (sent_from letter.to) (take (length turn_effects.effects.messages) turn_effects.datagrams))
+    × (new.letters ≡ old.letters ++ map (sent_from letter.to) (flat_map (message_datagram old.catalogue) turn_effects.effects.messages))
 
 -- The event's letter comes, to this site.
 pub record Posts (e : Event) (site : SiteState) (old new : NodesValue) : Type 0 where

@@ -5,6 +5,7 @@ ghost use Rattle.vp_cluster.specs.Hosts.{IsHost, Lends, Begins, Takes, Crashes, 
 ghost use Rattle.vp_cluster.specs.Letter.{as_received};
 ghost use Rattle.vp_cluster.specs.Stops.{is_kept};
 ghost use Rattle.vp_model.specs.Words.{value_at};
+ghost use Rattle.vp_node.specs.Taking.{AreFrames};
 ghost use Rattle.vp_outside.specs.Disk.{half_of};
 ghost use Rattle.vp_world.specs.Asked.{IfStarted};
 
@@ -119,6 +120,7 @@ impl Host {
         requires lent { Lends catalog.now site self.old }
         ensures takes { IfOk result
             (λ it. Takes catalog.now (as_received letter.now) site self.old self.new it.0 it.1) }
+        ensures frames { IfOk result (λ it. AreFrames site.id it.1.effects) }
         ensures host { IsHost catalog.now self.new }
         ensures place { address_of self.new ≡ address_of self.old }
     {

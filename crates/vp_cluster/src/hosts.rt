@@ -6,6 +6,7 @@ ghost use Rattle.vp_cluster.specs.Hosts.{Takes, Crashes, Restarts, Stops, site_l
 ghost use Rattle.vp_cluster.specs.Letter.{as_received};
 ghost use Rattle.vp_cluster.specs.Stops.{is_kept};
 ghost use Rattle.vp_cluster.specs.Ports.{AreBegun, AreHosts, HasHost, LendsAt, ChangesAt, ChangesOf};
+ghost use Rattle.vp_node.specs.Taking.{AreFrames};
 ghost use Rattle.vp_world.specs.Asked.{IfStarted};
 
 use crate::host::{Host, Logs, SiteLog, StoppedLog};
@@ -106,6 +107,7 @@ impl Hosts {
             (λ it. ChangesAt letter.now.to
             (λ host after. Takes self.old.catalogue (as_received letter.now) site host after it.0 it.1)
             self.old.hosts self.new.hosts) }
+        ensures frames { IfOk result (λ it. AreFrames site.id it.1.effects) }
         ensures same { self.new.catalogue ≡ self.old.catalogue }
         ensures hosts { AreHosts self.new.catalogue self.new.hosts }
     {

@@ -1,6 +1,11 @@
 //! The letters of clients.
 
 ghost use Rattle.std.specs.Prelude.{◌≡◌, ℕ, IfOk};
+ghost use Rattle.vp_base.specs.Calls.{IsCall};
+ghost use Rattle.vp_bytes.specs.Fields.{IsSite};
+ghost use Rattle.vp_cluster.specs.Letters.{letter_to};
+ghost use Rattle.vp_runs.specs.Asking.{call_frame};
+ghost use Rattle.vp_wire.specs.Grammar.{IsFrame, frame_of};
 
 use crate::letter::Letter;
 use bytes::BytesMut;
@@ -15,6 +20,8 @@ pub fn call_to<'a>(
     call: &Call,
     room: &'a mut BytesMut,
 ) -> Result<Option<Letter<'a>>, NoMemory>
+    requires { IsCall call.now }
+    ensures { IfOk result (λ letter. letter ≡ letter_to catalog.now site (call_frame site call.now)) }
 {
     let Some(to) = catalog.port(site) else {
         return Ok(None);
@@ -28,13 +35,16 @@ pub fn call_to<'a>(
     }))
 }
 
-/// Makes the letter of an order to the site, which comes from port 0, in the room; none where the catalogue lacks the site.
+/// Makes the letter of an order to the site, which comes from port 0, in the room; none where the catalogue lacks the site. The body must
+/// be one that can be framed.
 pub fn order_to<'a>(
     catalog: &Catalog,
     site: SiteId,
     body: Body,
     room: &'a mut BytesMut,
 ) -> Result<Option<Letter<'a>>, NoMemory>
+    requires { (id : ℕ) → IsSite id → IsFrame (frame_of 0 id body) }
+    ensures { IfOk result (λ letter. letter ≡ letter_to catalog.now site (frame_of 0 site body)) }
 {
     let Some(to) = catalog.port(site) else {
         return Ok(None);

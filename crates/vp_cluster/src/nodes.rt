@@ -1,17 +1,14 @@
 //! The nodes of all sites in one process. They do the steps of a world's sites, and what a step sends goes from node to node in
 //! datagrams.
 
-ghost use Rattle.std.specs.Prelude.{◌≡◌, OnOk, IfOk, IfSome, Some, None, length, map};
+ghost use Rattle.std.specs.Prelude.{◌≡◌, IfOk, IfSome, Some, None, map};
 ghost use Rattle.vp_laws.specs.ShapeLaws.{IsEvent};
 ghost use Rattle.vp_cluster.specs.Hosts.{site_log};
 ghost use Rattle.vp_cluster.specs.Letters.{letter_of};
 ghost use Rattle.vp_cluster.specs.Ports.{LendsAt};
-ghost use Rattle.vp_cluster.specs.Nodes.{Begin, Comes, StopsWith};
-ghost use Rattle.vp_runs.specs.Arrivals.{arrival};
-ghost use Rattle.vp_node.specs.Taking.{IsStepOf};
-ghost use Rattle.vp_cluster.specs.Letter.{as_received};
+ghost use Rattle.vp_cluster.specs.Nodes.{Begin, StopsWith};
+ghost use Rattle.vp_cluster.specs.Letter.{Letter};
 ghost use Rattle.vp_cluster.specs.Stops.{is_kept};
-ghost use Rattle.vp_cluster.specs.declared.letter.Letter.{Letter};
 
 use crate::host::{Logs, StoppedLog};
 use crate::hosts::Hosts;
@@ -19,9 +16,9 @@ use crate::letter::Letter;
 use crate::letters::{call_to, order_to};
 use crate::sent_letters::SentLetters;
 use crate::stopping::Stop;
+use bytes::BytesMut;
 use std::alloc::Global;
 use std::marker::Model;
-use bytes::BytesMut;
 use vp_base::{Effects, Event, NoMemory, SiteId};
 use vp_catalog::Catalog;
 use vp_node::TurnEffects;
@@ -57,6 +54,8 @@ fn letter_of<'a>(
     room: &'a mut BytesMut,
     event: &Event,
 ) -> Result<Option<Letter<'a>>, NoMemory>
+    requires { IsEvent event.now }
+    ensures { IfOk result (λ letter. letter ≡ letter_of catalog.now letters.now event.now) }
 {
     match event {
         Event::Call { site, call } => call_to(catalog, *site, call, room),
@@ -109,14 +108,9 @@ impl Nodes {
         ensures letters { self.new.letters ≡ self.old.letters }
         ensures same { self.new.catalogue ≡ self.old.catalogue }
     {
-        let Nodes {
-            hosts,
-            letters,
-            room,
-        } = self;
-        match letter_of(hosts.catalog(), letters, room, event)? {
+        match letter_of(self.hosts.catalog(), &self.letters, &mut self.room, event)? {
             None => Ok(None),
-            Some(letter) => hosts.stop(site, &letter, stop),
+            Some(letter) => self.hosts.stop(site, &letter, stop),
         }
     }
 }
@@ -136,17 +130,12 @@ impl Stepper for Nodes {
         site: Site,
         _: &LentInput,
     ) -> Result<(Site, Effects), NoMemory> {
-        let Nodes {
-            hosts,
-            letters,
-            room,
-        } = self;
-        let Some(letter) = letter_of(hosts.catalog(), letters, room, event)? else {
-            unreachable!()
-        };
+        let letter = letter_of(self.hosts.catalog(), &self.letters, &mut self.room, event)?;
+        let Some(letter) = letter else { unreachable!() };
         let from = letter.to;
-        let (site, TurnEffects { effects, .. }) = hosts.handle(site, &letter)?;
-        letters.put_all(hosts.catalog(), from, effects.messages.as_slice())?;
+        let (site, TurnEffects { effects, .. }) = self.hosts.handle(site, &letter)?;
+        let messages = effects.messages.as_slice();
+        self.letters.put_all(self.hosts.catalog(), from, messages)?;
         Ok((site, effects))
     }
 

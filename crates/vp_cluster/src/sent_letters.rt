@@ -1,7 +1,11 @@
 //! The letters that were sent.
 
-ghost use Rattle.std.specs.Prelude.{◌≡◌, ◌≤◌, ◌<◌, ◌+◌, ◌++◌, ◌∷◌, [], IfOk, OnOk, length, drop};
+ghost use Rattle.std.specs.Prelude.{◌≡◌, ◌≤◌, ◌<◌, ◌+◌, ◌++◌, [], OnOk, length, drop, map, flat_map};
+ghost use Rattle.std.specs.List.{AllByRecursion};
 ghost use Rattle.vp_cluster.specs.Letters.{in_order, sent_from, start_in, AreInOrder};
+ghost use Rattle.vp_laws.specs.ShapeLaws.{message_frame};
+ghost use Rattle.vp_runs.specs.Turns.{message_datagram};
+ghost use Rattle.vp_wire.specs.Grammar.{IsFrame};
 
 use crate::letter::Letter;
 use bytes::BytesMut;
@@ -34,7 +38,7 @@ impl Drop for SentLetters {
 
 impl Model for SentLetters {
     ghost use Rattle.std.specs.Prelude.{List, length};
-    ghost use Rattle.vp_cluster.specs.declared.letter.Letter.{Letter};
+    ghost use Rattle.vp_cluster.specs.Letter.{Letter};
     ghost use Rattle.vp_cluster.specs.Letters.{letters_in, AreInOrder};
 
     ghost Value = { List Letter };
@@ -79,6 +83,8 @@ impl SentLetters {
     /// Adds the message's datagram, which is sent from this port, as the last letter; a message to a site that the catalogue lacks has
     /// none.
     fn put(&mut self, catalog: &Catalog, from: u16, sent: &Sent) -> Result<(), NoMemory>
+        requires { IsFrame (message_frame sent.now) }
+        ensures { OnOk result (self.new ≡ self.old ++ map (sent_from from) (message_datagram catalog.now sent.now)) }
     {
         let Some(to) = catalog.port(sent.to) else {
             return Ok(());
@@ -90,7 +96,14 @@ impl SentLetters {
     }
 
     /// Adds the datagrams of the messages, which are sent from this port, to the letters.
-    pub fn put_all(&mut self, catalog: &Catalog, from: u16, messages: &[Sent]) -> Result<(), NoMemory>
+    pub fn put_all(
+        &mut self,
+        catalog: &Catalog,
+        from: u16,
+        messages: &[Sent],
+    ) -> Result<(), NoMemory>
+        requires { AllByRecursion (λ sent. IsFrame (message_frame sent)) messages.now }
+        ensures { OnOk result (self.new ≡ self.old ++ map (sent_from from) (flat_map (message_datagram catalog.now) messages.now)) }
     {
         for sent in messages {
             self.put(catalog, from, sent)?;
@@ -100,6 +113,7 @@ impl SentLetters {
 
     /// Letter `k`, counted from 1; none where fewer were sent.
     pub fn letter(&self, k: u32) -> Option<Letter<'_>>
+        ensures { result ≡ in_order k self.now }
     {
         if k == 0 {
             return None;

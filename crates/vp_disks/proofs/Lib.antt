@@ -4,3 +4,4 @@ pub mod LeftImages
 pub mod NamedPlaces
 pub mod LaidLogs
 pub mod Recorded
+pub mod KeptChanges

@@ -1,4 +1,5 @@
 pub mod Changes
+pub mod Entries
 pub mod NamedLogs
 pub mod DiskLaws
 pub mod Images

@@ -1,12 +1,9 @@
 //! The calls that changed a disk in memory.
 
-ghost use Rattle.std.specs.Prelude.{◌≡◌, IfOk};
+use vp_base::{Seq, Word};
 
-use crate::log_bytes::{LogBytes, kept};
-use std::alloc::Global;
-use vp_base::{NoMemory, Seq, Word};
-
-/// A call that changed a disk in memory or what it keeps. All but `Attached` concern the log that was attached then.
+/// A call that changed a disk in memory or what it keeps. All but `Attached` concern the log that was attached then. Contracts see the
+/// record of a disk as a list of these; a disk keeps them as a `ChangeList`.
 #[derive(Drop)]
 pub enum Change {
     /// The log of this name was attached. The calls after this one concern it, up to the next `Attached`.
@@ -19,18 +16,4 @@ pub enum Change {
     Synced,
     /// The log was given these halves, as if they had always been there.
     Laid { first: Seq<u8>, second: Seq<u8> },
-}
-
-impl Change {
-    ghost use Rattle.vp_disks.specs.declared.changes.Change.TheVariants.{Laid};
-
-    /// The change that gives a log a copy of these halves.
-    pub fn laying(alloc: Global, log: &LogBytes) -> Result<Change, NoMemory>
-        ensures { IfOk result (λ change. change ≡ Laid log.now.0 log.now.1) }
-    {
-        Ok(Change::Laid {
-            first: kept(alloc, log.half(0))?,
-            second: kept(alloc, log.half(1))?,
-        })
-    }
 }

@@ -1,6 +1,7 @@
 //! Disks in memory, which keep a record of the calls that changed them.
 #![tactic(auto)]
 
+mod change_list;
 mod changes;
 mod imaged_disk;
 mod log_bytes;

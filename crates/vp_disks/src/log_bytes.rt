@@ -160,7 +160,7 @@ pub fn fits(at: u64, piece: &[u8]) -> bool
 }
 
 /// Copies the bytes to a list of their own.
-pub fn kept(alloc: Global, bytes: &[u8]) -> Result<Seq<u8>, NoMemory>
+fn kept(alloc: Global, bytes: &[u8]) -> Result<Seq<u8>, NoMemory>
     ensures { IfOk result (λ kept. kept ≡ bytes.now) }
 {
     Ok(Seq::from_vec(bytes.to_vec(alloc)?))

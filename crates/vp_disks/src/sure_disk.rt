@@ -9,8 +9,8 @@ ghost use Rattle.vp_disks.specs.Images.{LeavesImages};
 ghost use Rattle.vp_disks.specs.NamedLogs.{laid_over};
 ghost use Rattle.vp_disks.specs.declared.changes.Change.TheVariants.{Attached, Wrote, Cut, Synced, Laid};
 
-use crate::changes::Change;
-use crate::log_bytes::{LogBytes, NamedLog, fits, kept, take_place};
+use crate::change_list::ChangeList;
+use crate::log_bytes::{LogBytes, NamedLog, fits, take_place};
 use std::alloc::Global;
 use std::marker::Model;
 use vp_base::{NoMemory, Word};
@@ -23,7 +23,7 @@ pub struct SureDisk {
     unnamed: LogBytes,
     named: Vec<NamedLog>,
     place: Option<usize>,
-    changes: Vec<Change>,
+    changes: ChangeList,
 }
 
 impl Drop for SureDisk {
@@ -45,9 +45,9 @@ impl Model for SureDisk {
 
     ghost Value = { List Change };
 
-    ghost view = { λ disk. reverse disk.changes.items };
+    ghost view = { λ disk. reverse disk.changes };
 
-    ghost invariant = { λ disk. Keeps disk.unnamed disk.named.items disk.place (reverse disk.changes.items) };
+    ghost invariant = { λ disk. Keeps disk.unnamed disk.named.items disk.place (reverse disk.changes) };
 }
 
 impl SureDisk {
@@ -60,7 +60,7 @@ impl SureDisk {
             unnamed: LogBytes::new(alloc),
             named: Vec::new(alloc),
             place: None,
-            changes: Vec::new(alloc),
+            changes: ChangeList::new(alloc),
         }
     }
 
@@ -80,18 +80,24 @@ impl SureDisk {
         self.attached_log().half(half)
     }
 
-    // The methods below do what the calls of a disk do, and add that to the record.
+    // The methods below do what the calls of a disk do, and add that to the record. They add it first, and take it back where there is
+    // no memory to do it.
 
     pub(crate) fn attach_log(&mut self, name: &Word) -> Result<(), NoMemory>
         ensures ok { OnOk result (self.new ≡ Attached name.now ∷ self.old) }
         ensures err { OnErr result (self.new ≡ self.old) }
     {
-        self.changes.reserve(1)?;
-        let asked = kept(self.alloc, name.as_slice())?;
-        let place = take_place(self.alloc, &mut self.named, name)?;
-        self.changes.push(Change::Attached(asked))?;
-        self.place = Some(place);
-        Ok(())
+        self.changes.attached(name.as_slice())?;
+        match take_place(self.alloc, &mut self.named, name) {
+            Ok(place) => {
+                self.place = Some(place);
+                Ok(())
+            }
+            Err(lack) => {
+                self.changes.take_back();
+                Err(lack)
+            }
+        }
     }
 
     pub(crate) fn write_piece(&mut self, half: u8, at: u64, piece: &[u8]) -> Result<(), NoMemory>
@@ -99,25 +105,22 @@ impl SureDisk {
         ensures ok { OnOk result (self.new ≡ Wrote half at piece.now ∷ self.old) }
         ensures err { OnErr result (self.new ≡ self.old) }
     {
-        self.changes.reserve(1)?;
-        let piece_kept = kept(self.alloc, piece)?;
-        match self.place {
-            None => self.unnamed.write_at(half, at, piece)?,
-            Some(place) => self.named[place].log.write_at(half, at, piece)?,
+        self.changes.wrote(half, at, piece)?;
+        let written = match self.place {
+            None => self.unnamed.write_at(half, at, piece),
+            Some(place) => self.named[place].log.write_at(half, at, piece),
+        };
+        if written.is_err() {
+            self.changes.take_back();
         }
-        self.changes.push(Change::Wrote {
-            half,
-            at,
-            piece: piece_kept,
-        })?;
-        Ok(())
+        written
     }
 
     pub(crate) fn cut_half(&mut self, half: u8, length: u64) -> Result<(), NoMemory>
         ensures ok { OnOk result (self.new ≡ Cut half length ∷ self.old) }
         ensures err { OnErr result (self.new ≡ self.old) }
     {
-        self.changes.push(Change::Cut { half, length })?;
+        self.changes.cut(half, length)?;
         match self.place {
             None => self.unnamed.cut(half, length),
             Some(place) => self.named[place].log.cut(half, length),
@@ -129,8 +132,7 @@ impl SureDisk {
         ensures ok { OnOk result (self.new ≡ Synced ∷ self.old) }
         ensures err { OnErr result (self.new ≡ self.old) }
     {
-        self.changes.push(Change::Synced)?;
-        Ok(())
+        self.changes.synced()
     }
 
     /// Replaces the halves of the attached log by these, as if they had always been there.
@@ -138,9 +140,8 @@ impl SureDisk {
         ensures ok { OnOk result (self.new ≡ Laid first.items second.items ∷ self.old) }
         ensures err { OnErr result (self.new ≡ self.old) }
     {
+        self.changes.laid(&first, &second)?;
         let laid = LogBytes::of_halves(first, second);
-        let change = Change::laying(self.alloc, &laid)?;
-        self.changes.push(change)?;
         match self.place {
             None => self.unnamed = laid,
             Some(place) => self.named[place].log = laid,

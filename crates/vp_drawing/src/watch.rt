@@ -178,12 +178,12 @@ impl Stepper for Watch {
     fn step(
         &mut self,
         catalog: &Catalog,
-        _: &Event,
+        event: &Event,
         site: Site,
         input: &LentInput,
     ) -> Result<(Site, Effects), NoMemory> {
         let before = held_id(&site);
-        let (site, effects) = site.step(catalog, input)?;
+        let (site, effects) = PlainStepper.step(catalog, event, site, input)?;
         self.joined = newly_joined(before, site.held())?;
         let look = look_of(self.allocator(), &site)?;
         self.look_at_taker(look);

@@ -1,34 +1,33 @@
 -- The effects of a step have the form of frames, and are those of its turn.
-use Rattle.std.proofs.Common.{◌≡◌, refl, ℕ, true, false, List, [], ◌∷◌, ◌++◌, map, flat_map, length, ◌<◌, subst, arith}
+use Rattle.std.proofs.Common.{◌≡◌, refl, ℕ, true, false, List, [], ◌∷◌, length, ◌<◌, subst, arith}
 use Rattle.std.proofs.lemmas.Bool.{false≢true}
 use Rattle.std.specs.List.{AllByRecursion}
-use Rattle.vp_model.specs.Types.{Sent, Reply}
+use Rattle.vp_model.specs.Types.{Sent, Reply, Effects}
 use Rattle.vp_model.specs.Words.{has, keys}
 use Rattle.vp_model.specs.Catalogue.{Catalogue, sites_of}
 use Rattle.vp_model.specs.Site.{Stepped}
 use Rattle.vp_catalog.specs.Document.{IsCatalogueSoFar, IsCatalogue}
-use Rattle.vp_laws.specs.Shapes.{IsSent, IsReply}
+use Rattle.vp_laws.specs.Shapes.{IsSent, IsReply, AreShaped}
 use Rattle.vp_laws.specs.ShapeLaws.{GivenAreFrames, message_frame, reply_frame}
-use Rattle.vp_outside.specs.declared.datagram.Datagram.{Datagram}
 use Rattle.vp_wire.specs.Grammar.{IsFrame}
-use Rattle.vp_runs.specs.Turns.{step_turn, message_datagram, reply_datagram, datagrams_of}
-use Rattle.vp_node.specs.Taking.{Does}
+use Rattle.vp_runs.specs.Turns.{step_turn}
+use Rattle.vp_node.specs.Taking.{AreFrames, Does}
 
 module _ (catalogue : Catalogue) (id : ℕ) (frames : GivenAreFrames) (is : IsCatalogue catalogue) (listed : has (sites_of catalogue) id ≡ true) where
-  pub messages_are_frames : (messages : List Sent) → AllByRecursion (IsSent id) messages → AllByRecursion (λ (sent : Sent). IsFrame (message_frame sent)) messages
+  messages_are_frames : (messages : List Sent) → AllByRecursion (IsSent id) messages → AllByRecursion (λ (sent : Sent). IsFrame (message_frame sent)) messages
   messages_are_frames [] all = tt
   messages_are_frames (sent ∷ messages) all = (frames.sent catalogue id sent is listed all.0, messages_are_frames messages all.1)
 
-  pub replies_are_frames : (replies : List Reply) → AllByRecursion IsReply replies → AllByRecursion (λ (reply : Reply). IsFrame (reply_frame id reply)) replies
+  replies_are_frames : (replies : List Reply) → AllByRecursion IsReply replies → AllByRecursion (λ (reply : Reply). IsFrame (reply_frame id reply)) replies
   replies_are_frames [] all = tt
   replies_are_frames (reply ∷ replies) all = (frames.reply catalogue id reply is listed all.0, replies_are_frames replies all.1)
 
+  pub are_frames : (e : Effects) → AreShaped id e → AreFrames id e
+  are_frames e shaped = record { messages_are = messages_are_frames e.messages shaped.messages_are; replies_are = replies_are_frames e.replies shaped.replies_are }
+
 -- what a step sends and commits is its turn
-pub does : (catalogue : Catalogue) (id : ℕ) (o : Stepped) (datagrams : List Datagram)
-    → datagrams ≡ flat_map (message_datagram catalogue) o.effects.messages ++ map (reply_datagram id) o.effects.replies
-    → Does (step_turn catalogue id o) o.site (record { effects = o.effects; datagrams = datagrams; stop = false })
-unfolding datagrams_of
-does catalogue id o datagrams sent = record { site_is = refl; records_are = refl; datagrams_are = sent; commits_are = refl; stop_is = refl }
+pub does : (catalogue : Catalogue) (id : ℕ) (o : Stepped) → Does catalogue id (step_turn catalogue id o) o.site (record { effects = o.effects; stop = false })
+does catalogue id o = record { site_is = refl; records_are = refl; datagrams_are = refl; commits_are = refl; stop_is = refl }
 
 -- a catalogue that has some site has one
 pub is_catalogue : (catalogue : Catalogue) (id : ℕ) → IsCatalogueSoFar catalogue → has (sites_of catalogue) id ≡ true → IsCatalogue catalogue

@@ -13,7 +13,7 @@ use Rattle.vp_runs.specs.declared.arrival.Arrival.{Arrival}
 use Rattle.vp_runs.specs.Arrivals.{arrival}
 use Rattle.vp_runs.specs.Keeping.{durable_in}
 use Rattle.vp_node.specs.Keeping.{KeepsAt, MayKeepAt}
-use Rattle.vp_runs.specs.Turns.{Turn, turn_on, turn_lines}
+use Rattle.vp_runs.specs.Turns.{Turn, datagrams_of, turn_on, turn_lines}
 use Rattle.vp_runs.specs.Runs.{start_node}
 use Rattle.vp_node.specs.declared.turned.TurnEffects.{TurnEffects}
 use Rattle.vp_node.specs.declared.turned.Turned.{Turned}
@@ -74,10 +74,11 @@ what_comes catalogue node d = arrival catalogue node.site.id d
 abbrev pub turn_of : Catalogue → NodeValue → Datagram → Turn
 turn_of catalogue node d = turn_on catalogue node.site (what_comes catalogue node d)
 
--- The site has done the turn, and these are its commits and what it has to hand over.
-pub record Gives (turn : Turn) (after : NodeValue) (turn_effects : TurnEffects) : Type 0 where
+-- The site with this number has done the turn, and these are its commits and what it has to hand over: what the effects have to send
+-- are the turn's datagrams.
+pub record Gives (catalogue : Catalogue) (id : ℕ) (turn : Turn) (after : NodeValue) (turn_effects : TurnEffects) : Type 0 where
   pub site : after.site ≡ turn.site
-  pub datagrams : turn_effects.datagrams ≡ turn.datagrams
+  pub datagrams : datagrams_of catalogue id turn_effects.effects ≡ turn.datagrams
   pub commits : turn_effects.effects.commits ≡ turn.commits
   pub stop : turn_effects.stop ≡ turn.stop
 

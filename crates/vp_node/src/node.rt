@@ -12,7 +12,7 @@ ghost use Rattle.vp_runs.specs.Arrivals.{IsArrival};
 ghost use Rattle.vp_runs.specs.Turns.{turn_on};
 ghost use Rattle.vp_node.specs.Causes.{HasNodeCause, EndsInTurn};
 ghost use Rattle.vp_node.specs.declared.end.NodeEnd.TheVariants as ends;
-ghost use Rattle.vp_node.specs.Taking.{IsStepOf};
+ghost use Rattle.vp_node.specs.Taking.{AreFrames, IsStepOf};
 
 use crate::arrivals::arrival;
 use crate::end::NodeEnd;
@@ -121,7 +121,9 @@ impl Node {
         requires kept { IsKept catalog.now self (D.state disk.old) }
         requires what { IsArrival what }
 
-        ensures took { IfOk result (λ it. Gives (turn_on catalog.now self.site what) it.0 it.1) }
+        ensures took { IfOk result
+            (λ it. Gives catalog.now self.site.id (turn_on catalog.now self.site what) it.0 it.1) }
+        ensures frames { IfOk result (λ it. AreFrames self.site.id it.1.effects) }
         ensures stepped { IfOk result (λ it. IsStepOf catalog.now self.site what it.0.site it.1.effects) }
         ensures saved { IfOk result (λ it. Steps (Saves (turn_on catalog.now self.site what) self.at it.0.at)
             (D.state disk.old) (D.state disk.new)) }
@@ -187,10 +189,11 @@ impl Node {
         ensures cause { HasNodeCause (D.state disk.old).faults (D.state disk.new).faults result }
     {
         let alloc = catalog.sites().allocator();
-        let what = arrival(alloc, catalog, self.site.id(), port, bytes)?;
+        let id = self.site.id();
+        let what = arrival(alloc, catalog, id, port, bytes)?;
         let line = arrival_line(alloc, bytes, &what)?;
         let (node, TurnEffects { effects, stop }) = self.handle(catalog, disk, what)?;
-        let datagrams = datagrams_of(catalog, node.site.id(), &effects)?;
+        let datagrams = datagrams_of(catalog, id, &effects)?;
         Ok((node, Turned::new(line, datagrams, stop)?))
     }
 }

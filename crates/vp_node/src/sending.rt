@@ -3,7 +3,8 @@
 ghost use Rattle.std.specs.Prelude.{◌≡◌, ◌++◌, ◌∷◌, [], IfOk, OnOk, map, flat_map};
 ghost use Rattle.std.specs.List.{AllByRecursion};
 ghost use Rattle.vp_laws.specs.ShapeLaws.{message_frame, reply_frame};
-ghost use Rattle.vp_runs.specs.Turns.{message_datagram, reply_datagram};
+ghost use Rattle.vp_runs.specs.Turns.{message_datagram, reply_datagram, datagrams_of};
+ghost use Rattle.vp_node.specs.Taking.{AreFrames};
 ghost use Rattle.vp_wire.specs.Grammar.{IsFrame};
 
 use bytes::BytesMut;
@@ -114,16 +115,10 @@ fn put_replies(
 }
 
 /// Encodes the messages of a step, and after them its replies, as datagrams. Their bytes are in one block, as far as there is room.
-pub fn datagrams_of(
-    catalog: &Catalog,
-    id: SiteId,
-    effects: &Effects,
-) -> Result<Datagrams, NoMemory>
-    requires messages { AllByRecursion (λ sent. IsFrame (message_frame sent)) messages.now }
-    requires replies { AllByRecursion (λ reply. IsFrame (reply_frame id reply)) replies.now }
-    ensures { IfOk result
-        (λ it. it ≡ flat_map (message_datagram catalog.now) messages.now ++
-        map (reply_datagram id) replies.now) }
+#[tactic(auto, unfolding(vp_runs::specs::Turns::datagrams_of))]
+pub fn datagrams_of(catalog: &Catalog, id: SiteId, effects: &Effects) -> Result<Datagrams, NoMemory>
+    requires frames { AreFrames id effects.now }
+    ensures { IfOk result (λ it. it ≡ datagrams_of catalog.now id effects.now) }
 {
     let alloc = catalog.sites().allocator();
     let messages = effects.messages.as_slice();

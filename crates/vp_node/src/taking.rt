@@ -1,12 +1,12 @@
 //! What a site does with what comes.
 
-ghost use Rattle.std.specs.Prelude.{◌≡◌, IfOk};
+ghost use Rattle.std.specs.Prelude.{◌≡◌, [], IfOk};
 ghost use Rattle.vp_catalog.specs.Document.{IsCatalogue};
 ghost use Rattle.vp_laws.specs.Shapes.{IsInput, IsShaped};
 ghost use Rattle.vp_model.specs.Step.{step};
 ghost use Rattle.vp_runs.specs.Arrivals.{IsArrival};
-ghost use Rattle.vp_runs.specs.Turns.{step_turn, quiet_turn, turn_on};
-ghost use Rattle.vp_node.specs.Taking.{Does, IsStepOf};
+ghost use Rattle.vp_runs.specs.Turns.{step_turn, turn_on};
+ghost use Rattle.vp_node.specs.Taking.{AreFrames, Does, IsStepOf};
 
 use crate::turned::TurnEffects;
 use std::alloc::Global;
@@ -22,7 +22,9 @@ fn step(site: Site, catalog: &Catalog, input: Input) -> Result<(Site, TurnEffect
     requires site { IsShaped catalog.now site }
     requires input { IsInput input }
     ensures does { IfOk result
-        (λ it. Does (step_turn catalog.now site.id (step catalog.now site input)) it.0 it.1) }
+        (λ it. Does catalog.now site.id (step_turn catalog.now site.id (step catalog.now site input)) it.0
+        it.1) }
+    ensures frames { IfOk result (λ it. AreFrames site.id it.1.effects) }
     ensures stepped { IfOk result
         (λ it. record { site = it.0; effects = it.1.effects } ≡ step catalog.now site input) }
 {
@@ -40,13 +42,19 @@ fn step(site: Site, catalog: &Catalog, input: Input) -> Result<(Site, TurnEffect
 
 /// Does a turn without a step.
 fn pass(site: Site, alloc: Global, stop: bool) -> (Site, TurnEffects)
-    ensures { Does (quiet_turn site stop) result.0 result.1 }
+    ensures { result ≡ (
+      site,
+      record {
+        effects = record { records = []; commits = []; messages = []; replies = [] };
+        stop = stop;
+      },
+    ) }
 {
     (site, TurnEffects::quiet(alloc, stop))
 }
 
-/// Does the turn of what came, without a disk. The records of its step must be synced before its datagrams are sent.
-#[tactic(auto, unfolding(vp_runs::specs::Turns::turn_on))]
+/// Does the turn of what came, without a disk. The records of its step must be synced before its messages and replies are sent.
+#[tactic(auto, unfolding(vp_runs::specs::Turns::turn_on, vp_runs::specs::Turns::datagrams_of))]
 pub fn turn_on(
     site: Site,
     catalog: &Catalog,
@@ -55,7 +63,9 @@ pub fn turn_on(
     requires catalogue { IsCatalogue catalog.now }
     requires site { IsShaped catalog.now site }
     requires what { IsArrival what }
-    ensures does { IfOk result (λ it. Does (turn_on catalog.now site what) it.0 it.1) }
+    ensures does { IfOk result
+        (λ it. Does catalog.now site.id (turn_on catalog.now site what) it.0 it.1) }
+    ensures frames { IfOk result (λ it. AreFrames site.id it.1.effects) }
     ensures stepped { IfOk result (λ it. IsStepOf catalog.now site what it.0 it.1.effects) }
 {
     let alloc = catalog.sites().allocator();

@@ -21,8 +21,7 @@ use Rattle.vp_runs.specs.Kept.{input_of, forced_records, forced_at, kept_in as b
 use Rattle.vp_runs.proofs.Happened.{Acts, Effect, effect, named, put_down}
 use Rattle.vp_runs.specs.Stopped.{appends, appender, stopped_world}
 use Rattle.vp_world.specs.Steps.{taker}
-use Rattle.vp_cluster.specs.declared.letter.Letter.{Letter}
-use Rattle.vp_cluster.specs.Letter.{as_received}
+use Rattle.vp_cluster.specs.Letter.{Letter, as_received}
 use Rattle.vp_cluster.specs.declared.host.StoppedLog.{StoppedLog}
 use Rattle.vp_cluster.specs.Letters.{letter_of}
 use Rattle.vp_stable.specs.Stops.{with_batch}

@@ -13,7 +13,7 @@ use Rattle.vp_world.specs.Steps.{taker}
 use Rattle.vp_world.specs.Limits.{limit_of}
 use Rattle.vp_world.specs.declared.end.WorldEnd.{WorldEnd}
 use Rattle.vp_world.specs.declared.end.WorldEnd.TheVariants as end
-use Rattle.vp_cluster.specs.declared.letter.Letter.{Letter}
+use Rattle.vp_cluster.specs.Letter.{Letter}
 use Rattle.vp_cluster.specs.declared.host.StoppedLog.{StoppedLog}
 use Rattle.vp_cluster.specs.Ports.{LendsAt}
 use Rattle.vp_stopping.specs.declared.stopped.Steps.{Steps}

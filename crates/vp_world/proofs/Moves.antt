@@ -14,10 +14,10 @@ use Rattle.vp_model.specs.Step.{step}
 use Rattle.vp_model.specs.World.{Place, WorldState, Moved, shows, place_of, site_of, is_cut, change_place, fixed_view, after_step, site_step, at_site, deliver, crash, restart_place, restart_from, restart, happens, message_at, same_pair}
 use Rattle.vp_world.specs.declared.place.PlaceEffects.{PlaceEffects}
 use Rattle.vp_world.specs.declared.end.WorldEnd.{WorldEnd}
-use Rattle.vp_mail.specs.Posted.{Posted}
+use Rattle.vp_mail.specs.Posted.{Posted, message_in}
 use Rattle.vp_world.specs.Limits.{Does, too_many, with_line}
 use Rattle.vp_world.specs.Places.{newly_agreed, place_effects, site_in, stepped_place, crashed_place, restarted_place, restart_line}
-use Rattle.vp_world.specs.Steps.{takes_in}
+use Rattle.vp_world.specs.Steps.{takes_in, line_of}
 
 -- changes of the first item that passes a test
 
@@ -79,32 +79,38 @@ module _ (catalogue : Catalogue) (id : ℕ) (given : Input) where
     down_where (Some site) up e = cc
 
   module _ (w : WorldState) (r : Option PlaceEffects) (old new : List Place) (now : old ≡ w.places) (e : r ≡ option_map (λ site. place_effects site (step catalogue site given)) (site_in id old)) (p : new ≡ change_place id (stepped_place catalogue given) old) where
-    -- an input comes to a site that is up
-    pub at_site_takes : (t : PlaceEffects) → r ≡ Some t → at_site catalogue id given w ≡ takes_in t (record w { places = new })
+    at_site_takes : (t : PlaceEffects) → r ≡ Some t → at_site catalogue id given w ≡ takes_in t (record w { places = new })
     unfolding at_site stepped
     at_site_takes t is = rw (p, now) (takes_where w t (site_of w id) refl (sym is ∙ e ∙ ap (λ places. option_map (λ site. place_effects site (step catalogue site given)) (site_in id places)) now))
 
-    -- it comes to a site that is down
-    pub at_site_down : r ≡ None → at_site catalogue id given w ≡ shows (record w { places = new }) (shown.Down id)
+    at_site_down : r ≡ None → at_site catalogue id given w ≡ shows (record w { places = new }) (shown.Down id)
     unfolding at_site stepped
     at_site_down is = rw (p, now) (down_where w (site_of w id) refl (sym is ∙ e ∙ ap (λ places. option_map (λ site. place_effects site (step catalogue site given)) (site_in id places)) now))
+
+    -- an input comes to a site, which does its step if it is up
+    pub at_site_gives : at_site catalogue id given w ≡ line_of id r (record w { places = new })
+    at_site_gives = by_result r refl
+      where
+        by_result : (x : Option PlaceEffects) → r ≡ x → at_site catalogue id given w ≡ line_of id x (record w { places = new })
+        by_result None is = at_site_down is
+        by_result (Some t) is = at_site_takes t is
 
 -- a delivery
 
 module _ (catalogue : Catalogue) (k : ℕ) (sent : Sent) (w : WorldState) (old : List Place) (now : old ≡ w.places) (up : Bool) (e : up ≡ is_some (site_in sent.to old)) where
-  pub deliver_down : up ≡ false → deliver catalogue k sent w ≡ shows w (shown.Down sent.to)
+  deliver_down : up ≡ false → deliver catalogue k sent w ≡ shows w (shown.Down sent.to)
   unfolding deliver
   deliver_down is = let h : is_some (site_in sent.to w.places) ≡ false = rw (← now) (sym e ∙ is) in grind (arith, nat_tests, h)
 
   module _ (parted : Bool) (c : parted ≡ list_any (same_pair sent.from sent.to) w.cuts) (is : up ≡ true) where
-    pub deliver_parted : parted ≡ true → deliver catalogue k sent w ≡ shows w (shown.Parted sent.from sent.to)
+    deliver_parted : parted ≡ true → deliver catalogue k sent w ≡ shows w (shown.Parted sent.from sent.to)
     unfolding deliver
     deliver_parted cut =
         let h : is_some (site_in sent.to w.places) ≡ true = rw (← now) (sym e ∙ is) in
         let d : is_cut w sent.from sent.to ≡ true = sym c ∙ cut in
         grind (arith, nat_tests, h, d)
 
-    pub deliver_comes : parted ≡ false → (mail : Posted) → mail ≡ record { sent = w.sent; delivered = w.delivered ++ k ∷ [] } → deliver catalogue k sent w ≡ at_site catalogue sent.to (input.Message sent.from sent.message) (record w { sent = mail.sent; delivered = mail.delivered })
+    deliver_comes : parted ≡ false → (mail : Posted) → mail ≡ record { sent = w.sent; delivered = w.delivered ++ k ∷ [] } → deliver catalogue k sent w ≡ at_site catalogue sent.to (input.Message sent.from sent.message) (record w { sent = mail.sent; delivered = mail.delivered })
     unfolding deliver at_site
     deliver_comes whole mail m =
         let h : is_some (site_in sent.to w.places) ≡ true = rw (← now) (sym e ∙ is) in
@@ -116,9 +122,31 @@ module _ (catalogue : Catalogue) (k : ℕ) (w : WorldState) where
   unfolding happens
   no_message e = rw e refl
 
-  pub some_message : (sent : Sent) → message_at w k ≡ Some sent → happens catalogue (event.Deliver k) w ≡ deliver catalogue k sent w
+  some_message : (sent : Sent) → message_at w k ≡ Some sent → happens catalogue (event.Deliver k) w ≡ deliver catalogue k sent w
   unfolding happens
   some_message sent e = rw e refl
+
+  module _ (sent : Sent) (at : message_at w k ≡ Some sent) (from to : ℕ) (f : from ≡ sent.from) (t : to ≡ sent.to) (up : Bool) (e : up ≡ is_some (site_in to w.places)) where
+    here : up ≡ is_some (site_in sent.to w.places)
+    here = rw (← t) e
+
+    pub delivers_down : up ≡ false → happens catalogue (event.Deliver k) w ≡ shows w (shown.Down to)
+    delivers_down is = rw t (some_message sent at ∙ deliver_down catalogue k sent w w.places refl up here is)
+
+    module _ (parted : Bool) (c : parted ≡ list_any (same_pair from to) w.cuts) (is : up ≡ true) where
+      between : parted ≡ list_any (same_pair sent.from sent.to) w.cuts
+      between = rw (← f, ← t) c
+
+      pub delivers_parted : parted ≡ true → happens catalogue (event.Deliver k) w ≡ shows w (shown.Parted from to)
+      delivers_parted cut = rw (f, t) (some_message sent at ∙ deliver_parted catalogue k sent w w.places refl up here parted between is cut)
+
+      -- what the mail lends is the message that it had
+      pub delivers_lent : parted ≡ false → (mail : Posted) → mail ≡ record { sent = w.sent; delivered = w.delivered ++ k ∷ [] } → (lent : Sent) → message_in k mail.sent ≡ Some lent → (given : Input) → given ≡ input.Message lent.from lent.message
+          → happens catalogue (event.Deliver k) w ≡ at_site catalogue to given (record w { sent = mail.sent; delivered = mail.delivered })
+      delivers_lent whole mail m lent l given i =
+          let both : Some lent ≡ Some sent = sym l ∙ ap (λ (p : Posted). message_in k p.sent) m ∙ at in
+          let same : lent ≡ sent = cc in
+          rw (i, same, t) (some_message sent at ∙ deliver_comes catalogue k sent w w.places refl up here parted between is whole mail m)
 
 -- a crash and a restart
 

@@ -1,5 +1,4 @@
 -- Inputs whose messages and calls are lent.
-use Rattle.std.specs.Prelude.{ℕ}
 use Rattle.vp_model.specs.Types.{Input}
 use Rattle.vp_base.specs.declared.event.Input.TheVariants as input
 use Rattle.vp_world.specs.declared.lent.Form.{Form}

@@ -4,3 +4,4 @@ pub mod Limits
 pub mod Known
 pub mod Steps
 pub mod Heads
+pub mod Lent

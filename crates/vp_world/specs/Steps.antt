@@ -1,11 +1,12 @@
 -- What a step of a site gives the world, and which site does one.
 use Rattle.std.specs.Prelude.{ℕ, ◌+◌, if◌then◌else◌, is_some, [], ◌∷◌, ◌++◌, length, Option, Some, None, IfSome, option_map, option_and_then, option_to_list}
+use Rattle.std.specs.Option.{option_map_or}
 use Rattle.vp_model.specs.Types.{Sent, Event, Input}
 use Rattle.vp_model.specs.Types.event
 use Rattle.vp_model.specs.Types.input
 use Rattle.vp_model.specs.Types.shown
 use Rattle.vp_model.specs.Catalogue.{Catalogue}
-use Rattle.vp_model.specs.World.{WorldState, Moved, place_of, site_of, message_at, is_cut, next}
+use Rattle.vp_model.specs.World.{WorldState, Moved, shows, place_of, site_of, message_at, is_cut, next}
 use Rattle.vp_model.specs.Justified.{site_named}
 use Rattle.vp_model.specs.Told.{is_step}
 use Rattle.vp_world.specs.declared.place.PlaceEffects.{PlaceEffects}
@@ -23,6 +24,10 @@ takes_in t w =
       };
       shown = shown.Step t.effects.commits (length w.sent + 1) t.effects.messages t.effects.replies;
     }
+
+-- the same, where the step was done; where it was not, the site is down
+abbrev pub line_of : ℕ → Option PlaceEffects → WorldState → Moved
+line_of id taken w = option_map_or (λ t. takes_in t w) taken (shows w (shown.Down id))
 
 -- the site whose step the event is in this world
 abbrev pub taker : Catalogue → Event → WorldState → Option ℕ

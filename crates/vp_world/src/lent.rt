@@ -2,7 +2,6 @@
 
 ghost use Rattle.std.specs.Prelude.{◌≡◌, IfOk};
 ghost use Rattle.vp_base.specs.declared.event.Input.TheVariants as input;
-ghost use Rattle.vp_world.specs.Lent.{lent_as};
 
 use std::marker::Model;
 use vp_base::{Call, CopyOf, Input, NoMemory};

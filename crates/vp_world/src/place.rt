@@ -13,9 +13,7 @@ ghost use Rattle.vp_world.specs.Places.{newly_agreed, place_effects, stepped_pla
 use crate::lent::LentInput;
 use crate::stepper::Stepper;
 use std::marker::Model;
-use vp_base::{
-    CopyOf, Effects, Event, LogRecord, Newest, NoMemory, Shown, SiteId, View, ViewId,
-};
+use vp_base::{CopyOf, Effects, Event, LogRecord, Newest, NoMemory, Shown, SiteId, View, ViewId};
 use vp_catalog::Catalog;
 use vp_records::Durable;
 use vp_site::{Site, StartFault};

@@ -11,8 +11,8 @@ ghost use Rattle.vp_model.specs.World.{start_place, place_of, change_place};
 ghost use Rattle.vp_world.specs.Asked.{Asked, restart_asked};
 ghost use Rattle.vp_world.specs.Places.{site_in, place_effects, stepped_place, crashed_place, restarted_place, restart_line, Did, GivesUpAt};
 
-use crate::place::{Place, PlaceEffects};
 use crate::lent::LentInput;
+use crate::place::{Place, PlaceEffects};
 use crate::stepper::Stepper;
 use std::alloc::Global;
 use std::marker::Model;

@@ -2,14 +2,13 @@
 
 ghost use Rattle.std.specs.Prelude.{◌≡◌, ◌≤◌, ◌<◌, ◌+◌, ◌++◌, ◌∷◌, OnOk, OnErr, IfOk, IfSome, IsSome, Some, None, if◌then◌else◌, length, option_map, option_and_then, option_to_list};
 ghost use Rattle.vp_base.specs.declared.event.Event.TheVariants as event;
-ghost use Rattle.vp_base.specs.declared.event.Input.TheVariants as input;
 ghost use Rattle.vp_base.specs.declared.event.Shown.TheVariants as shown;
-ghost use Rattle.vp_model.specs.World.{start_world, place_of, site_of, flowing, message_at, shows, at_site, deliver, crash, cut, heal, restart, happens, next};
+ghost use Rattle.vp_model.specs.World.{start_world, place_of, site_of, flowing, message_at, shows, at_site, crash, cut, heal, restart, happens, next};
 ghost use Rattle.vp_model.specs.Limits.{world_limits, refused};
 ghost use Rattle.vp_world.specs.Limits.{Ends, Does, too_many_steps, with_line};
 ghost use Rattle.vp_mail.specs.Queues.{AreSited};
 ghost use Rattle.vp_world.specs.Known.{IsWithinLimits};
-ghost use Rattle.vp_world.specs.Steps.{takes_in, if_up, receiver, taker_now, passed_over, step_at, step_by, IsReady, DoesEvent};
+ghost use Rattle.vp_world.specs.Steps.{takes_in, line_of, if_up, receiver, taker_now, passed_over, step_at, IsReady, DoesEvent};
 ghost use Rattle.vp_world.specs.Asked.{Asked, restart_asked};
 ghost use Rattle.vp_world.specs.Places.{Did};
 ghost use Rattle.vp_world.specs.Heads.{is_open, head_of, lesser};
@@ -22,8 +21,8 @@ use crate::stepper::Stepper;
 use std::alloc::Global;
 use std::marker::Model;
 use vp_base::{
-    Call, Commits, CopyOf, Counted, Effects, Event, MOST_MESSAGES, MOST_STEPS, NoMemory,
-    OPENING, Shown, SiteId, View,
+    Commits, CopyOf, Counted, Effects, Event, MOST_MESSAGES, MOST_STEPS, NoMemory, OPENING, Shown,
+    SiteId, View,
 };
 use vp_catalog::Catalog;
 use vp_mail::{Cuts, Mail, PAIRS, SITES};
@@ -218,8 +217,10 @@ impl State {
         Ok(step_line(effects, first))
     }
 
-    /// Takes what a step of the site gives; none where it is down.
+    /// Takes what a step of the site gives; it gives nothing where the site is down.
     fn line_of(&mut self, id: SiteId, taken: Option<PlaceEffects>) -> Result<Shown, WorldEnd>
+        requires { length self.old.sent ≤ 2000000 }
+        ensures { Does (line_of id taken self.old) self.new result }
     {
         match taken {
             None => Ok(Shown::Down { site: id }),
@@ -248,40 +249,7 @@ impl State {
         self.line_of(id, taken)
     }
 
-    /// Delivers message `k`, which is this one, if its receiver is up and its pair is not cut.
-    fn hand_over<S: Stepper>(
-        &mut self,
-        catalog: &Catalog,
-        k: u32,
-        from: SiteId,
-        to: SiteId,
-        stepper: &mut S,
-    ) -> Result<Shown, WorldEnd>
-        requires few { length self.old.sent ≤ 2000000 }
-        requires numbered { message_at self.old k ≡ Some sent }
-        requires may { IfSome (step_by self.old (event.Deliver k) sent)
-            (λ a. S.may catalog.now a stepper.old) }
-        ensures does { Does (deliver catalog.now k sent self.old) self.new result }
-        ensures did { OnOk result
-            (Did S.did (step_by self.old (event.Deliver k) sent) stepper.old stepper.new) }
-    {
-        if !self.places.is_up(to) {
-            return Ok(Shown::Down { site: to });
-        }
-        if self.cuts.has(from, to) {
-            return Ok(Shown::Parted { from, to });
-        }
-        self.mail.deliver(k, from, to)?;
-        let Some(sent) = self.mail.message(k) else {
-            unreachable!()
-        };
-        let input = LentInput::message(sent);
-        let taken = self
-            .places
-            .step(catalog, to, &Event::Deliver { k }, &input, stepper)?;
-        self.line_of(to, taken)
-    }
-
+    /// Delivers message `k`, if there is one, its receiver is up, and its pair is not cut.
     fn deliver<S: Stepper>(
         &mut self,
         catalog: &Catalog,
@@ -298,7 +266,20 @@ impl State {
             return Ok(Shown::NoMessage);
         };
         let (from, to) = (sent.from(), sent.to());
-        self.hand_over(catalog, k, from, to, stepper)
+        if !self.places.is_up(to) {
+            return Ok(Shown::Down { site: to });
+        }
+        if self.cuts.has(from, to) {
+            return Ok(Shown::Parted { from, to });
+        }
+        self.mail.deliver(k)?;
+        let Some(sent) = self.mail.message(k) else {
+            unreachable!()
+        };
+        let input = LentInput::message(sent);
+        let event = Event::Deliver { k };
+        let taken = self.places.step(catalog, to, &event, &input, stepper)?;
+        self.line_of(to, taken)
     }
 
     /// This site, if it is up.
@@ -343,11 +324,7 @@ impl State {
         ensures passed { OnOk result (self.new ≡ passed_over k self.old) }
         ensures err { OnErr result (self.new ≡ self.old) }
     {
-        let Some(sent) = self.mail.message(k) else {
-            return Ok(());
-        };
-        let (from, to) = (sent.from(), sent.to());
-        self.mail.deliver(k, from, to)
+        self.mail.deliver(k)
     }
 
     fn crash<S: Stepper>(&mut self, id: SiteId, stepper: &mut S) -> Shown
@@ -383,24 +360,6 @@ impl State {
         self.places.restart(catalog, id, stepper)
     }
 
-    fn call<S: Stepper>(
-        &mut self,
-        catalog: &Catalog,
-        event: &Event,
-        site: SiteId,
-        call: &Call,
-        stepper: &mut S,
-    ) -> Result<Shown, WorldEnd>
-        requires few { length self.old.sent ≤ 2000000 }
-        requires may { IfSome (step_at self.old event.now site (input.Call 0 call.now))
-            (λ a. S.may catalog.now a stepper.old) }
-        ensures does { Does (at_site catalog.now site (input.Call 0 call.now) self.old) self.new result }
-        ensures did { OnOk result
-            (Did S.did (step_at self.old event.now site (input.Call 0 call.now)) stepper.old stepper.new) }
-    {
-        self.at_site(catalog, event, site, &LentInput::call(call), stepper)
-    }
-
     #[tactic(auto, unfolding(vp_model::specs::World::happens))]
     fn happen<S: Stepper>(
         &mut self,
@@ -414,11 +373,20 @@ impl State {
         ensures did { OnOk result (DoesEvent S.did catalog.now event.now self.old stepper.old stepper.new) }
     {
         match event {
-            Event::Call { site, call } => self.call(catalog, event, *site, call, stepper),
+            Event::Call { site, call } => {
+                let input = LentInput::call(call);
+                self.at_site(catalog, event, *site, &input, stepper)
+            }
             Event::Deliver { k } => self.deliver(catalog, *k, stepper),
             Event::Flow { .. } => Ok(Shown::Nothing),
-            Event::Tick { site } => self.at_site(catalog, event, *site, &LentInput::tick(), stepper),
-            Event::Probe { site } => self.at_site(catalog, event, *site, &LentInput::probe(), stepper),
+            Event::Tick { site } => {
+                let input = LentInput::tick();
+                self.at_site(catalog, event, *site, &input, stepper)
+            }
+            Event::Probe { site } => {
+                let input = LentInput::probe();
+                self.at_site(catalog, event, *site, &input, stepper)
+            }
             Event::Cut { a, b } => {
                 self.cuts.cut(*a, *b)?;
                 Ok(Shown::Nothing)

@@ -1,6 +1,8 @@
-use Rattle.std.proofs.Common.{◌≡◌, ◌∙◌, List, ℕ, Some, None, ap, ⊎_elim}
+use Rattle.std.proofs.Common.{◌≡◌, ◌∙◌, Some, None, ap, subst, ⊎_elim}
 use Rattle.vp_runs.specs.Arrivals.{arrival}
-use Rattle.vp_cluster.specs.Letter.{as_received}
+use Rattle.vp_node.specs.Nodes.{NodeValue}
+use Rattle.vp_node.specs.Taking.{AreFrames}
+use Rattle.vp_cluster.specs.Letter.{Letter, as_received}
 use Rattle.vp_cluster.proofs.Holding.{kept_holds, never_fails, turn_ends, turn_holds}
 use Rattle.vp_cluster.proofs.Hosting.{parts_up, parts_node, parts_take}
 use Rattle.vp_cluster.proofs.host.Host.handle.Goals as goal
@@ -26,9 +28,12 @@ returns-in-Ok-clause-takes c =
     let cat = c.args.catalog.now in
     let h = c.in-Ok.ensures in
     let up : c.self.inside.log ≡ Some c.in-Some.log = cc in
-    let what_is : c.in_ok-what.what ≡ arrival cat c.self.inside.id (as_received letter) = c.in_ok-what.ensures.what ∙ ap (λ (bytes : List ℕ). arrival cat c.self.inside.id (record { port = letter.from; bytes = bytes })) c.deref.ensures in
+    let what_is : c.in_ok-what.what ≡ arrival cat c.self.inside.id (as_received letter) = c.in_ok-what.ensures.what ∙ ap (λ (letter : Letter). arrival cat c.self.inside.id (as_received letter)) c.letter.view_is in
     parts_take cat _ c.args.self.now c.self.view_is (as_received letter) c.args.site c.requires.lent c.requires.host c.in-Some.log up c.from_parts-node.result c.from_parts-node.ensures c.in_ok-what.what what_is _ h.others.stays.same_name
     c.in-Ok.node c.in-Ok.turn_effects c.into_parts-site.result c.into_parts-site.ensures (h.took, h.stepped, h.saved) h.kept
+
+pub returns-in-Ok-clause-frames : goal.returns-in-Ok-clause-frames
+returns-in-Ok-clause-frames c = subst (λ (node : NodeValue). AreFrames node.site.id c.in-Ok.turn_effects.effects) c.from_parts-node.ensures c.in-Ok.ensures.frames
 
 pub returns-in-Ok-clause-host : goal.returns-in-Ok-clause-host
 returns-in-Ok-clause-host c = (returns-in-Ok-clause-takes c).stays.host

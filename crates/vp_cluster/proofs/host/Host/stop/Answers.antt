@@ -1,4 +1,4 @@
-use Rattle.std.proofs.Common.{◌≡◌, ◌∙◌, List, ℕ, Some, None, ap, sym, subst}
+use Rattle.std.proofs.Common.{◌≡◌, ◌∙◌, Some, None, ap, sym, subst}
 use Rattle.std.specs.Prelude.{Option}
 use Rattle.vp_records.specs.Batches.{IsBatch}
 use Rattle.vp_stable.specs.Halves.{Standing}
@@ -6,7 +6,7 @@ use Rattle.vp_runs.specs.Arrivals.{arrival}
 use Rattle.vp_runs.proofs.Shaped.{turn_shaped}
 use Rattle.vp_cluster.specs.declared.host.StoppedLog.{StoppedLog}
 use Rattle.vp_cluster.specs.Hosts.{Stops, site_log}
-use Rattle.vp_cluster.specs.Letter.{as_received}
+use Rattle.vp_cluster.specs.Letter.{Letter, as_received}
 use Rattle.vp_cluster.proofs.Holding.{left_holds}
 use Rattle.vp_cluster.proofs.Hosting.{host_with, parts_up, parts_arrival, parts_stand}
 use Rattle.vp_cluster.proofs.HostStops.{shown_none, shown_some, stops_none, stops_within}
@@ -22,7 +22,7 @@ returns-then-is_empty-clause-stops c =
     let letter = c.args.letter.now in
     let cat = c.args.catalog.now in
     let up : c.self.inside.log ≡ Some c.in-Some.log = cc in
-    let what_is : c.in_ok-what.what ≡ arrival cat c.self.inside.id (as_received letter) = c.in_ok-what.ensures.what ∙ ap (λ (bytes : List ℕ). arrival cat c.self.inside.id (record { port = letter.from; bytes = bytes })) c.deref.ensures in
+    let what_is : c.in_ok-what.what ≡ arrival cat c.self.inside.id (as_received letter) = c.in_ok-what.ensures.what ∙ ap (λ (letter : Letter). arrival cat c.self.inside.id (as_received letter)) c.letter.view_is in
     let comes = parts_arrival cat _ c.args.self.now c.self.view_is c.args.site (as_received letter) c.in_ok-what.what c.requires.lent what_is in
     subst (λ (log : Option Standing). Stops cat (as_received letter) c.args.site c.args.self.now (host_with c.self.inside.id c.self.inside.port c.self.inside.disk log) None) (sym c.take.ensures.after)
     (stops_none cat (as_received letter) c.args.site _ c.args.self.now c.self.view_is c.requires.host c.in-Some.log up c.in_ok-what.what comes c.in_ok-turn_effects.turn_effects.effects.records c.in_ok-turn_effects.ensures.does.records_are c.self.inside.disk
@@ -43,7 +43,7 @@ returns-clause-stops c =
     let letter = c.args.letter.now in
     let cat = c.args.catalog.now in
     let up : c.self.inside.log ≡ Some c.in-Some.log = cc in
-    let what_is : c.in_ok-what.what ≡ arrival cat c.self.inside.id (as_received letter) = c.in_ok-what.ensures.what ∙ ap (λ (bytes : List ℕ). arrival cat c.self.inside.id (record { port = letter.from; bytes = bytes })) c.deref.ensures in
+    let what_is : c.in_ok-what.what ≡ arrival cat c.self.inside.id (as_received letter) = c.in_ok-what.ensures.what ∙ ap (λ (letter : Letter). arrival cat c.self.inside.id (as_received letter)) c.letter.view_is in
     let comes = parts_arrival cat _ c.args.self.now c.self.view_is c.args.site (as_received letter) c.in_ok-what.what c.requires.lent what_is in
     let it : StoppedLog = record { log = c.in_ok-log.field-0; kept = c.in_ok-left.kept } in
     let log_is = c.in_ok-log.ensures ∙ ap (λ (log : Option Standing). site_log (host_with c.self.inside.id c.self.inside.port c.in_ok-left.left log)) c.take.ensures.after in

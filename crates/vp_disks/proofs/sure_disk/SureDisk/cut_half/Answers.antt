@@ -10,7 +10,7 @@ invariant_of-self-in-Some c =
     let disk = c.self.inside in
     let at = c.index_mut.result.now in
     let change = Cut c.args.half c.args.length in
-    Keeps-changed disk.unnamed disk.named.items disk.place (reverse disk.changes.items) c.self.invariant
+    Keeps-changed disk.unnamed disk.named.items disk.place (reverse disk.changes) c.self.invariant
     c.in-Some.place at (record { name = at.name; log = c.cut-in-Some.new.self }) c.in-Some.is c.index_mut.ensures.value refl
     change (in_half c.args.half (take c.args.length)) c.cut-in-Some.ensures refl (λ earlier. refl)
-    _ (ap reverse c.in_ok-push.ensures.items ∙ reverse-append disk.changes.items (change ∷ []))
+    _ (ap reverse c.in_ok-cut.ensures.ok ∙ reverse-append disk.changes (change ∷ []))

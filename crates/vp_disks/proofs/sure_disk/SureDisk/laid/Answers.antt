@@ -9,7 +9,7 @@ pub returns-in_default : goal.returns-in_default
 returns-in_default c =
     let disk = c.self.inside in
     let none : disk.place ≡ None = cc c.in_default.is in
-    let keeps = subst (λ (place : Option ℕ). Keeps disk.unnamed disk.named.items place (reverse disk.changes.items)) none c.self.invariant in
+    let keeps = subst (λ (place : Option ℕ). Keeps disk.unnamed disk.named.items place (reverse disk.changes)) none c.self.invariant in
     let laid : laid_first disk.unnamed ≡ c.lay_copy.new.self = cc (c.in_ok-lay_copy.ensures.ok, c.new-disk.ensures) in
     subst (LeavesImages true c.args.self.now) laid
     (subst (λ old. LeavesImages true old (laid_first disk.unnamed)) c.self.view_is (left_unnamed disk.unnamed disk.named.items _ keeps))
@@ -18,7 +18,7 @@ pub returns : goal.returns
 returns c =
     let disk = c.self.inside in
     let at = c.index.result.now in
-    let keeps = subst (λ (place : Option ℕ). Keeps disk.unnamed disk.named.items place (reverse disk.changes.items)) c.in-Some.is c.self.invariant in
+    let keeps = subst (λ (place : Option ℕ). Keeps disk.unnamed disk.named.items place (reverse disk.changes)) c.in-Some.is c.self.invariant in
     let new = Attached at.name ∷ laid_over disk.named.items (laid_first disk.unnamed) in
     let laid : new ≡ c.attach_log.new.self = cc (c.in_ok-attach_log.ensures.ok, c.in_ok-lay_named.ensures, c.in_ok-lay_copy.ensures.ok, c.new-disk.ensures, c.deref.ensures.value) in
     subst (LeavesImages true c.args.self.now) laid

@@ -59,5 +59,5 @@ returns-clause-any_moment g c honest =
     let d : Datagram = record { port = c.args.port; bytes = c.args.bytes.now } in
     let node = c.args.self in
     let disk = g.D.Disk.state c.args.disk.now in
-    let what_is = subst (λ (n : NodeValue). c.in_ok-what.what ≡ what_comes c.args.catalog.now n d) c.self.view_is (rw c.id.ensures at c.in_ok-what.ensures.what) in
+    let what_is = subst (λ (n : NodeValue). c.in_ok-what.what ≡ what_comes c.args.catalog.now n d) c.self.view_is (rw c.id-id.ensures at c.in_ok-what.ensures.what) in
     subst (λ (what : Arrival). IfSome (log_of disk) (λ log. LeavesOnly disk (g.D.Disk.state c.handle.new.disk) (MaySave c.args.catalog.now node (turn_on c.args.catalog.now node.site what) log))) what_is (c.handle.ensures.any_moment honest)
