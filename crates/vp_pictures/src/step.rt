@@ -4,6 +4,7 @@ ghost use Rattle.std.specs.Prelude.{◌≡◌, ◌≤◌, ◌^◌, ◌<◌, Bool
 ghost use Rattle.vp_model.specs.Words.{for_each};
 ghost use Rattle.vp_pictures.specs.Sheets.{mark_at};
 ghost use Rattle.vp_pictures.specs.Places.{top};
+ghost use Rattle.vp_trace.specs.LentLines.{line_of};
 ghost use Rattle.vp_pictures.specs.Steps.{arrow_kind, arrow_of, bar_of, colour, cut_of, delivery, draw_line, event_x, hide_messages, hide_message, idle_kind, is_drawn, life_of, lock_of, refuses, say_commit, say_event, say_idle, say_message, say_reply, say_shown, say_view, draw_step, with_arrow, with_lock, with_look, words_of_event};
 
 use crate::places::{column, edge, top};
@@ -177,7 +178,7 @@ impl Sheet {
         looks: &[(SiteId, Look)],
         joined: &Option<View>,
     ) -> Result<(), NoMemory>
-        ensures { OnOk result (self.new ≡ draw_line catalog.now number line.now looks.now joined.now self.old) }
+        ensures { OnOk result (self.new ≡ draw_line catalog.now number (line_of line.now) looks.now joined.now self.old) }
     {
         let is_drawn = self.is_drawn(number);
         self.draw_delivery(catalog, is_drawn, line)?;
@@ -196,7 +197,7 @@ impl Sheet {
         line: &LentLine,
     ) -> Result<(), NoMemory>
         ensures { OnOk result
-            (self.new ≡ with_arrow catalog.now is_drawn line.now.event line.now.shown self.old) }
+            (self.new ≡ with_arrow catalog.now is_drawn line.now.event.now line.now.shown.now self.old) }
     {
         let Event::Deliver { k } = line.event else {
             return Ok(());
@@ -264,7 +265,7 @@ impl Sheet {
         looks: &[(SiteId, Look)],
         joined: &Option<View>,
     ) -> Result<(), NoMemory>
-        ensures { OnOk result (self.new ≡ draw_step catalog.now number line.now looks.now joined.now self.old) }
+        ensures { OnOk result (self.new ≡ draw_step catalog.now number (line_of line.now) looks.now joined.now self.old) }
     {
         let y = top(self.lines);
         let x = self.event_x(catalog, line.event);

@@ -21,8 +21,8 @@ pub trait Observer {
     /// Sees the next line. `number` is that of the event, from 1 on; lines of one flow have the same. After an error the observer has
     /// what `begins` says.
     fn see(&mut self, number: u32, line: &LentLine, catalog: &Catalog) -> Result<(), NoMemory>
-        ensures seen { OnOk result (sees catalog.now (number, line.now) self.old self.new) }
-        ensures begun { OnErr result (begins catalog.now (number, line.now) self.old self.new) };
+        ensures seen { OnOk result (sees catalog.now (number, line_of line.now) self.old self.new) }
+        ensures begun { OnErr result (begins catalog.now (number, line_of line.now) self.old self.new) };
 }
 
 /// An observer that keeps the text of the trace.

@@ -4,6 +4,7 @@ ghost use Rattle.std.specs.Prelude.{◌≤◌, ◌+◌, ◌<◌, ◌^◌, ◌++�
 ghost use Rattle.vp_text.specs.Printing.{Appends};
 ghost use Rattle.std.specs.Fmt.{decimal};
 ghost use Rattle.vp_model.specs.Texts.Messages.{message_text};
+ghost use Rattle.vp_trace.specs.LentLines.{line_of};
 ghost use Rattle.vp_model.specs.Texts.Trace.{commit_line, sent_line, sent_lines, reply_line, told_line, shown_text, line_text};
 
 use crate::answers::print_answer;
@@ -144,7 +145,7 @@ pub fn print_line(
     catalog: &Catalog,
     out: &mut Vec<u8>,
 ) -> Result<(), NoMemory>
-    ensures { Appends result out.old.items (line_text catalog.now (number, line.now)) out.new.items }
+    ensures { Appends result out.old.items (line_text catalog.now (number, line_of line.now)) out.new.items }
 {
     print_count(out, number)?;
     out.push(b' ')?;
