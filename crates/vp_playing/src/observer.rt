@@ -11,6 +11,7 @@ use vp_trace::{LentLine, print_line};
 pub trait Observer {
     ghost use Rattle.vp_base.specs.declared.event.Line.{Line};
     ghost use Rattle.vp_model.specs.Catalogue.{Catalogue};
+    ghost use Rattle.vp_trace.specs.LentLines.{line_of};
 
     /// What it makes of a line, with the number of its event: the observer before and after.
     ghost sees: { Catalogue → ℕ × Line → Self → Self → Type 0 };
