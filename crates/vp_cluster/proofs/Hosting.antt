@@ -95,6 +95,7 @@ module _ (catalogue : Catalogue) (d : Datagram) (site : SiteState) (id port : â„
       same_port = refl;
     };
     site_is = gives.site;
+    datagrams_are = gives.datagrams;
     stepped = stepped;
     up = Î» batches h. turned_at asked saved batches h.stands;
   }

@@ -17,7 +17,7 @@ use Rattle.vp_stable.specs.Stops.{with_batch}
 use Rattle.vp_runs.specs.Arrivals.{arrival}
 use Rattle.vp_runs.specs.Keeping.{durable_in}
 use Rattle.vp_runs.specs.Runs.{NodeState, start_node, after_turn}
-use Rattle.vp_runs.specs.Turns.{Turn, turn_on}
+use Rattle.vp_runs.specs.Turns.{Turn, datagrams_of, turn_on}
 use Rattle.vp_node.specs.Taking.{IsStepOf}
 use Rattle.vp_node.specs.declared.turned.TurnEffects.{TurnEffects}
 use Rattle.vp_world.specs.Asked.{life_start}
@@ -93,6 +93,7 @@ turn_at catalogue site d = turn_on catalogue site (arrival catalogue site.id d)
 pub record Takes (catalogue : Catalogue) (d : Datagram) (site : SiteState) (old new : HostValue) (after : SiteState) (turn_effects : TurnEffects) : Type 0 where
   pub stays : Stays catalogue old new
   pub site_is : after ≡ (turn_at catalogue site d).site
+  pub datagrams_are : datagrams_of catalogue site.id turn_effects.effects ≡ (turn_at catalogue site d).datagrams
   pub stepped : IsStepOf catalogue site (arrival catalogue site.id d) after turn_effects.effects
   pub up : (batches : List (List LogRecord)) → IsAt batches (Some site) old → IsAt (after_turn (node_at site batches) (turn_at catalogue site d)).batches (Some (turn_at catalogue site d).site) new
 

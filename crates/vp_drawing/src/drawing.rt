@@ -14,6 +14,7 @@ use vp_base::{CopyOf, Counted, Event, NoMemory};
 use vp_catalog::Catalog;
 use vp_pictures::{Part, Sheet};
 use vp_schedule::Schedule;
+use vp_trace::LentLine;
 use vp_world::World;
 
 /// A picture in the making: how the sites look after the steps so far, what is drawn of these, and how many they are.
@@ -54,8 +55,12 @@ impl Drawing {
         let step = world.next_by(event, &mut self.watch)?;
         let looks = self.watch.looks();
         let joined = self.watch.joined();
+        let line = LentLine {
+            event,
+            shown: step.shown(),
+        };
         self.sheet
-            .draw(step.catalog(), number, step.line(), looks, joined)?;
+            .draw(step.catalog(), number, &line, looks, joined)?;
         self.steps += 1;
         within_messages(step.into_world()?)
     }

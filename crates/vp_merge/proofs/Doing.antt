@@ -144,7 +144,7 @@ noted_index (shown.Life life) before after old new n s = still before after old 
 noted_index (shown.LivesSpent life) before after old new n s = still before after old new n s
 
 pub takes_some : (site : ℕ) (e : Event) (short : Bool) (outs : List (List ℕ)) (old : Played) (r : PlayedStep) (new : Played) (told : Bool) (before after : FrameNumbers) → Goes e old r → (new.world ≡ r.step.0) × (new.events ≡ r.events)
-    → refused world_limits old.world.catalogue e old.world.world ≡ None → told ≡ tells short outs (frames_in site r.step.1.shown) → NotesShown r.step.1.shown before after
+    → refused world_limits old.world.catalogue e old.world.world ≡ None → told ≡ tells short outs (frames_in site r.step.1) → NotesShown r.step.1 before after
     → Sends (next old.world.catalogue e old.world.world).shown old.world.world.sent (next old.world.catalogue e old.world.world).world.sent → Takes site (Some e) short outs old new told before after
 takes_some site e short outs old r new told before after goes into free is notes sends =
     let n = noted_index (next old.world.catalogue e old.world.world).shown before after old.world.world.sent (next old.world.catalogue e old.world.world).world.sent (subst (λ (what : Shown). NotesShown what before after) goes.shown notes) sends in

@@ -35,6 +35,6 @@ done_at p made = record { world = p.world.world; events = p.events; made = made 
 -- The event was done.
 pub record Goes (e : Event) (old : Played) (r : PlayedStep) : Type 0 where
   pub world : r.step.0 ≡ record { catalogue = old.world.catalogue; world = (next old.world.catalogue e old.world.world).world }
-  pub shown : r.step.1.shown ≡ (next old.world.catalogue e old.world.world).shown
+  pub shown : r.step.1 ≡ (next old.world.catalogue e old.world.world).shown
   pub events : r.events ≡ old.events ++ e ∷ []
   pub reached : IsReached r.step.0.catalogue r.step.0.world r.events

@@ -59,6 +59,6 @@ pub fn take_event(
         return Ok((played, told));
     };
     let step = played.next(event)?;
-    let told = tells(site, &step.step.line().shown, outs, short, numbers, room)?;
+    let told = tells(site, step.step.shown(), outs, short, numbers, room)?;
     Ok((step.into_played()?, told))
 }

@@ -4,6 +4,7 @@ ghost use Rattle.std.specs.Prelude.{◌≡◌, ◌≤◌, ◌^◌, ◌<◌, Bool
 ghost use Rattle.vp_model.specs.Words.{for_each};
 ghost use Rattle.vp_pictures.specs.Sheets.{mark_at};
 ghost use Rattle.vp_pictures.specs.Places.{top};
+ghost use Rattle.vp_trace.specs.LentLines.{line_of};
 ghost use Rattle.vp_pictures.specs.Steps.{arrow_kind, arrow_of, bar_of, colour, cut_of, delivery, draw_line, event_x, hide_messages, hide_message, idle_kind, is_drawn, life_of, lock_of, refuses, say_commit, say_event, say_idle, say_message, say_reply, say_shown, say_view, draw_step, with_arrow, with_lock, with_look, words_of_event};
 
 use crate::places::{column, edge, top};
@@ -15,9 +16,10 @@ use crate::words::{
 };
 use std::alloc::Global;
 use vp_base::{
-    Answer, Commit, Event, Line, NoMemory, RecId, Reply, Sent, Shown, SiteId, View, ViewId, Word,
+    Answer, Commit, Event, NoMemory, RecId, Reply, Sent, Shown, SiteId, View, ViewId, Word,
 };
 use vp_catalog::Catalog;
+use vp_trace::LentLine;
 
 /// The index of the colour of locks, after those of views.
 const LOCKS: u64 = 12;
@@ -172,18 +174,18 @@ impl Sheet {
         &mut self,
         catalog: &Catalog,
         number: u32,
-        line: &Line,
+        line: &LentLine,
         looks: &[(SiteId, Look)],
         joined: &Option<View>,
     ) -> Result<(), NoMemory>
-        ensures { OnOk result (self.new ≡ draw_line catalog.now number line.now looks.now joined.now self.old) }
+        ensures { OnOk result (self.new ≡ draw_line catalog.now number (line_of line.now) looks.now joined.now self.old) }
     {
         let is_drawn = self.is_drawn(number);
         self.draw_delivery(catalog, is_drawn, line)?;
         if is_drawn {
             self.draw_step(catalog, number, line, looks, joined)
         } else {
-            self.hide(catalog, &line.shown)
+            self.hide(catalog, line.shown)
         }
     }
 
@@ -192,18 +194,18 @@ impl Sheet {
         &mut self,
         catalog: &Catalog,
         is_drawn: bool,
-        line: &Line,
+        line: &LentLine,
     ) -> Result<(), NoMemory>
         ensures { OnOk result
-            (self.new ≡ with_arrow catalog.now is_drawn line.now.event line.now.shown self.old) }
+            (self.new ≡ with_arrow catalog.now is_drawn line.now.event.now line.now.shown.now self.old) }
     {
-        let Event::Deliver { k } = &line.event else {
+        let Event::Deliver { k } = line.event else {
             return Ok(());
         };
         let Some(mark) = self.mark(*k) else {
             return Ok(());
         };
-        let arrow = self.delivery(catalog, is_drawn, &line.shown, mark);
+        let arrow = self.delivery(catalog, is_drawn, line.shown, mark);
         self.came.push(u64::from(*k))?;
         self.draw_arrow(arrow)
     }
@@ -259,17 +261,17 @@ impl Sheet {
         &mut self,
         catalog: &Catalog,
         number: u32,
-        line: &Line,
+        line: &LentLine,
         looks: &[(SiteId, Look)],
         joined: &Option<View>,
     ) -> Result<(), NoMemory>
-        ensures { OnOk result (self.new ≡ draw_step catalog.now number line.now looks.now joined.now self.old) }
+        ensures { OnOk result (self.new ≡ draw_step catalog.now number (line_of line.now) looks.now joined.now self.old) }
     {
         let y = top(self.lines);
-        let x = self.event_x(catalog, &line.event);
-        self.draw_arrow(cut_of(catalog, y + 18, &line.event))?;
-        self.say_event(x, number, &line.event)?;
-        self.say_shown(catalog, x, &line.shown)?;
+        let x = self.event_x(catalog, line.event);
+        self.draw_arrow(cut_of(catalog, y + 18, line.event))?;
+        self.say_event(x, number, line.event)?;
+        self.say_shown(catalog, x, line.shown)?;
         self.say_view(catalog, x, joined)?;
         self.draw_looks(catalog, y, looks)
     }

@@ -7,8 +7,9 @@ ghost use Rattle.vp_playing.specs.Played.{SeesAll, SeesSome, Sees, Plays, StepsA
 ghost use Rattle.vp_world.specs.Steps.{IsReady};
 
 use crate::observer::Observer;
-use vp_base::{Event, Line, NoMemory, Shown};
+use vp_base::{Event, NoMemory, Shown};
 use vp_catalog::Catalog;
+use vp_trace::LentLine;
 use vp_world::{Stepper, World, WorldEnd};
 
 /// Does one step, and shows its line.
@@ -29,7 +30,11 @@ fn play_step<S: Stepper, O: Observer>(
     match world.next_by(event, stepper) {
         Err(end) => Err(end),
         Ok(happened) => {
-            observer.see(number, happened.line(), happened.catalog())?;
+            let line = LentLine {
+                event,
+                shown: happened.shown(),
+            };
+            observer.see(number, &line, happened.catalog())?;
             Ok(happened.into_world()?)
         }
     }
@@ -74,12 +79,12 @@ fn show_own_line<O: Observer>(
         (SeesSome (O.sees catalog.now) (O.begins catalog.now) (own_line number event.now) observer.old
         observer.new) }
 {
-    let Event::Flow { count } = event else {
+    let Event::Flow { .. } = event else {
         return Ok(());
     };
-    let line = Line {
-        event: Event::Flow { count: *count },
-        shown: Shown::Nothing,
+    let line = LentLine {
+        event,
+        shown: &Shown::Nothing,
     };
     observer.see(number, &line, catalog)
 }

@@ -3,12 +3,12 @@
 use std::alloc::Global;
 use std::process::Abort;
 use vp_base::{
-    Answer, Boxed, Call, CallNo, Change, Commit, Commits, Event, Line, Message, Messages, OPENING,
+    Answer, Boxed, Call, CallNo, Change, Commit, Commits, Event, Message, Messages, OPENING,
     Obstacle, Ops, Owner, Put, RecId, Replies, Reply, Sent, Seq, Shown, SiteId, Stored, Tables,
     TxnId, Value, ViewId,
 };
 use vp_catalog::Catalog;
-use vp_trace::print_line;
+use vp_trace::{LentLine, print_line};
 
 const VIEW: ViewId = ViewId { number: 1, site: 2 };
 
@@ -288,9 +288,10 @@ fn lines_are_printed(rt: HostRuntime) {
     let catalog = Catalog::read(rt.alloc(), text).expect(&rt, "a catalogue");
     let mut out = Vec::new(rt.alloc());
     for kind in 0..29u8 {
-        let line = Line {
-            event: event(kind % 9),
-            shown: shown(&rt, rt.alloc(), kind),
+        let (happens, gives) = (event(kind % 9), shown(&rt, rt.alloc(), kind));
+        let line = LentLine {
+            event: &happens,
+            shown: &gives,
         };
         print_line(u32::from(kind) + 1, &line, &catalog, &mut out).expect(&rt, "memory");
     }

@@ -4,13 +4,15 @@ ghost use Rattle.std.specs.Prelude.{◌≤◌, ◌+◌, ◌<◌, ◌^◌, ◌++�
 ghost use Rattle.vp_text.specs.Printing.{Appends};
 ghost use Rattle.std.specs.Fmt.{decimal};
 ghost use Rattle.vp_model.specs.Texts.Messages.{message_text};
+ghost use Rattle.vp_trace.specs.LentLines.{line_of};
 ghost use Rattle.vp_model.specs.Texts.Trace.{commit_line, sent_line, sent_lines, reply_line, told_line, shown_text, line_text};
 
 use crate::answers::print_answer;
 use crate::calls::print_event;
 use crate::fields::{print_count, print_site, print_txn, print_view, print_word};
+use crate::line::LentLine;
 use crate::messages::print_message;
-use vp_base::{Commit, Line, NoMemory, Reply, Sent, Shown, SiteId};
+use vp_base::{Commit, NoMemory, Reply, Sent, Shown, SiteId};
 use vp_catalog::Catalog;
 use vp_text::print_number;
 
@@ -139,15 +141,15 @@ fn print_shown(catalog: &Catalog, shown: &Shown, out: &mut Vec<u8>) -> Result<()
 /// Appends the line `number EVENT` and the lines of what the event gave. After an error a beginning of them may have been appended.
 pub fn print_line(
     number: u32,
-    line: &Line,
+    line: &LentLine,
     catalog: &Catalog,
     out: &mut Vec<u8>,
 ) -> Result<(), NoMemory>
-    ensures { Appends result out.old.items (line_text catalog.now (number, line.now)) out.new.items }
+    ensures { Appends result out.old.items (line_text catalog.now (number, line_of line.now)) out.new.items }
 {
     print_count(out, number)?;
     out.push(b' ')?;
-    print_event(&line.event, out)?;
+    print_event(line.event, out)?;
     out.push(b'\n')?;
-    print_shown(catalog, &line.shown, out)
+    print_shown(catalog, line.shown, out)
 }

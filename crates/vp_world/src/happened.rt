@@ -5,16 +5,15 @@ ghost use Rattle.std.specs.Prelude.{◌≡◌, IfOk};
 use crate::state::State;
 use crate::world::World;
 use std::marker::Model;
-use std::mem;
-use vp_base::{Line, NoMemory, Shown};
+use vp_base::{NoMemory, Shown};
 use vp_catalog::Catalog;
 
-/// An event that was done in a world. A contract sees the world after it and its line. The messages and the commits of the step are held
-/// by the line until the world goes on, so that none is copied.
+/// An event that was done in a world. A contract sees the world after it and what the trace shows under the event. The messages and
+/// the commits of the step are held there until the world goes on, so that none is copied.
 pub struct WorldStep {
     pub(crate) catalog: Box<Catalog>,
     pub(crate) state: Box<State>,
-    pub(crate) line: Line,
+    pub(crate) shown: Shown,
 }
 
 impl Drop for WorldStep {
@@ -22,29 +21,29 @@ impl Drop for WorldStep {
         let WorldStep {
             catalog: _,
             state: _,
-            line: _,
+            shown: _,
         } = self;
     }
 }
 
 impl Model for WorldStep {
-    ghost use Rattle.vp_model.specs.Types.{Line};
+    ghost use Rattle.vp_model.specs.Types.{Shown};
     ghost use Rattle.vp_world.specs.Known.{Known, IsWithinLimits};
     ghost use Rattle.vp_world.specs.Limits.{with_line};
 
-    ghost Value = { Known × Line };
+    ghost Value = { Known × Shown };
 
-    ghost view = { λ h. (record { catalogue = h.catalog.value; world = with_line h.line.shown h.state.value }, h.line) };
+    ghost view = { λ h. (record { catalogue = h.catalog.value; world = with_line h.shown h.state.value }, h.shown) };
 
-    ghost invariant = { λ h. IsWithinLimits (with_line h.line.shown h.state.value) };
+    ghost invariant = { λ h. IsWithinLimits (with_line h.shown h.state.value) };
 }
 
 impl WorldStep {
-    /// The line that the trace shows for the event.
-    pub fn line(&self) -> &Line
+    /// What the trace shows under the event.
+    pub fn shown(&self) -> &Shown
         ensures { result.now ≡ self.now.1 }
     {
-        &self.line
+        &self.shown
     }
 
     /// The catalogue of the world.
@@ -61,9 +60,8 @@ impl WorldStep {
         let WorldStep {
             catalog,
             mut state,
-            mut line,
+            shown,
         } = self;
-        let shown = mem::replace(&mut line.shown, Shown::Nothing);
         state.keep(shown)?;
         Ok(World { catalog, state })
     }

@@ -68,34 +68,31 @@ impl World {
         ensures end { Ends (refused world_limits self.catalogue event.now self.world) result }
     {
         let happened = self.next_by(event, &mut PlainStepper)?;
-        let line = happened.line().copy_of()?;
+        let line = Line {
+            event: event.copy_of()?,
+            shown: happened.shown().copy_of()?,
+        };
         Ok((happened.into_world()?, line))
     }
 
-    /// Does the event, where the stepper does what it asks of a site: a step, a crash or a restart. The world goes on once its line was
+    /// Does the event, where the stepper does what it asks of a site: a step, a crash or a restart. The world goes on once what it gave was
     /// shown. After an error the world is gone.
     pub fn next_by<S: Stepper>(self, event: &Event, stepper: &mut S) -> Result<WorldStep, WorldEnd>
         requires { IsReady S.may self.catalogue event.now self.world stepper.old }
         ensures world { IfOk result
             (λ r. r.0 ≡
             record { catalogue = self.catalogue; world = (next self.catalogue event.now self.world).world }) }
-        ensures line { IfOk result
-            (λ r. r.1 ≡
-            record { event = event.now; shown = (next self.catalogue event.now self.world).shown }) }
+        ensures shown { IfOk result (λ r. r.1 ≡ (next self.catalogue event.now self.world).shown) }
         ensures end { Ends (refused world_limits self.catalogue event.now self.world) result }
         ensures did { OnOk result
             (DoesEvent S.did self.catalogue event.now self.world stepper.old stepper.new) }
     {
         let World { catalog, mut state } = self;
         let shown = state.next(&catalog, event, stepper)?;
-        let line = Line {
-            event: event.copy_of()?,
-            shown,
-        };
         Ok(WorldStep {
             catalog,
             state,
-            line,
+            shown,
         })
     }
 

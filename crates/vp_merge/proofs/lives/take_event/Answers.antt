@@ -1,6 +1,6 @@
 use Rattle.std.proofs.Common.{◌∙◌, ap, sym, subst, ◌≤◌, length}
 use Rattle.std.specs.Prelude.{Option, IfSome}
-use Rattle.vp_model.specs.Types.{Event, Line}
+use Rattle.vp_model.specs.Types.{Event, Shown}
 use Rattle.vp_model.specs.Catalogue.{sites_of}
 use Rattle.vp_world.specs.Known.{Known}
 use Rattle.vp_fitting.specs.Fitting.{frames_in}
@@ -18,7 +18,7 @@ tells-requires-2 c =
     let goes = c.in_ok-step.ensures.goes in
     let put : IsPut (sites_of old.world.catalogue) c.in-Some.event = subst (λ (o : Option Event). IfSome o (IsPut (sites_of old.world.catalogue))) c.in-Some.is c.requires.put in
     let shows = event_shows old.world.catalogue old.world.world old.events c.in-Some.event c.requires.played put c.args.site c.requires.listed in
-    let shown = ap (λ (l : Line). l.shown) c.line.ensures ∙ goes.shown in
+    let shown = c.shown.ensures ∙ goes.shown in
     subst (AreFrames c.args.site) (sym shown) (shows.1 (subst (λ (k : Known). length k.world.sent ≤ 2000000) goes.world goes.reached.few_sent))
 
 pub returns : goal.returns
@@ -32,6 +32,6 @@ returns c =
     let told = c.in_ok-told-2.told in
     subst (λ (o : Option Event). Takes c.args.site o c.args.short outs old new told c.args.numbers.now c.tells-2.new.numbers) (sym c.in-Some.is)
     (takes_some c.args.site c.in-Some.event c.args.short outs old c.in_ok-step.step new told c.args.numbers.now c.tells-2.new.numbers goes c.in_ok-into_played.ensures c.in_ok-step.ensures.end
-    (c.in_ok-told-2.ensures.told ∙ ap (λ (l : Line). tells c.args.short outs (frames_in c.args.site l.shown)) c.line.ensures)
-    (subst (λ (l : Line). NotesShown l.shown c.args.numbers.now c.tells-2.new.numbers) c.line.ensures c.in_ok-told-2.ensures.noted)
+    (c.in_ok-told-2.ensures.told ∙ ap (λ (s : Shown). tells c.args.short outs (frames_in c.args.site s)) c.shown.ensures)
+    (subst (λ (s : Shown). NotesShown s c.args.numbers.now c.tells-2.new.numbers) c.shown.ensures c.in_ok-told-2.ensures.noted)
     shows.0)

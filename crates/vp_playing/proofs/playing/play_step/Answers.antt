@@ -16,18 +16,18 @@ returns-in_err-see-in-Ok-clause-seen g c =
     let is : c.from_residual.result ≡ Err end.NoMemory = search rules in
     subst (λ (r : Result Known WorldEnd). Sees g.O.Observer.sees g.O.Observer.begins c.args.world.catalogue [] (one_step c.args.world.catalogue c.args.number c.args.event.now (run_in c.args.world.world)) r c.args.observer.now c.see.new.self)
     (sym is)
-    (step_is_left g.O.Observer.sees g.O.Observer.begins c.args.world.catalogue c.args.number c.args.event.now c.args.world.world c.in-Ok.happened.1 c.args.observer.now c.see.new.self (search rules) (search rules) (search rules))
+    (step_is_left g.O.Observer.sees g.O.Observer.begins c.args.world.catalogue c.args.number c.args.event.now c.args.world.world (record { event = c.args.event.now; shown = c.in-Ok.happened.1 }) c.args.observer.now c.see.new.self (search rules) (search rules) (search rules))
 
 pub returns-in_err-into_world-in-Ok-clause-seen : goal.returns-in_err-into_world-in-Ok-clause-seen
 returns-in_err-into_world-in-Ok-clause-seen g c =
     let is : c.from_residual-in_err-into_world-in-Ok.result ≡ Err end.NoMemory = search rules in
     subst (λ (r : Result Known WorldEnd). Sees g.O.Observer.sees g.O.Observer.begins c.args.world.catalogue [] (one_step c.args.world.catalogue c.args.number c.args.event.now (run_in c.args.world.world)) r c.args.observer.now c.see.new.self)
     (sym is)
-    (step_was_seen g.O.Observer.sees g.O.Observer.begins c.args.world.catalogue c.args.number c.args.event.now c.args.world.world c.in-Ok.happened.1 c.args.observer.now c.see.new.self (search rules) (search rules) (search rules))
+    (step_was_seen g.O.Observer.sees g.O.Observer.begins c.args.world.catalogue c.args.number c.args.event.now c.args.world.world (record { event = c.args.event.now; shown = c.in-Ok.happened.1 }) c.args.observer.now c.see.new.self (search rules) (search rules) (search rules))
 
 pub returns-in_ok-into_world-in-Ok-clause-seen : goal.returns-in_ok-into_world-in-Ok-clause-seen
 returns-in_ok-into_world-in-Ok-clause-seen g c =
-    step_shows g.O.Observer.sees g.O.Observer.begins c.args.world.catalogue c.args.number c.args.event.now c.args.world.world c.in_ok-into_world-in-Ok.field-0 c.in-Ok.happened.1 c.args.observer.now c.see.new.self (search rules) (search rules) (search rules) (search rules)
+    step_shows g.O.Observer.sees g.O.Observer.begins c.args.world.catalogue c.args.number c.args.event.now c.args.world.world c.in_ok-into_world-in-Ok.field-0 (record { event = c.args.event.now; shown = c.in-Ok.happened.1 }) c.args.observer.now c.see.new.self (search rules) (search rules) (search rules) (search rules)
 
 pub returns-in_ok-into_world-in-Ok-clause-stepped : goal.returns-in_ok-into_world-in-Ok-clause-stepped
 returns-in_ok-into_world-in-Ok-clause-stepped g c =

@@ -1,5 +1,5 @@
 use Rattle.std.proofs.Common.{rules, refl, sym, subst, ap, ◌+◌, ◌≡◌, ◌∙◌, Result, Err}
-use Rattle.vp_model.specs.Types.{Line}
+use Rattle.vp_model.specs.Types.{Shown}
 use Rattle.vp_model.specs.World.{moment, next}
 use Rattle.vp_world.specs.Known.{Known}
 use Rattle.vp_world.proofs.Taking.{takers}
@@ -20,7 +20,7 @@ returns-in_err-step c =
     let is : c.from_residual-in_err-step.result ≡ Err (end_of why) = search rules in
     let new : Drawing = record { watch = c.next_by.new.stepper; sheet = c.args.self.now.sheet; steps = c.args.self.now.steps } in
     subst (λ (r : Result Known DrawingEnd). DrawsMoment c.args.world.catalogue (moment c.args.number c.args.world.world c.args.event.now (next c.args.world.catalogue c.args.event.now c.args.world.world)) r c.args.self.now new) (sym is)
-    (world_ends c.args.world.catalogue c.args.number c.args.event.now c.args.world.world c.args.self.now c.requires c.if-self-eq-MOST_STEPS.false (Known × Line) why new c.in_err-step.ensures.end)
+    (world_ends c.args.world.catalogue c.args.number c.args.event.now c.args.world.world c.args.self.now c.requires c.if-self-eq-MOST_STEPS.false (Known × Shown) why new c.in_err-step.ensures.end)
 
 pub returns : goal.returns
 returns c =
@@ -33,6 +33,6 @@ returns c =
     let stepped = c.in_ok-step.ensures.world in
     let new : Drawing = record { watch = c.next_by.new.stepper; sheet = c.draw.new.self; steps = old.steps + 1 } in
     let sheet =
-    c.in_ok-draw.ensures ∙ drawn_same c.args.number _ _ _ _ _ _ _ _ old.sheet (c.catalog.ensures ∙ ap (λ (k : Known). k.catalogue) stepped) (c.line.ensures ∙ c.in_ok-step.ensures.line) (c.looks-looks.ensures ∙ seen.looks_are) (c.joined-joined.ensures ∙ seen.joined_is) in
+    c.in_ok-draw.ensures ∙ drawn_same c.args.number _ _ _ _ _ _ _ _ old.sheet (c.catalog.ensures ∙ ap (λ (k : Known). k.catalogue) stepped) (ap (λ (s : Shown). record { event = e; shown = s }) (c.shown.ensures ∙ c.in_ok-step.ensures.shown)) (c.looks-looks.ensures ∙ seen.looks_are) (c.joined-joined.ensures ∙ seen.joined_is) in
     step_ends catalogue c.args.number e w old c.requires c.if-self-eq-MOST_STEPS.false new refl seen.catalogue_is seen.looks_are sheet
     c.in_ok-into_world.field-0 (c.in_ok-into_world.ensures ∙ stepped) c.within_messages.result c.within_messages.ensures

@@ -1,5 +1,4 @@
-use Rattle.std.proofs.Common.{ap, sym, subst}
-use Rattle.vp_model.specs.Types.{Line}
+use Rattle.std.proofs.Common.{sym, subst}
 use Rattle.vp_world.specs.Known.{Known}
 use Rattle.vp_merge.specs.Played.{IsReached}
 use Rattle.vp_merge.proofs.Reached.{reached_more}
@@ -11,7 +10,7 @@ returns-clause-goes c =
     let pushed = c.in_ok-push.ensures.ok in
     record {
       world = step.world;
-      shown = ap (λ (l : Line). l.shown) step.line;
+      shown = step.shown;
       events = pushed;
       reached =
           subst (λ (w : Known). IsReached w.catalogue w.world c.push.new.self) (sym step.world)
