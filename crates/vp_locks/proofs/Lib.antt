@@ -1,4 +1,3 @@
 pub mod InSlots
 pub mod Indexes
-pub mod Listed
 pub mod Lists

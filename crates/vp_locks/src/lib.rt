@@ -4,23 +4,29 @@
 #![tactic(auto)]
 
 ghost use Rattle.std.specs.Prelude.{◌≡◌, ◌==◌, ◌++◌, ◌∷◌, [], is_ok, not, ◌&&◌, ◌||◌, Some, None, option_copied, if◌then◌else◌, filter, map, fold, true, false};
-ghost use Rattle.std.specs.List.{filter_map};
+ghost use Rattle.std.specs.List.{filter_map, list_any};
 ghost use Rattle.std.specs.Option.{option_map_or};
 ghost use Rattle.vp_base.specs.declared.entry.Owner.TheVariants as owner;
 ghost use Rattle.vp_locks.specs.Faults.{holder_in};
+ghost use Rattle.vp_locks.specs.Index.{exclusive_on};
 ghost use Rattle.vp_locks.specs.Places.{lock_at, passes};
 ghost use Rattle.vp_model.specs.Locks.{conflict, conflicting, least_owner, holds, with_lock, with_guard, without_owner, without_guard, without_shared, lesser, raised};
 ghost use Rattle.vp_locks.specs.Staying.{stays};
 ghost use Rattle.vp_model.specs.Words.{same_owner, owner_before};
 
+mod holders;
 mod keeps;
+mod key;
 mod places;
+mod rec_locks;
 mod slots;
 
 use keeps::KeepRule;
 pub use keeps::Keeps;
-use places::{OwnerKey, Places, RecPlaces, owner_key};
-use slots::{exclusive_or_own, lock_at, raise, sweep, sweep_all};
+use key::{OwnerKey, owner_key};
+use places::Places;
+use rec_locks::RecLocks;
+use slots::{lock_at, raise, sweep, sweep_all};
 use std::alloc::Global;
 use std::marker::Model;
 use vp_base::{CopyOf, Lock, NoMemory, Owner, RecId, TxnId};
@@ -61,58 +67,57 @@ fn lesser_of(best: Option<Owner>, owner: &Owner) -> Owner
     }
 }
 
-/// The lower of the least owner so far and the lock's owner; the latter is passed over where it is `owner`.
-fn least_with(best: Option<Owner>, lock: Option<&Lock>, owner: &Owner) -> Option<Owner>
+/// The lower of the least owner so far and the lock's owner, if the lock is another owner's and an exclusive one on the record.
+fn least_with(best: Option<Owner>, lock: Option<&Lock>, rec: RecId, owner: &Owner) -> Option<Owner>
     ensures { result ≡
         option_map_or
-        (λ lock. if not (same_owner lock.owner owner.now) then Some (lesser best lock.owner) else best)
+        (λ lock. if exclusive_on lock rec && not (same_owner lock.owner owner.now) then Some (lesser best lock.owner) else best)
         (option_copied lock.entry) best }
 {
     match lock {
-        Some(lock) if !is_same_owner(&lock.owner, owner) => Some(lesser_of(best, &lock.owner)),
+        Some(lock) if lock.rec == rec && lock.exclusive && !is_same_owner(&lock.owner, owner) => {
+            Some(lesser_of(best, &lock.owner))
+        }
         _ => best,
     }
 }
 
-/// The least owner of the locks at the places, other than `owner`.
-fn least_other(slots: &[Option<Lock>], places: &[usize], owner: &Owner) -> Option<Owner>
+/// The least owner, other than `owner`, of the exclusive locks on the record at the places.
+fn least_exclusive(
+    slots: &[Option<Lock>],
+    places: &[usize],
+    rec: RecId,
+    owner: &Owner,
+) -> Option<Owner>
     ensures { result ≡
         least_owner
-        (filter (λ lock. not (same_owner lock.owner owner.now)) (filter_map (lock_at slots.now) places.now)) }
+        (filter (λ lock. exclusive_on lock rec && not (same_owner lock.owner owner.now)) (filter_map (lock_at slots.now) places.now)) }
 {
     let mut best = None;
     for place in places {
-        best = least_with(best, lock_at(slots, *place), owner);
+        best = least_with(best, lock_at(slots, *place), rec, owner);
     }
     best
 }
 
-/// Whether the lock is the owner's on the record, and exclusive where that is required.
-fn is_held(lock: Option<&Lock>, rec: RecId, exclusive: bool, owner: &Owner) -> bool
+/// Whether the lock is the owner's, and an exclusive one on the record.
+fn is_held(lock: Option<&Lock>, rec: RecId, owner: &Owner) -> bool
     ensures { result ≡
-        passes (λ lock. (lock.rec == rec) && (not exclusive || lock.exclusive) &&
-        same_owner lock.owner owner.now) (option_copied lock.entry) }
+        passes (λ lock. exclusive_on lock rec && same_owner lock.owner owner.now) (option_copied lock.entry) }
 {
     match lock {
-        Some(lock) => {
-            lock.rec == rec && (!exclusive || lock.exclusive) && is_same_owner(&lock.owner, owner)
-        }
+        Some(lock) => lock.rec == rec && lock.exclusive && is_same_owner(&lock.owner, owner),
         None => false,
     }
 }
 
-/// Whether one of the locks at the places is the owner's on the record, and exclusive where that is required.
-fn is_among(
-    slots: &[Option<Lock>],
-    places: &[usize],
-    rec: RecId,
-    exclusive: bool,
-    owner: &Owner,
-) -> bool
-    ensures { result ≡ holds rec exclusive owner.now (filter_map (lock_at slots.now) places.now) }
+/// Whether one of the locks at the places is the owner's, and an exclusive one on the record.
+fn is_among(slots: &[Option<Lock>], places: &[usize], rec: RecId, owner: &Owner) -> bool
+    ensures { result ≡
+        list_any (λ lock. exclusive_on lock rec && same_owner lock.owner owner.now) (filter_map (lock_at slots.now) places.now) }
 {
     for place in places {
-        if is_held(lock_at(slots, *place), rec, exclusive, owner) {
+        if is_held(lock_at(slots, *place), rec, owner) {
             return true;
         }
     }
@@ -122,17 +127,14 @@ fn is_among(
 /// How many slots a table may use beyond four times the locks that it had when it was last copied.
 const ROOM: usize = 64;
 
-/// The locks at a site, in slots in the order in which they were taken. For each record there are the places of its locks and of
-/// its exclusive locks, and for each owner the places of its locks, so that a question about a record or an owner reads no other
-/// locks. Each owner's records are listed too, so that no lock is read where the owner has none on a record; a record stays listed
-/// until the owner releases all its locks. A lock that is released leaves an empty slot. When the slots reach the limit, the table
-/// is replaced by a copy without empty slots; by then as many locks were taken as the copy has, so this costs no more than a
-/// constant for each lock.
+/// The locks at a site, in slots in the order in which they were taken. The locks of each record are listed by their owners, so that
+/// the least one is found at once, and for each owner there are the places of its locks: a question about a record or an owner reads
+/// no other locks. A lock that is released leaves an empty slot. When the slots reach the limit, the table is replaced by a copy
+/// without empty slots; by then as many locks were taken as the copy has, so this costs no more than a constant for each lock.
 pub struct Locks {
     slots: Vec<Option<Lock>>,
-    by_rec: RecPlaces,
+    by_rec: RecLocks,
     by_owner: Places<OwnerKey>,
-    recs: Places<OwnerKey>,
     limit: usize,
 }
 
@@ -142,7 +144,6 @@ impl Drop for Locks {
             slots: _,
             by_rec: _,
             by_owner: _,
-            recs: _,
             limit: _,
         } = self;
     }
@@ -151,14 +152,14 @@ impl Drop for Locks {
 impl Model for Locks {
     ghost use Rattle.std.specs.Prelude.{List};
     ghost use Rattle.vp_base.specs.declared.site.Lock.{Lock};
-    ghost use Rattle.vp_locks.specs.Index.{AreListed, IsOwnerIndex, IsRecIndex};
+    ghost use Rattle.vp_locks.specs.Index.{IsOwnerIndex, IsRecIndex};
     ghost use Rattle.vp_locks.specs.Places.{present_locks};
 
     ghost Value = { List Lock };
 
     ghost view = { λ a. present_locks a.slots.items };
 
-    ghost invariant = { λ a. IsRecIndex a.by_rec a.slots.items × IsOwnerIndex a.by_owner.lists a.slots.items × AreListed a.recs.lists (present_locks a.slots.items) };
+    ghost invariant = { λ a. IsRecIndex a.by_rec a.slots.items × IsOwnerIndex a.by_owner.lists a.slots.items };
 }
 
 impl CopyOf for Locks {
@@ -181,9 +182,8 @@ impl Locks {
     {
         Locks {
             slots: Vec::new(alloc),
-            by_rec: RecPlaces::new(alloc),
+            by_rec: RecLocks::new(alloc),
             by_owner: Places::new(alloc),
-            recs: Places::new(alloc),
             limit: ROOM,
         }
     }
@@ -193,26 +193,24 @@ impl Locks {
         ensures { result ≡ least_owner (conflicting rec exclusive owner.now self.now) }
     {
         if exclusive {
-            least_other(&self.slots, self.by_rec.all.of(&rec.get()), owner)
+            let holders = &self.by_rec.holders;
+            let place = holders.least_other(rec.get(), owner_key(owner))?;
+            Some(lock_at(&self.slots, place)?.owner)
         } else {
-            least_other(&self.slots, self.by_rec.exclusive.of(&rec.get()), owner)
+            let places = self.by_rec.exclusive.of(&rec.get());
+            least_exclusive(&self.slots, places, rec, owner)
         }
     }
 
-    /// Whether the owner has the lock. Its place is in the owner's list and in the record's, so the shorter one is read.
+    /// Whether the owner has the lock.
     fn has(&self, rec: RecId, exclusive: bool, owner: &Owner) -> bool
         ensures { result ≡ holds rec exclusive owner.now self.now }
     {
-        let key = owner_key(owner);
-        if !self.recs.has(&key, usize::from(rec.get())) {
-            return false;
-        }
-        let of_rec = self.by_rec.all.of(&rec.get());
-        let of_owner = self.by_owner.of(&key);
-        if of_rec.len() < of_owner.len() {
-            is_among(&self.slots, of_rec, rec, exclusive, owner)
+        if exclusive {
+            let places = self.by_rec.exclusive.of(&rec.get());
+            is_among(&self.slots, places, rec, owner)
         } else {
-            is_among(&self.slots, of_owner, rec, exclusive, owner)
+            self.by_rec.holders.has(rec.get(), owner_key(owner))
         }
     }
 
@@ -232,10 +230,9 @@ impl Locks {
     fn raise(&mut self, rec: RecId, owner: &Owner) -> Result<(), NoMemory>
         ensures { self.new ≡ (if is_ok result then map (raised rec true owner.now) self.old else self.old) }
     {
-        let places = self.by_rec.all.of(&rec.get());
-        let exclusive = exclusive_or_own(*self.slots.allocator(), &self.slots, places, owner)?;
-        self.by_rec.exclusive.set(rec.get(), exclusive)?;
-        raise(&mut self.slots, self.by_rec.all.of(&rec.get()), rec, owner);
+        let places = self.by_owner.of(&owner_key(owner));
+        self.by_rec.note_exclusive(&self.slots, places, rec)?;
+        raise(&mut self.slots, places, rec, owner);
         Ok(())
     }
 
@@ -264,11 +261,9 @@ impl Locks {
             owner: *owner,
         };
         self.slots.reserve(1)?;
-        self.recs
-            .note_once(owner_key(owner), usize::from(rec.get()))?;
         self.by_rec.note(&lock, place)?;
         if let Err(fault) = self.by_owner.note(owner_key(owner), place) {
-            self.by_rec.forget_last(&lock);
+            self.by_rec.forget(&lock, place);
             return Err(fault);
         }
         self.slots.push(Some(lock))?;
@@ -363,9 +358,7 @@ impl Locks {
     pub fn release(&mut self, txn: TxnId)
         ensures { self.new ≡ without_owner (owner.Txn txn) self.old }
     {
-        let owner = Owner::Txn(txn);
-        self.sweep(&owner, KeepRule::None);
-        self.recs.remove(&owner_key(&owner));
+        self.sweep(&Owner::Txn(txn), KeepRule::None);
     }
 
     /// Releases the shared locks of the transaction, and keeps its exclusive ones.

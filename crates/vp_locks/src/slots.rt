@@ -1,16 +1,16 @@
 //! Slots for locks: each holds a lock, or held one.
 
-ghost use Rattle.std.specs.Prelude.{◌≡◌, ◌<◌, ◌&&◌, ◌||◌, IfOk, IfSome, None, Some, filter, fold, if◌then◌else◌, is_some, length, map, true, false};
+ghost use Rattle.std.specs.Prelude.{◌≡◌, ◌<◌, IfSome, None, Some, fold, if◌then◌else◌, is_some, length, map, true, false};
 ghost use Rattle.std.specs.Option.{option_copied, option_map_or};
-ghost use Rattle.vp_locks.specs.Index.{IsOwnerIndex, IsRecIndex};
+ghost use Rattle.vp_locks.specs.Index.{IsOwnerIndex, IsRecIndex, on_rec};
 ghost use Rattle.vp_locks.specs.Places.{if_kept, lock_at, passes, revise_slot};
 ghost use Rattle.vp_model.specs.Locks.{raised};
-ghost use Rattle.vp_model.specs.Words.{same_owner};
 
 use crate::keeps::Keeps;
-use crate::places::{OwnerKey, Places, RecPlaces, owner_key};
-use std::alloc::Global;
-use vp_base::{Lock, NoMemory, Owner, RecId};
+use crate::key::{OwnerKey, owner_key};
+use crate::places::Places;
+use crate::rec_locks::RecLocks;
+use vp_base::{Lock, Owner, RecId};
 use vp_lists::is_same_owner;
 
 /// The lock at a place.
@@ -28,36 +28,14 @@ pub(crate) fn is_taken(slots: &[Option<Lock>], place: usize) -> bool
     lock_at(slots, place).is_some()
 }
 
-/// Whether the lock is exclusive, or the owner's.
-fn is_exclusive_or_own(lock: Option<&Lock>, owner: &Owner) -> bool
-    ensures { result ≡
-        passes (λ lock. lock.exclusive || same_owner lock.owner owner.now) (option_copied lock.entry) }
+/// Whether there is a lock on the record at the place.
+pub(crate) fn is_on(slots: &[Option<Lock>], place: usize, rec: RecId) -> bool
+    ensures { result ≡ passes (λ lock. on_rec lock rec) (lock_at slots.now place) }
 {
-    match lock {
-        Some(lock) => lock.exclusive || is_same_owner(&lock.owner, owner),
+    match lock_at(slots, place) {
+        Some(lock) => lock.rec == rec,
         None => false,
     }
-}
-
-/// Those places at which the lock is exclusive, or the owner's.
-pub(crate) fn exclusive_or_own(
-    alloc: Global,
-    slots: &[Option<Lock>],
-    places: &[usize],
-    owner: &Owner,
-) -> Result<Vec<usize>, NoMemory>
-    ensures { IfOk result
-        (λ kept. kept.items ≡
-        filter (λ k. passes (λ lock. lock.exclusive || same_owner lock.owner owner.now) (lock_at slots.now k))
-        places.now) }
-{
-    let mut kept = Vec::new(alloc);
-    for place in places {
-        if is_exclusive_or_own(lock_at(slots, *place), owner) {
-            kept.push(*place)?;
-        }
-    }
-    Ok(kept)
 }
 
 /// The lock, made exclusive where it is the owner's on the record.
@@ -93,7 +71,7 @@ pub(crate) fn raise(slots: &mut [Option<Lock>], places: &[usize], rec: RecId, ow
 /// Releases the lock at the place unless it is kept, and returns its owner.
 fn sweep_at<K: Keeps>(
     slots: &mut [Option<Lock>],
-    by_rec: &mut RecPlaces,
+    by_rec: &mut RecLocks,
     place: usize,
     kept: &K,
 ) -> Option<Owner>
@@ -117,7 +95,7 @@ fn sweep_at<K: Keeps>(
 /// Releases the locks at the places, except those that are kept.
 pub(crate) fn sweep<K: Keeps>(
     slots: &mut [Option<Lock>],
-    by_rec: &mut RecPlaces,
+    by_rec: &mut RecLocks,
     places: &[usize],
     kept: &K,
 )
@@ -133,7 +111,7 @@ pub(crate) fn sweep<K: Keeps>(
 /// Releases all locks except those that are kept.
 pub(crate) fn sweep_all<K: Keeps>(
     slots: &mut [Option<Lock>],
-    by_rec: &mut RecPlaces,
+    by_rec: &mut RecLocks,
     by_owner: &mut Places<OwnerKey>,
     kept: &K,
 )
