@@ -1,27 +1,12 @@
 -- Slots, and the places of the locks that pass a test.
-use Rattle.std.proofs.Common.{◌≡◌, ℕ, zero, suc, ◌+◌, ◌<◌, ◌&&◌, ◌||◌, not, ◌∙◌, Bool, true, false, ◌==◌, List, [], ◌∷◌, ◌++◌, map, filter, fold, take, drop, set, Option, Some, None, get_or, length, if◌then◌else◌, is_some, refl, ap, sym, subst, take-suc, arith}
-use Rattle.std.specs.List.{filter_map, cons_option}
+use Rattle.std.proofs.Common.{◌≡◌, ℕ, zero, suc, ◌+◌, ◌<◌, ◌||◌, not, ◌∙◌, Bool, true, false, ◌==◌, List, [], ◌∷◌, ◌++◌, map, filter, fold, take, drop, set, Option, Some, None, get_or, length, if◌then◌else◌, is_some, refl, ap, sym, take-suc, arith}
+use Rattle.std.specs.List.{cons_option}
 use Rattle.std.specs.Option.{option_map_or}
 use Rattle.std.proofs.lemmas.Bool.Decides.{nat_tests}
-use Rattle.std.specs.List.Sorted.{IsStrictlyIncreasing}
-use Rattle.std.proofs.lemmas.List.{get_or_default, get_or-map, length-map}
+use Rattle.std.proofs.lemmas.List.{get_or_default}
 use Rattle.std.proofs.lemmas.List.Edits.{map_over_more}
 use Rattle.vp_model.specs.Types.{Owner, Lock}
 use Rattle.vp_locks.specs.Places.{present_locks, lock_at, passes, places, revise_slot, if_kept}
-
--- the locks at places after the first one
-later_locks : (s : Option Lock) (slots : List (Option Lock)) (ks : List ℕ) → filter_map (lock_at (s ∷ slots)) (map suc ks) ≡ filter_map (lock_at slots) ks
-later_locks s slots [] = refl
-later_locks s slots (k ∷ ks) = ap (cons_option (lock_at slots k)) (later_locks s slots ks)
-
--- the locks at the places of a test are those that pass it, in order
-pub found : (test : Lock → Bool) (slots : List (Option Lock)) → filter_map (lock_at slots) (places test slots) ≡ filter test (present_locks slots)
-found test [] = refl
-found test (None ∷ slots) = later_locks None slots (places test slots) ∙ found test slots
-found test (Some l ∷ slots) =
-    let later = later_locks (Some l) slots (places test slots) ∙ found test slots in
-    elim (test l) as (λ b. filter_map (lock_at (Some l ∷ slots)) (if b then 0 ∷ map suc (places test slots) else map suc (places test slots)) ≡ (if b then l ∷ filter test (present_locks slots) else filter test (present_locks slots)))
-    [ true ↦ ap (λ ls. l ∷ ls) later | false ↦ later ]
 
 map-append : (xs ys : List ℕ) → map suc (xs ++ ys) ≡ map suc xs ++ map suc ys
 map-append [] ys = refl
@@ -50,39 +35,6 @@ present_next xs i x within at =
 filter_later : (p : ℕ → Bool) (ks : List ℕ) → filter p (map suc ks) ≡ map suc (filter (λ k. p (suc k)) ks)
 filter_later p [] = refl
 filter_later p (k ∷ ks) = let rest = filter_later p ks in grind (arith, rest)
-
--- each place is below those after it
-rise_later : (ks : List ℕ) → IsStrictlyIncreasing ks → IsStrictlyIncreasing (map suc ks)
-rise_later ks h k within =
-    let long = length-map ks suc in
-    let low = get_or-map suc ks k 0 0 (omega (arith, within, long)) in
-    let high = get_or-map suc ks (k + 1) 0 0 (omega (arith, within, long)) in
-    omega (arith, low, high, h k (omega (arith, within, long)))
-
-rise_first : (ks : List ℕ) → IsStrictlyIncreasing (map suc ks) → IsStrictlyIncreasing (0 ∷ map suc ks)
-rise_first [] h k within = absurd (omega (arith, within))
-rise_first (x ∷ ks) h zero within = omega arith
-rise_first (x ∷ ks) h (suc k) within =
-    let e : suc (k + 1) ≡ suc k + 1 = omega arith in
-    subst (λ n. get_or (map suc (x ∷ ks)) k 0 < get_or (0 ∷ map suc (x ∷ ks)) n 0) e (h k (omega (arith, within)))
-
-pub places_rise : (test : Lock → Bool) (slots : List (Option Lock)) → IsStrictlyIncreasing (places test slots)
-places_rise test [] = λ k within. absurd (omega (arith, within))
-places_rise test (None ∷ slots) = rise_later (places test slots) (places_rise test slots)
-places_rise test (Some l ∷ slots) =
-    let later = rise_later (places test slots) (places_rise test slots) in
-    elim (test l) as (λ b. IsStrictlyIncreasing (if b then 0 ∷ map suc (places test slots) else map suc (places test slots)))
-    [ true ↦ rise_first (places test slots) later | false ↦ later ]
-
--- of the places, those whose lock also passes the other test
-pub places_both : (t u : Lock → Bool) (slots : List (Option Lock)) → filter (λ k. passes u (lock_at slots k)) (places t slots) ≡ places (λ lock. t lock && u lock) slots
-places_both t u [] = refl
-places_both t u (None ∷ slots) = filter_later (λ k. passes u (lock_at (None ∷ slots) k)) (places t slots) ∙ ap (map suc) (places_both t u slots)
-places_both t u (Some l ∷ slots) =
-    let later = filter_later (λ k. passes u (lock_at (Some l ∷ slots) k)) (places t slots) ∙ ap (map suc) (places_both t u slots) in
-    let rest = map suc (places (λ lock. t lock && u lock) slots) in
-    elim (t l) as (λ b. filter (λ k. passes u (lock_at (Some l ∷ slots) k)) (if b then 0 ∷ map suc (places t slots) else map suc (places t slots)) ≡ (if b && u l then 0 ∷ rest else rest))
-    [ true ↦ ap (λ ks. if u l then 0 ∷ ks else ks) later | false ↦ later ]
 
 later_others : (p : ℕ) (ks : List ℕ) → filter (λ k. not (k == suc p)) (map suc ks) ≡ map suc (filter (λ k. not (k == p)) ks)
 later_others p [] = refl
@@ -131,7 +83,7 @@ abbrev pub revised_where : (Lock → Bool) → (Lock → Option Lock) → Option
 revised_where test f s = option_map_or (λ lock. if test lock then f lock else Some lock) s None
 
 module _ (f : Lock → Option Lock) where
-  later_one : (s : Option Lock) (slots : List (Option Lock)) (k : ℕ) → revise_slot f (s ∷ slots) (suc k) ≡ s ∷ revise_slot f slots k
+  pub later_one : (s : Option Lock) (slots : List (Option Lock)) (k : ℕ) → revise_slot f (s ∷ slots) (suc k) ≡ s ∷ revise_slot f slots k
   later_one s slots k =
       elim (lock_at slots k) as (λ o. option_map_or (λ lock. set (s ∷ slots) (suc k) (f lock)) o (s ∷ slots) ≡ s ∷ option_map_or (λ lock. set slots k (f lock)) o slots)
       [ None ↦ refl | Some l ↦ refl ]
@@ -154,6 +106,23 @@ module _ (f : Lock → Option Lock) where
   revised_same (None ∷ slots) zero h = refl
   revised_same (Some l ∷ slots) zero h = ap (λ s. s ∷ slots) h
   revised_same (s ∷ slots) (suc p) h = later_one s slots p ∙ ap (λ l. s ∷ l) (revised_same slots p h)
+
+  -- the slots after one of them has changed
+  pub revised_at_place : (slots : List (Option Lock)) (k place : ℕ) → lock_at (revise_slot f slots k) place ≡ (if place == k then option_map_or f (lock_at slots k) None else lock_at slots place)
+  revised_at_place [] k place = by (place == k)
+    where
+      by : (b : Bool) → lock_at [] place ≡ (if b then option_map_or f (lock_at [] k) None else lock_at [] place)
+      by true = refl
+      by false = refl
+  revised_at_place (None ∷ slots) zero zero = refl
+  revised_at_place (Some l ∷ slots) zero zero = refl
+  revised_at_place (None ∷ slots) zero (suc place) = grind (arith, nat_tests)
+  revised_at_place (Some l ∷ slots) zero (suc place) = grind (arith, nat_tests)
+  revised_at_place (s ∷ slots) (suc k) zero = ap (λ xs. lock_at xs 0) (later_one s slots k) ∙ grind (arith, nat_tests)
+  revised_at_place (s ∷ slots) (suc k) (suc place) =
+      let rest = revised_at_place slots k place in
+      let later = ap (λ xs. lock_at xs (suc place)) (later_one s slots k) in
+      grind (arith, nat_tests, rest, later)
 
   -- slot by slot
   pub revised_at : (slots : List (Option Lock)) (i : ℕ) → i < length slots → revise_slot f slots i ≡ set slots i (option_map_or f (get_or slots i None) None)

@@ -1,9 +1,10 @@
 -- The set of all locks by their records and owners: how it changes, and what is found in it.
-use Rattle.std.specs.Prelude.{◌≡◌, ℕ, true, false, cond}
-use Rattle.std.specs.BTreeSet.{BTreeSet, contains}
+use Rattle.std.specs.Prelude.{◌≡◌, ◌-◌, ◌^◌, ℕ, true, false, cond, List, map}
+use Rattle.std.specs.BTreeSet.{BTreeSet, contains, keys_between}
 use Rattle.std.specs.BTreeMap.Range.{IsFromStart, IsLeBy}
 use Rattle.std.specs.Ordering.{is_eq, is_lt}
 use Rattle.std.specs.declared.ops.Bound.{Bound}
+use Rattle.std.specs.declared.ops.Bound.TheVariants.{Included}
 use Rattle.vp_base.specs.declared.site.Lock.{Lock}
 use Rattle.vp_locks.specs.Keys.{Holder, OwnerKey, holder_cmp, key_cmp, key_eq, owner_key}
 
@@ -38,3 +39,7 @@ pub record IsLeastOther (rec : ℕ) (owner : OwnerKey) (set : BTreeSet Holder) (
   pub here : contains holder_cmp set (rec, key, place) ≡ true
   pub is_other : key_eq key owner ≡ false
   pub least : (other : OwnerKey) (at : ℕ) → contains holder_cmp set (rec, other, at) ≡ true → key_eq other owner ≡ false → is_lt (key_cmp other key) ≡ false
+
+-- the places of an owner's locks on a record
+abbrev pub places_between : ℕ → OwnerKey → BTreeSet Holder → List ℕ
+places_between rec owner set = map (λ (holder : Holder). holder.2) (keys_between holder_cmp (Included (rec, owner, 0)) (Included (rec, owner, 2 ^ 64 - 1)) set)

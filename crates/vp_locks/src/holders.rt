@@ -1,10 +1,10 @@
 //! The locks of each record, by their owners.
 
-ghost use Rattle.std.specs.Prelude.{◌≡◌, ℕ, true, false, OnErr, OnOk, IfSome, IfNone};
+ghost use Rattle.std.specs.Prelude.{◌≡◌, ℕ, true, false, OnErr, OnOk, IfOk, IfSome, IfNone};
 ghost use Rattle.std.specs.BTreeSet.{contains};
 ghost use Rattle.std.specs.Bool.{OnTrue, OnFalse};
 ghost use Rattle.vp_locks.specs.Keys.{Holder, OwnerKey, holder_cmp, key_eq};
-ghost use Rattle.vp_locks.specs.Holders.{HasLess, HasMore, HasNoneFrom, HasSame, IsFirstFrom, IsLeastOther};
+ghost use Rattle.vp_locks.specs.Holders.{HasLess, HasMore, HasNoneFrom, HasSame, IsFirstFrom, IsLeastOther, places_between};
 
 use crate::key::OwnerKey;
 use std::alloc::Global;
@@ -65,7 +65,24 @@ impl Holders {
         if first.0 == rec && first.1 == owner {
             first = self.first_from(Bound::Excluded((rec, owner, usize::MAX)))?;
         }
-        if first.0 == rec { Some(first.2) } else { None }
+        (first.0 == rec).then_some(first.2)
+    }
+
+    /// The places of the owner's locks on the record.
+    pub(crate) fn places(
+        &self,
+        alloc: Global,
+        rec: u8,
+        owner: OwnerKey,
+    ) -> Result<Vec<usize>, NoMemory>
+        ensures { IfOk result
+            (λ places. places.items ≡ places_between rec owner self.now.set) }
+    {
+        let mut places = Vec::new(alloc);
+        for holder in self.set.range((rec, owner, 0)..=(rec, owner, usize::MAX)) {
+            places.push(holder.2)?;
+        }
+        Ok(places)
     }
 
     /// Adds a lock.

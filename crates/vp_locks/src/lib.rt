@@ -71,7 +71,8 @@ fn lesser_of(best: Option<Owner>, owner: &Owner) -> Owner
 fn least_with(best: Option<Owner>, lock: Option<&Lock>, rec: RecId, owner: &Owner) -> Option<Owner>
     ensures { result ≡
         option_map_or
-        (λ lock. if exclusive_on lock rec && not (same_owner lock.owner owner.now) then Some (lesser best lock.owner) else best)
+        (λ lock. if exclusive_on lock rec && not (same_owner lock.owner owner.now)
+        then Some (lesser best lock.owner) else best)
         (option_copied lock.entry) best }
 {
     match lock {
@@ -91,7 +92,8 @@ fn least_exclusive(
 ) -> Option<Owner>
     ensures { result ≡
         least_owner
-        (filter (λ lock. exclusive_on lock rec && not (same_owner lock.owner owner.now)) (filter_map (lock_at slots.now) places.now)) }
+        (filter (λ lock. exclusive_on lock rec && not (same_owner lock.owner owner.now))
+        (filter_map (lock_at slots.now) places.now)) }
 {
     let mut best = None;
     for place in places {
@@ -114,7 +116,8 @@ fn is_held(lock: Option<&Lock>, rec: RecId, owner: &Owner) -> bool
 /// Whether one of the locks at the places is the owner's, and an exclusive one on the record.
 fn is_among(slots: &[Option<Lock>], places: &[usize], rec: RecId, owner: &Owner) -> bool
     ensures { result ≡
-        list_any (λ lock. exclusive_on lock rec && same_owner lock.owner owner.now) (filter_map (lock_at slots.now) places.now) }
+        list_any (λ lock. exclusive_on lock rec && same_owner lock.owner owner.now)
+        (filter_map (lock_at slots.now) places.now) }
 {
     for place in places {
         if is_held(lock_at(slots, *place), rec, owner) {
@@ -230,9 +233,11 @@ impl Locks {
     fn raise(&mut self, rec: RecId, owner: &Owner) -> Result<(), NoMemory>
         ensures { self.new ≡ (if is_ok result then map (raised rec true owner.now) self.old else self.old) }
     {
-        let places = self.by_owner.of(&owner_key(owner));
-        self.by_rec.note_exclusive(&self.slots, places, rec)?;
-        raise(&mut self.slots, places, rec, owner);
+        let alloc = *self.slots.allocator();
+        let holders = &self.by_rec.holders;
+        let places = holders.places(alloc, rec.get(), owner_key(owner))?;
+        self.by_rec.note_exclusive(&self.slots, &places, rec)?;
+        raise(&mut self.slots, &places, rec, owner);
         Ok(())
     }
 

@@ -1,7 +1,6 @@
 //! The locks of each record.
 
 ghost use Rattle.std.specs.Prelude.{◌≡◌, ℕ, ◌==◌, OnErr, OnOk, nat_eq, true, false};
-ghost use Rattle.std.specs.Bool.{OnTrue};
 ghost use Rattle.std.specs.List.{list_any};
 ghost use Rattle.vp_locks.specs.Holders.{HasLess, HasMore, HasSame, holder_of};
 ghost use Rattle.vp_locks.specs.Index.{KeepsAll, on_rec, places_of};
@@ -42,12 +41,13 @@ impl RecLocks {
 
     /// Adds a lock at a place.
     pub(crate) fn note(&mut self, lock: &Lock, place: usize) -> Result<(), NoMemory>
-        ensures noted { OnOk result (HasMore (holder_of lock.now place) self.old.holders.set self.new.holders.set) }
+        ensures noted { OnOk result
+            (HasMore (holder_of lock.now place) self.old.holders.set self.new.holders.set) }
         ensures err { OnErr result (HasSame self.old.holders.set self.new.holders.set) }
         ensures kept { KeepsAll self.old.exclusive.lists self.new.exclusive.lists }
         ensures exclusive { OnOk result
-            (OnTrue lock.now.exclusive
-            (list_any (λ k. k == place) (places_of nat_eq self.new.exclusive.lists lock.now.rec) ≡ true)) }
+            (lock.now.exclusive ≡ true →
+            list_any (λ k. k == place) (places_of nat_eq self.new.exclusive.lists lock.now.rec) ≡ true) }
     {
         if lock.exclusive {
             self.exclusive.note_once(lock.rec.get(), place)?;

@@ -1,38 +1,42 @@
-use Rattle.std.proofs.Common.{◌∙◌, ◌==◌, nat_eq, sym, ap, ap₂}
+use Rattle.std.proofs.Common.{◌≡◌, ◌∙◌, ◌&&◌, ℕ, Bool, true, false, nat_eq, refl, sym, ap, ap₂, subst}
+use Rattle.std.specs.BTreeSet.{BTreeSet, contains}
+use Rattle.std.specs.Bool.{OnFalse, OnTrue}
 use Rattle.std.specs.List.{filter_map, list_any}
+use Rattle.vp_model.specs.Types.{Lock}
 use Rattle.vp_model.specs.Locks.{holds}
-use Rattle.vp_locks.specs.Index.{places_of, owner_key, key_eq, on_rec, owned_by}
+use Rattle.vp_model.specs.Words.{same_owner}
+use Rattle.vp_locks.specs.Index.{AreHolders, exclusive_on, places_of}
+use Rattle.vp_locks.specs.Keys.{Holder, holder_cmp, owner_key}
 use Rattle.vp_locks.specs.Places.{lock_at, present_locks}
-use Rattle.vp_locks.proofs.Indexes.{held_of, fits_rec, fits_owner}
-use Rattle.vp_locks.proofs.Listed.{none_held}
+use Rattle.vp_locks.proofs.Asked.{exclusive_held, holds_it, holds_not}
 use Rattle.vp_locks.proofs.Locks.has.Goals as goal
 
-pub returns-then-not-has : goal.returns-then-not-has
-returns-then-not-has c =
+pub returns-then-exclusive : goal.returns-then-exclusive
+returns-then-exclusive c =
     let rec = c.args.rec in
     let owner = c.args.owner.now in
-    let recs = c.self.inside.recs.lists in
-    let absent = ap₂ (λ key n. list_any (λ k. k == n) (places_of key_eq recs key)) (sym c.owner_key-key.ensures) (sym (c.from.ensures ∙ c.get.ensures.value)) ∙ sym c.has.ensures ∙ c.if-not-has.true in
-    none_held recs rec c.args.exclusive owner absent (present_locks c.self.inside.slots.items) c.self.invariant.2 ∙ ap (holds rec c.args.exclusive owner) c.self.view_is
-
-pub returns-then-of_rec-of_owner : goal.returns-then-of_rec-of_owner
-returns-then-of_rec-of_owner c =
-    let rec = c.args.rec in
-    let exclusive = c.args.exclusive in
-    let owner = c.args.owner.now in
-    let lists = c.self.inside.by_rec.all.lists in
+    let p = c.self.inside.by_rec in
     c.is_among.ensures
-    ∙ ap₂ (λ slots ks. holds rec exclusive owner (filter_map (lock_at slots) ks)) c.deref.ensures.value (c.of-of_rec.ensures ∙ ap (places_of nat_eq lists) c.get-2.ensures.value)
-    ∙ held_of owner nat_eq on_rec lists c.self.inside.slots.items c.self.invariant.0.0 rec exclusive rec (fits_rec owner rec exclusive)
-    ∙ ap (holds rec exclusive owner) c.self.view_is
+    ∙ ap₂ (λ slots ks. list_any (λ (lock : Lock). exclusive_on lock rec && same_owner lock.owner owner) (filter_map (lock_at slots) ks)) c.deref.ensures.value (c.of-places.ensures ∙ ap (places_of nat_eq p.exclusive.lists) c.get.ensures.value)
+    ∙ exclusive_held rec owner p.exclusive.lists c.self.inside.slots.items c.self.invariant.0.1
+    ∙ ap₂ (λ b ls. holds rec b owner ls) (sym c.if-exclusive.true) c.self.view_is
 
-pub returns-else-of_rec-of_owner : goal.returns-else-of_rec-of_owner
-returns-else-of_rec-of_owner c =
-    let rec = c.args.rec in
-    let exclusive = c.args.exclusive in
-    let owner = c.args.owner.now in
-    let lists = c.self.inside.by_owner.lists in
-    c.is_among-else-of_rec-of_owner.ensures
-    ∙ ap₂ (λ slots ks. holds rec exclusive owner (filter_map (lock_at slots) ks)) c.deref-else-of_rec-of_owner.ensures.value (c.of-of_owner.ensures ∙ ap (places_of key_eq lists) c.owner_key-key.ensures)
-    ∙ held_of owner key_eq owned_by lists c.self.inside.slots.items c.self.invariant.1 rec exclusive (owner_key owner) (fits_owner owner rec exclusive)
-    ∙ ap (holds rec exclusive owner) c.self.view_is
+pub returns-else-exclusive : goal.returns-else-exclusive
+returns-else-exclusive c = by c.has.result refl ∙ ap₂ (λ b ls. holds c.args.rec b c.args.owner.now ls) (sym c.if-exclusive.false) c.self.view_is
+  where
+    set : BTreeSet Holder
+    set = c.self.inside.by_rec.holders.set
+
+    index : AreHolders set c.self.inside.slots.items
+    index = c.self.invariant.0.0
+
+    at : (place : ℕ) → contains holder_cmp set (c.get-else-exclusive.result, c.owner_key.result, place) ≡ contains holder_cmp set (c.args.rec, owner_key c.args.owner.now, place)
+    at place = ap₂ (λ r k. contains holder_cmp set (r, k, place)) c.get-else-exclusive.ensures.value c.owner_key.ensures
+
+    by : (b : Bool) → c.has.result ≡ b → c.has.result ≡ holds c.args.rec false c.args.owner.now (present_locks c.self.inside.slots.items)
+    by true e =
+        let found = subst (λ b. OnTrue b ((place : ℕ) × (contains holder_cmp set (c.get-else-exclusive.result, c.owner_key.result, place) ≡ true))) e c.has.ensures.found in
+        e ∙ sym (holds_it c.args.rec c.args.owner.now set c.self.inside.slots.items index found.0 (sym (at found.0) ∙ found.1))
+    by false e =
+        let absent = subst (λ b. OnFalse b ((place : ℕ) → contains holder_cmp set (c.get-else-exclusive.result, c.owner_key.result, place) ≡ false)) e c.has.ensures.absent in
+        e ∙ sym (holds_not c.args.rec c.args.owner.now set c.self.inside.slots.items index (λ place. sym (at place) ∙ absent place))

@@ -1,12 +1,10 @@
-use Rattle.std.proofs.Common.{subst, arith, ◌∙◌, sym, ap}
-use Rattle.vp_locks.specs.Index.{on_rec, exclusive_on, owned_by, AreListed}
-use Rattle.vp_locks.specs.Places.{places, present_locks}
+use Rattle.std.proofs.Common.{sym, subst, true≢false}
+use Rattle.vp_locks.specs.Index.{IsOwnerIndex, IsRecIndex}
 use Rattle.vp_locks.proofs.Locks.new.Goals as goal
 
 pub invariant_of-result : goal.invariant_of-result
 invariant_of-result c =
-    let none = sym c.new.ensures.items in (
-      (λ q. c.new-2.ensures.all q ∙ ap (places (λ lock. on_rec lock q)) none, λ q. c.new-2.ensures.exclusive q ∙ ap (places (λ lock. exclusive_on lock q)) none),
-      λ q. c.new-3.ensures q ∙ ap (places (λ lock. owned_by lock q)) none,
-      subst (λ xs. AreListed c.new-4.result.lists (present_locks xs)) none (λ k d within. absurd (omega (arith, within))),
+    subst (λ xs. IsRecIndex c.new-2.result xs × IsOwnerIndex c.new-3.result.lists xs) (sym c.new.ensures.items) (
+      (λ rec key place. c.new-2.ensures (rec, key, place), λ rec place h. absurd (true≢false (sym h))),
+      c.new-3.ensures,
     )

@@ -1,48 +1,74 @@
-use Rattle.std.proofs.Common.{◌≡◌, ◌∙◌, ◌||◌, Some, ℕ, true, map, filter, fold, nat_eq, if◌then◌else◌, rules, sym, ap, ap₂, subst}
+use Rattle.std.proofs.Common.{◌≡◌, ◌∙◌, ◌==◌, ◌&&◌, ◌<◌, ◌^◌, ℕ, List, Option, Some, true, map, fold, nat_eq, rules, sym, ap, ap₂, subst, arith}
+use Rattle.std.specs.BTreeSet.{BTreeSet}
+use Rattle.std.specs.List.{list_any}
 use Rattle.std.specs.Vec.{with_items}
+use Rattle.std.proofs.lemmas.Bool.Decides.{nat_tests}
 use Rattle.std.proofs.lemmas.List.{with_items_is, places}
 use Rattle.vp_model.specs.Types.{Lock}
 use Rattle.vp_model.specs.Locks.{raised}
 use Rattle.vp_model.specs.Words.{same_owner}
-use Rattle.vp_locks.specs.declared.places.RecPlaces.{RecPlaces}
-use Rattle.vp_locks.specs.Index.{places_of, key_eq, on_rec, owned_by, IsRecIndex, IsOwnerIndex, AreListed}
-use Rattle.vp_locks.specs.Places.{present_locks, lock_at, passes, revise_slot}
-use Rattle.vp_locks.proofs.InSlots.{revised_where}
-use Rattle.vp_locks.proofs.Indexes.{index_changed, index_raised, rec_revised, all_raised, raised_owner, raised_rec}
-use Rattle.vp_locks.proofs.Listed.{listed_raised}
+use Rattle.vp_locks.specs.declared.holders.Holders.{Holders}
+use Rattle.vp_locks.specs.Index.{places_of, on_rec, owned_by, AreHolders, IsRecIndex, IsOwnerIndex}
+use Rattle.vp_locks.specs.Holders.{places_between}
+use Rattle.vp_locks.specs.Keys.{Holder, key_eq, owner_key}
+use Rattle.vp_locks.specs.Places.{present_locks, revise_slot, lock_at, passes}
+use Rattle.vp_locks.proofs.Indexes.{all_raised, index_changed, present_raised, raise, raised_owner, raised_there}
+use Rattle.vp_locks.proofs.Held.{has_its_place, holders_raised, is_within, listed_raised, listed_still}
 use Rattle.vp_locks.proofs.Locks.raise.Goals as goal
 
-raised_slots : (c : goal.After-self-1) → (with_items c.self.inside.slots c.raise.new.slots).items ≡ map (revised_where (λ lock. on_rec lock c.args.rec) (λ lock. Some (raised c.args.rec true c.args.owner.now lock))) c.self.inside.slots.items
-raised_slots c =
-    let p = c.self.inside.by_rec in
-    let f = λ (lock : Lock). Some (raised c.args.rec true c.args.owner.now lock) in
-    with_items_is c.self.inside.slots c.raise.new.slots (search (rules, places)) ∙ c.raise.ensures
-    ∙ ap (λ xs. fold (revise_slot f) xs c.of.result.now) c.deref_mut.ensures.value
-    ∙ ap (fold (revise_slot f) c.self.inside.slots.items) (c.of.ensures ∙ ap (places_of nat_eq p.all.lists) c.get-3.ensures.value)
-    ∙ rec_revised c.args.rec c.args.owner.now p c.self.inside.slots.items c.self.invariant.0 f
+module _ (c : goal.After-drop-places-2) where
+  abbrev set : BTreeSet Holder
+  set = c.self.inside.by_rec.holders.set
+
+  abbrev slots : List (Option Lock)
+  slots = c.self.inside.slots.items
+
+  places_are : c.in_ok-places.places.items ≡ places_between c.args.rec (owner_key c.args.owner.now) set
+  places_are = c.in_ok-places.ensures ∙ ap₂ (λ rec key. places_between rec key set) c.get.ensures.value c.owner_key.ensures
+
+  -- each lock of the owner on the record is at one of the places
+  has_place : (place : ℕ) (lock : Lock) → lock_at slots place ≡ Some lock → ((lock.rec == c.args.rec) && same_owner lock.owner c.args.owner.now) ≡ true → list_any (λ k. k == place) c.in_ok-places.places.items ≡ true
+  has_place place lock at own =
+      let within = is_within slots place lock at in
+      let fits : place < 2 ^ 64 = omega (arith, within, c.self.inside.slots.ok.0, c.self.inside.slots.small) in
+      ap (list_any (λ k. k == place)) places_are ∙ has_its_place set slots c.self.invariant.0.0 c.args.rec c.args.owner.now place lock fits at own
+
+  raised_slots : (with_items c.self.inside.slots c.raise.new.slots).items ≡ all_raised c.args.rec c.args.owner.now slots
+  raised_slots =
+      with_items_is c.self.inside.slots c.raise.new.slots (search (rules, places)) ∙ c.raise.ensures
+      ∙ ap₂ (fold (revise_slot (raise c.args.rec c.args.owner.now))) c.deref_mut.ensures.value c.deref-3.ensures.value
+      ∙ raised_there c.args.rec c.args.owner.now c.in_ok-places.places.items slots (λ place lock at shared. has_place place lock at (grind (arith, nat_tests, shared)))
+
+pub invariant_of-self : goal.invariant_of-self
+invariant_of-self c =
+    let old = c.self.inside.by_rec in
+    let new = c.note_exclusive.new.self in (
+      (
+        subst (λ (h : Holders). AreHolders h.set c.self.inside.slots.items) (sym c.note_exclusive.ensures.holders) c.self.invariant.0.0,
+        listed_still old.exclusive.lists new.exclusive.lists c.self.inside.slots.items c.self.invariant.0.1 c.note_exclusive.ensures.kept,
+      ),
+      c.self.invariant.1,
+    )
 
 pub invariant_of-self-2 : goal.invariant_of-self-2
 invariant_of-self-2 c =
-    let slots = c.self.inside.slots.items in
-    let p = c.self.inside.by_rec in
+    let old = c.self.inside.by_rec in
+    let new = c.note_exclusive.new.self in
     let owners = c.self.inside.by_owner.lists in
-    let recs = c.self.inside.recs.lists in
     let rec = c.args.rec in
     let owner = c.args.owner.now in
-    let own = λ (lock : Lock). lock.exclusive || same_owner lock.owner owner in
-    let new : RecPlaces = record { all = p.all; exclusive = c.set.new.self } in
-    let kept = c.in_ok-exclusive.ensures ∙ ap₂ (λ xs ks. filter (λ k. passes own (lock_at xs k)) ks) c.deref.ensures.value (c.of-places.ensures ∙ ap (places_of nat_eq p.all.lists) c.get.ensures.value) in
-    let set : (q : ℕ) → places_of nat_eq new.exclusive.lists q ≡ (if nat_eq rec q then filter (λ k. passes own (lock_at slots k)) (places_of nat_eq p.all.lists rec) else places_of nat_eq p.exclusive.lists q) = λ q. c.in_ok-set.ensures.set q ∙ ap₂ (λ k ks. if nat_eq k q then ks else places_of nat_eq p.exclusive.lists q) c.get-2.ensures.value kept in
-    subst (λ xs. IsRecIndex new xs × IsOwnerIndex owners xs × AreListed recs (present_locks xs)) (sym (raised_slots c)) (
+    let noted : (place : ℕ) (lock : Lock) → lock_at (slots c) place ≡ Some lock → ((lock.rec == rec) && same_owner lock.owner owner) ≡ true → list_any (λ k. k == place) (places_of nat_eq new.exclusive.lists rec) ≡ true =
+    λ place lock at own. c.in_ok-note_exclusive.ensures.noted place (ap (list_any (λ k. k == place)) c.deref-2.ensures.value ∙ has_place c place lock at own)
+    (ap (λ xs. passes (λ (lock : Lock). on_rec lock rec) (lock_at xs place)) c.deref.ensures.value ∙ ap (passes (λ (lock : Lock). on_rec lock rec)) at ∙ grind (arith, nat_tests, own)) in
+    subst (λ xs. IsRecIndex new xs × IsOwnerIndex owners xs) (sym (raised_slots c)) (
       (
-        index_changed nat_eq on_rec p.all.lists slots c.self.invariant.0.0 (λ lock. on_rec lock rec) (raised rec true owner) (raised_rec rec owner),
-        index_raised rec owner p slots c.self.invariant.0 new.exclusive.lists set,
+        subst (λ (h : Holders). AreHolders h.set (all_raised rec owner (slots c))) (sym c.note_exclusive.ensures.holders) (holders_raised old.holders.set (slots c) c.self.invariant.0.0 rec owner),
+        listed_raised old.exclusive.lists new.exclusive.lists (slots c) c.self.invariant.0.1 c.note_exclusive.ensures.kept rec owner noted,
       ),
-      index_changed key_eq owned_by owners slots c.self.invariant.1 (λ lock. on_rec lock rec) (raised rec true owner) (raised_owner rec owner),
-      subst (AreListed recs) (sym (all_raised rec owner slots)) (listed_raised recs rec owner (present_locks slots) c.self.invariant.2),
+      index_changed key_eq owned_by owners (slots c) c.self.invariant.1 (λ _. true) (raised rec true owner) (raised_owner rec owner),
     )
 
 pub returns : goal.returns
 returns c =
-    ap present_locks (raised_slots c) ∙ all_raised c.args.rec c.args.owner.now c.self.inside.slots.items
+    ap present_locks (raised_slots c) ∙ present_raised c.args.rec c.args.owner.now c.self.inside.slots.items
     ∙ ap (map (raised c.args.rec true c.args.owner.now)) c.self.view_is

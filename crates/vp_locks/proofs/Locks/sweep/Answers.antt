@@ -3,12 +3,12 @@ use Rattle.std.specs.Vec.{with_items}
 use Rattle.std.proofs.lemmas.List.{with_items_is, places}
 use Rattle.vp_model.specs.Types.{Lock}
 use Rattle.vp_model.specs.Words.{same_owner}
-use Rattle.vp_locks.specs.Index.{places_of, OwnerKey, owner_key, key_eq, owned_by, IsRecIndex, IsOwnerIndex, AreListed}
+use Rattle.vp_locks.specs.Index.{places_of, owned_by, IsRecIndex, IsOwnerIndex}
+use Rattle.vp_locks.specs.Keys.{OwnerKey, owner_key, key_eq}
 use Rattle.vp_locks.specs.Places.{present_locks, lock_at, revise_slot, if_kept}
 use Rattle.vp_locks.specs.Staying.{stays}
 use Rattle.vp_locks.proofs.InSlots.{revised_where}
 use Rattle.vp_locks.proofs.Indexes.{index_kept, key_apart, owner_revised, owner_swept}
-use Rattle.vp_locks.proofs.Listed.{listed_left}
 use Rattle.vp_locks.proofs.Locks.sweep.Goals as goal
 
 whole : (c : goal.After-keep_taken) → (with_items c.self.inside.slots c.sweep.new.slots).items ≡ c.sweep.new.slots
@@ -29,13 +29,9 @@ invariant_of-self c =
     let new = c.keep_taken.new.self.lists in
     let own = owner_key c.args.owner.now in
     let kept : (q : OwnerKey) → places_of key_eq new q ≡ (if key_eq own q then filter (λ p. is_some (lock_at (map (revised_where (λ lock. owned_by lock own) (if_kept (stays c.args.staying))) slots) p)) (places_of key_eq lists q) else places_of key_eq lists q) = λ q. c.keep_taken.ensures q ∙ ap₂ (λ k xs. if key_eq k q then filter (λ p. is_some (lock_at xs p)) (places_of key_eq lists q) else places_of key_eq lists q) c.owner_key-2.ensures (c.deref.ensures.value ∙ whole c ∙ swept_slots c) in
-    let recs = c.self.inside.recs.lists in
-    let rest = λ (lock : Lock). not (same_owner lock.owner c.args.owner.now) || stays c.args.staying lock in
-    let left = ap present_locks (swept_slots c) ∙ owner_swept lists slots c.self.invariant.1 c.args.owner.now (stays c.args.staying) in
-    subst (λ xs. IsRecIndex c.sweep.new.by_rec xs × IsOwnerIndex new xs × AreListed recs (present_locks xs)) (sym (whole c)) (
+    subst (λ xs. IsRecIndex c.sweep.new.by_rec xs × IsOwnerIndex new xs) (sym (whole c)) (
       c.sweep.ensures.index,
       subst (IsOwnerIndex new) (sym (swept_slots c)) (index_kept key_eq owned_by lists slots c.self.invariant.1 new own (stays c.args.staying) (λ lock q. key_apart (owner_key lock.owner) own q) kept),
-      subst (AreListed recs) (sym left) (listed_left recs rest (present_locks slots) c.self.invariant.2),
     )
 
 pub returns : goal.returns

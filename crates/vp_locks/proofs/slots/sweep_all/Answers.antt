@@ -1,12 +1,10 @@
 use Rattle.std.proofs.Common.{◌≡◌, ◌∙◌, ◌==◌, not, filter, if◌then◌else◌, sym, ap, subst}
-use Rattle.vp_locks.specs.Index.{places_of, OwnerKey, owner_key, key_eq, owned_by, IsOwnerIndex}
+use Rattle.vp_locks.specs.Index.{places_of, owned_by, IsOwnerIndex}
+use Rattle.vp_locks.specs.Keys.{OwnerKey, owner_key, key_eq}
 use Rattle.vp_locks.proofs.InSlots.{swept_none, swept_some, swept_more}
-use Rattle.vp_locks.proofs.Indexes.{index_without, rises}
+use Rattle.vp_locks.proofs.Indexes.{index_without}
 use Rattle.vp_locks.proofs.slots.sweep_all.Goals.{in-Some, in_default}
 use Rattle.vp_locks.proofs.slots.sweep_all.Goals as goal
-
-pub forget-requires : goal.forget-requires
-forget-requires g c = rises key_eq owned_by c.loop-place.by_owner.lists c.loop-place.slots c.loop-place.invariant.2 c.owner_key.result
 
 pub loop-place-preserved : goal.loop-place-preserved
 loop-place-preserved g c =

@@ -1,16 +1,9 @@
-use Rattle.std.proofs.Common.{◌∙◌, Some, None, if◌then◌else◌, nat_eq, option_copied, sym, ap}
+use Rattle.std.proofs.Common.{◌∙◌, Some, None, if◌then◌else◌, option_copied, sym, ap}
 use Rattle.std.specs.Option.{option_map_or}
-use Rattle.vp_locks.specs.Index.{on_rec, exclusive_on}
 use Rattle.vp_locks.specs.Places.{if_kept}
+use Rattle.vp_locks.proofs.Held.{holders_less, listed_less}
 use Rattle.vp_locks.proofs.InSlots.{revised_same}
-use Rattle.vp_locks.proofs.Indexes.{index_without, rises}
 use Rattle.vp_locks.proofs.slots.sweep_at.Goals as goal
-
-pub forget-requires-clause-all : goal.forget-requires-clause-all
-forget-requires-clause-all g c = rises nat_eq on_rec c.args.by_rec.now.all.lists c.args.slots.now c.requires.index.0 c.in_ok-lock.lock.now.rec
-
-pub forget-requires-clause-exclusive : goal.forget-requires-clause-exclusive
-forget-requires-clause-exclusive g c = rises nat_eq exclusive_on c.args.by_rec.now.exclusive.lists c.args.slots.now c.requires.index.1 c.in_ok-lock.lock.now.rec
 
 pub returns-then-keeps-clause-slots : goal.returns-then-keeps-clause-slots
 returns-then-keeps-clause-slots g c =
@@ -22,9 +15,10 @@ returns-then-keeps-clause-slots g c =
 pub returns-clause-index : goal.returns-clause-index
 returns-clause-index g c =
     let lock = c.in_ok-lock.lock.now in
+    let slots = c.args.slots.now in
     let at = sym c.lock_at.ensures.lock ∙ ap option_copied c.in_ok-lock.was in
     let old = c.args.by_rec.now in
     let new = c.forget.new.self in (
-      index_without nat_eq on_rec old.all.lists c.args.slots.now c.requires.index.0 new.all.lists c.args.place lock at c.forget.ensures.0,
-      index_without nat_eq exclusive_on old.exclusive.lists c.args.slots.now c.requires.index.1 new.exclusive.lists c.args.place lock at c.forget.ensures.1,
+      holders_less old.holders.set slots c.requires.index.0 new.holders.set lock c.args.place at c.forget.ensures.holders,
+      listed_less old.exclusive.lists new.exclusive.lists slots c.requires.index.1 c.args.place c.forget.ensures.kept,
     )
