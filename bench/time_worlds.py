@@ -15,6 +15,7 @@ where the processor's counters are closed; memory is the most of one run.
     ended           reads at another site, each of a transaction that is aborted and ends there, all in one view
     parts           transactions of 15 sites read at one, and are aborted; their outcomes come after the last, from the first to the last
     left            the same parts, whose site leaves its view
+    shared          a record that 15,000 transactions of 15 sites read, and then transactions that would write it, each of which is refused
     doubts          256 transactions in doubt at one site, as many as its records; their prepares come again and again
     finished        calls on the oldest of 1,024 transactions that have ended
     long_values     commits of two sites, each of 15 values of 1,024 bytes, near the most bytes of an input: for the memory by its bytes
@@ -112,6 +113,18 @@ def left(share):
     return readers(int(1330 * share)) + ["call 16 regroup"]
 
 
+def shared(share):
+    lines = ["site %d %d" % (site, 7000 + site) for site in range(1, 17)] + ["record x 10 16:1", "events"]
+    first = 1
+    for k in range(1, int(1000 * share) + 1):
+        for site in range(1, 16):
+            lines += [f"call {site} begin", f"call {site} {site}.1.{k} 1 read x", f"deliver {first}"]
+            first += 2
+    for k in range(1, int(27400 * share) + 1):
+        lines += ["call 16 begin", f"call 16 16.1.{k} 1 write x v"]
+    return lines
+
+
 def doubts(share):
     lines = pair(*(f"record x{k} 10 1:1 2:1" for k in range(256)))
     for k in range(1, 257):
@@ -138,7 +151,7 @@ def long_values(share):
     return lines
 
 
-KINDS = (flows, deliveries, views, unacknowledged, acknowledged, ended, parts, left, doubts, finished, long_values)
+KINDS = (flows, deliveries, views, unacknowledged, acknowledged, ended, parts, left, shared, doubts, finished, long_values)
 
 
 def memory_of(command, path):
