@@ -1,7 +1,7 @@
 -- Writes that are ready to be done.
 use Rattle.std.specs.Prelude.{ℕ, List, ⊤}
 use Rattle.std.specs.List.Sorted.{IsStrictlyIncreasing}
-use Rattle.vp_model.specs.Types.{Change, Stored, ViewId}
+use Rattle.vp_model.specs.Types.{Stored, ViewId}
 use Rattle.vp_model.specs.Words.{keys}
 use Rattle.vp_model.specs.Durable.{with_writes}
 use Rattle.vp_records.specs.declared.site_copies.ReadyWrites.{ReadyWrites}
