@@ -17,6 +17,9 @@ where the processor's counters are closed; memory is the most of one run.
     left            the same parts, whose site leaves its view
     shared          a record that 15,000 transactions of 15 sites read, and then transactions that would write it, each of which is refused
     doubts          256 transactions in doubt at one site, as many as its records; their prepares come again and again
+    stored          commits of one site with 256 records, each of which has a value of 1,024 bytes at first
+    regroups        a site asks 15 others for view after view, and hears nothing
+    restarts        a site with 256 records crashes and starts again and again, 49,000 times at 100 per cent; it takes minutes under valgrind
     finished        calls on the oldest of 1,024 transactions that have ended
     long_values     commits of two sites, each of 15 values of 1,024 bytes, near the most bytes of an input: for the memory by its bytes
 """
@@ -134,6 +137,29 @@ def doubts(share):
     return lines + [f"deliver {4 * (k % 256) + 3}" for k in range(int(98400 * share))]
 
 
+def alone(records, size):
+    """A catalogue of one site with so many records, and a commit to each of a value of so many bytes."""
+    lines = ["site 1 7001", *(f"record x{k} 10 1:1" for k in range(records)), "events"]
+    for k in range(1, records + 1):
+        lines += ["call 1 begin", f"call 1 1.1.{k} 1 write x{k - 1} " + f"{k}.".ljust(size, "v"), f"call 1 1.1.{k} 2 commit"]
+    return lines
+
+
+def stored(share):
+    lines = alone(256, 1024)
+    for k in range(257, 257 + int(32900 * share)):
+        lines += ["call 1 begin", f"call 1 1.1.{k} 1 write x{k % 256} v", f"call 1 1.1.{k} 2 commit"]
+    return lines
+
+
+def regroups(share):
+    return catalogue(16) + ["call 1 regroup"] * int(99000 * share)
+
+
+def restarts(share):
+    return alone(256, 8) + ["crash 1", "restart 1"] * int(49000 * share)
+
+
 def finished(share):
     lines = ["site 1 7001", "record x 10 1:1", "events"]
     for k in range(1, 1025):
@@ -151,7 +177,7 @@ def long_values(share):
     return lines
 
 
-KINDS = (flows, deliveries, views, unacknowledged, acknowledged, ended, parts, left, shared, doubts, finished, long_values)
+KINDS = (flows, deliveries, views, unacknowledged, acknowledged, ended, parts, left, shared, doubts, stored, regroups, restarts, finished, long_values)
 
 
 def memory_of(command, path):

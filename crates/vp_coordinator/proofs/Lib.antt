@@ -4,7 +4,6 @@ pub mod Presence
 pub mod LastWrites
 pub mod HasChanged
 pub mod Some
-pub mod Ascending
 pub mod Each
 pub mod Rows
 pub mod Ends

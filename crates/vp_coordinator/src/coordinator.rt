@@ -5,7 +5,6 @@ ghost use Rattle.vp_model.specs.Step.{resend};
 ghost use Rattle.vp_model.specs.Generated.{newest};
 ghost use Rattle.vp_coordinator.specs.Lent.{no_effects};
 
-use crate::copies::SiteCopies;
 use crate::here::Here;
 use std::alloc::Global;
 use std::marker::Model;
@@ -46,7 +45,7 @@ impl Coordinator {
         transactions.decisions = durable.decisions().copy_of()?;
         let here = Here {
             locks,
-            copies: SiteCopies::new(durable.into_copies()),
+            copies: durable.into_copies(),
             bars: Bars::new(alloc),
         };
         Ok(Coordinator {

@@ -1,9 +1,9 @@
 //! The locks, copies and bars of a site, which the transactions of all sites use.
 
-use crate::copies::SiteCopies;
 use std::marker::Model;
 use vp_base::Bars;
 use vp_locks::Locks;
+use vp_records::SiteCopies;
 
 /// The locks, the copies and the bars of a site.
 #[derive(Drop)]

@@ -7,7 +7,7 @@ use Rattle.std.specs.Option.{option_map_or}
 use Rattle.std.specs.Map.{lookup}
 use Rattle.std.specs.declared.vec.Vec.{Vec}
 use Rattle.indexmap.specs.IndexMap.{IndexMap, get, Updates}
-use Rattle.vp_locks.specs.Index.{places_of, Changes}
+use Rattle.vp_locks.specs.Index.{places_of}
 
 -- a list of no places
 pub none_left : (ks : List ℕ) (n : ℕ) → n ≡ length ks → (n == 0) ≡ true → ks ≡ []
@@ -26,9 +26,6 @@ module _ {K A S : Type 0} {eq : K → K → Bool} (laws : IsEquivalence eq) (old
         by : (b : Bool) → eq key q ≡ b → option_map_or (λ (list : Vec ℕ A). list.items) (if b then Some now else get eq old q) [] ≡ (if b then f (places_of eq old q) else places_of eq old q)
         by true e = is ∙ ap f (same_list q e)
         by false e = refl
-
-    pub list_changed : (was now : Vec ℕ A) → get eq old key ≡ Some was → Updates eq old new key (Some now) → now.items ≡ f was.items → Changes eq (eq key) f old new
-    list_changed was now found up is = list_written now up (is ∙ ap f (sym (ap (λ o. option_map_or (λ (list : Vec ℕ A). list.items) o []) found)))
 
     -- a list that has become empty is removed
     pub list_emptied : (last : IndexMap K (Vec ℕ A) S) → ((q : K) → places_of eq new q ≡ (if eq key q then f (places_of eq old q) else places_of eq old q)) → f (places_of eq old key) ≡ [] → Updates eq new last key None → (q : K) → places_of eq last q ≡ (if eq key q then f (places_of eq old q) else places_of eq old q)

@@ -1,3 +1,4 @@
+pub mod Ascending
 pub mod Held
 pub mod Codes
 pub mod EachRecord

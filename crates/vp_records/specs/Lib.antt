@@ -5,3 +5,4 @@ pub mod Kinds
 pub mod Reading
 pub mod Laws
 pub mod Decided
+pub mod ReadyWrites

@@ -7,22 +7,23 @@ ghost use Rattle.vp_model.specs.Durable.{empty_durable, apply, apply_all, doubt_
 ghost use Rattle.vp_records.specs.Applying.{AppliesSome};
 ghost use Rattle.vp_records.specs.Records.{CanBeSaved, IsLogRecord};
 
-use crate::copies::{commit_doubt, restore};
+use crate::copies::restore;
 use crate::decided::DecisionTable;
 use crate::doubts::{drop_doubt, keep_doubt};
+use crate::site_copies::SiteCopies;
 use std::marker::Model;
 use vp_base::{
     Copies, CopyOf, Decisions, InDoubt, LogRecord, NoMemory, RecId, SiteId, Sites, Stored, TxnId,
     ViewId, Writes,
 };
-use vp_lists::{copy_all, find_txn, replace_at, value_at, write_copies};
+use vp_lists::find_txn;
 
 /// What a site still has after a crash: its promise, its life, its copies, the transactions in doubt, and the decisions that some
 /// site has not acknowledged.
 pub struct Durable {
     promise: ViewId,
     life: u32,
-    copies: Vec<(RecId, Stored)>,
+    copies: SiteCopies,
     doubts: InDoubt,
     decisions: DecisionTable,
 }
@@ -44,7 +45,7 @@ impl Model for Durable {
 
     ghost Value = { DurableState };
 
-    ghost view = { λ d. record { promise = d.promise; life = d.life; copies = d.copies.items; doubts = d.doubts; decisions = d.decisions } };
+    ghost view = { λ d. record { promise = d.promise; life = d.life; copies = d.copies; doubts = d.doubts; decisions = d.decisions } };
 }
 
 impl CopyOf for Durable {
@@ -52,7 +53,7 @@ impl CopyOf for Durable {
         Ok(Durable {
             promise: self.promise,
             life: self.life,
-            copies: copy_all(*self.copies.allocator(), &self.copies)?,
+            copies: self.copies.copy_of()?,
             doubts: self.doubts.copy_of()?,
             decisions: self.decisions.copy_of()?,
         })
@@ -68,7 +69,7 @@ impl Durable {
         Durable {
             promise: ViewId { number: 0, site: 0 },
             life: 0,
-            copies: copies.into_vec(),
+            copies: SiteCopies::new(copies),
             doubts: InDoubt::new(alloc),
             decisions: DecisionTable::new(alloc),
         }
@@ -94,14 +95,14 @@ impl Durable {
         Durable {
             promise,
             life,
-            copies: copies.into_vec(),
+            copies: SiteCopies::new(copies),
             doubts,
             decisions: DecisionTable::listed(decisions),
         }
     }
 
     /// Gives the copies, and drops the rest.
-    pub fn into_copies(self) -> Copies
+    pub fn into_copies(self) -> SiteCopies
         ensures { result ≡ self.copies }
     {
         let Durable {
@@ -111,7 +112,7 @@ impl Durable {
             doubts: _,
             decisions: _,
         } = self;
-        Copies::from_vec(copies)
+        copies
     }
 
     /// The highest identifier of a view that the site has accepted or made.
@@ -134,7 +135,7 @@ impl Durable {
         ensures copy { option_copied result ≡ value_at rec self.now.copies }
         ensures there { is_some result ≡ has (keys self.now.copies) rec }
     {
-        value_at(&self.copies, rec)
+        self.copies.get(rec)
     }
 
     /// The transactions that the site voted yes on and whose outcome it doesn't know, ascending.
@@ -158,16 +159,15 @@ impl Durable {
             self.now.doubts self.now.decisions) }
         ensures spelled { CanBeSaved self.now → IfOk result IsLogRecord }
     {
-        let alloc = *self.copies.allocator();
-        let copies = copy_all(alloc, &self.copies)?;
-        let doubts = copy_all(alloc, self.doubts.as_slice())?;
+        let copies = self.copies.to_list()?;
+        let doubts = self.doubts.copy_of()?;
         let decisions = self.decisions.list()?;
         Ok(LogRecord::Checkpoint {
             generation,
             life: self.life,
             promise: self.promise,
-            copies: Copies::from_vec(copies),
-            doubts: InDoubt::from_vec(doubts),
+            copies,
+            doubts,
             decisions,
         })
     }
@@ -195,13 +195,6 @@ impl Durable {
         keep_doubt(&mut self.doubts, txn, view, writes)
     }
 
-    /// The copies as a list of its own, which is changed and then takes their place: so nothing is half done without memory.
-    fn own_copies(&self) -> Result<Vec<(RecId, Stored)>, NoMemory>
-        ensures { IfOk result (λ copies. copies.items ≡ self.now.copies) }
-    {
-        copy_all(*self.copies.allocator(), &self.copies)
-    }
-
     /// Makes the writes of the transaction in doubt the copies, with its view as their date.
     fn write_doubt(&mut self, txn: &TxnId) -> Result<(), NoMemory>
         ensures ok { OnOk result
@@ -210,10 +203,10 @@ impl Durable {
             { copies = with_outcome (doubt_of txn.now self.old.doubts) true self.old.copies }) }
         ensures err { OnErr result (self.new ≡ self.old) }
     {
-        let mut copies = self.own_copies()?;
-        commit_doubt(&mut copies, find_txn(self.doubts.as_slice(), txn))?;
-        self.copies = copies;
-        Ok(())
+        match find_txn(self.doubts.as_slice(), txn) {
+            None => Ok(()),
+            Some(doubt) => self.copies.write(&doubt.view, doubt.writes.as_slice()),
+        }
     }
 
     /// Ends the doubt; where the outcome is commit, the writes become the copies.
@@ -252,10 +245,9 @@ impl Durable {
             (self.new ≡ apply (log_record.Commit txn.now view.now writes.now waiting.now) self.old) }
         ensures err { OnErr result (self.new ≡ self.old) }
     {
-        let mut copies = self.own_copies()?;
-        write_copies(&mut copies, view, writes.as_slice())?;
+        let ready = self.copies.prepare(view, writes.as_slice())?;
         self.keep(txn, waiting)?;
-        self.copies = copies;
+        self.copies.settle(view, ready);
         Ok(())
     }
 
@@ -264,10 +256,7 @@ impl Durable {
         ensures ok { OnOk result (self.new ≡ apply (log_record.Copy rec stored.now) self.old) }
         ensures err { OnErr result (self.new ≡ self.old) }
     {
-        let mut copies = self.own_copies()?;
-        replace_at(&mut copies, rec, stored)?;
-        self.copies = copies;
-        Ok(())
+        self.copies.replace(rec, stored.copy_of()?)
     }
 
     #[tactic(auto, unfolding(vp_model::specs::Durable::apply))]
@@ -295,11 +284,11 @@ impl Durable {
         }) }
         ensures err { OnErr result (self.new ≡ self.old) }
     {
-        let mut restored = self.own_copies()?;
+        let mut restored = self.copies.to_list()?.into_vec();
         restore(&mut restored, copies.as_slice())?;
         let doubts = doubts.copy_of()?;
         self.decisions = DecisionTable::copied(decisions)?;
-        self.copies = restored;
+        self.copies = SiteCopies::new(Copies::from_vec(restored));
         self.doubts = doubts;
         self.promise = *promise;
         self.life = life;

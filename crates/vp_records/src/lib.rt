@@ -17,6 +17,7 @@ mod kind;
 mod laws;
 mod listed;
 mod read_records;
+mod site_copies;
 
 pub use decided::DecisionTable;
 pub use decoding::decode_batch;
@@ -24,3 +25,4 @@ pub use durable::Durable;
 pub use encoding::encode_batch;
 pub use fault::BatchFault;
 pub use laws::{encoded_is_decoded, spellings_are_of_one_batch};
+pub use site_copies::SiteCopies;

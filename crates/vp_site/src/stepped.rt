@@ -10,8 +10,9 @@ use std::marker::Model;
 use vp_base::{
     Answer, CopyOf, Effects, LogRecord, Message, NoMemory, RecId, SiteId, Stored, View, ViewId,
 };
-use vp_coordinator::{Coordinator, SiteCopies};
+use vp_coordinator::Coordinator;
 use vp_participant::Participant;
+use vp_records::SiteCopies;
 use vp_refresh::Refresh;
 use vp_views::Views;
 

@@ -1,7 +1,7 @@
 use Rattle.std.proofs.Common.{ℕ, ◌==◌, Some, refl, sym, ap}
 use Rattle.vp_model.specs.Types.{Stored}
 use Rattle.vp_lists.proofs.Found.{find_none, find_some}
-use Rattle.vp_coordinator.proofs.copies.SiteCopies.get.Goals as goal
+use Rattle.vp_records.proofs.site_copies.SiteCopies.get.Goals as goal
 
 pub returns-in-None : goal.returns-in-None
 returns-in-None c = rw (find_none (λ (copy : ℕ × Stored). copy.0 == c.args.rec) c.args.self.now (sym c.in-None.ensures.place)) refl

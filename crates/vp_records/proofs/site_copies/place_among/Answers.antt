@@ -1,8 +1,8 @@
 use Rattle.std.proofs.Common.{rules, ℕ}
 use Rattle.std.proofs.lemmas.List.Sorted.{answers_always}
 use Rattle.vp_model.specs.Types.{Stored}
-use Rattle.vp_coordinator.proofs.Ascending.{searched}
-use Rattle.vp_coordinator.proofs.copies.place_among.Goals as goal
+use Rattle.vp_records.proofs.Ascending.{searched}
+use Rattle.vp_records.proofs.site_copies.place_among.Goals as goal
 
 pub returns : goal.returns
 returns c =

@@ -1,8 +1,8 @@
 use Rattle.std.proofs.Common.{rules, nat_lt, ℕ}
 use Rattle.std.proofs.lemmas.List.Sorted.{answers_always}
 use Rattle.vp_model.specs.Types.{Stored}
-use Rattle.vp_coordinator.proofs.Ascending.{ascend_from_adjacent}
-use Rattle.vp_coordinator.proofs.copies.ascends.Goals as goal
+use Rattle.vp_records.proofs.Ascending.{ascend_from_adjacent}
+use Rattle.vp_records.proofs.site_copies.ascends.Goals as goal
 
 pub returns : goal.returns
 returns c = λ all.
