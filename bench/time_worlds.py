@@ -19,7 +19,7 @@ where the processor's counters are closed; memory is the most of one run.
     doubts          256 transactions in doubt at one site, as many as its records; their prepares come again and again
     stored          commits of one site with 256 records, each of which has a value of 1,024 bytes at first
     regroups        a site asks 15 others for view after view, and hears nothing
-    restarts        a site with 256 records crashes and starts again and again, 49,000 times at 100 per cent; it takes minutes under valgrind
+    restarts        a site with 256 records crashes, starts and makes a view, 32,000 times at 100 per cent; each start reads the log, so it takes long under valgrind
     finished        calls on the oldest of 1,024 transactions that have ended
     long_values     commits of two sites, each of 15 values of 1,024 bytes, near the most bytes of an input: for the memory by its bytes
 """
@@ -157,7 +157,7 @@ def regroups(share):
 
 
 def restarts(share):
-    return alone(256, 8) + ["crash 1", "restart 1"] * int(49000 * share)
+    return alone(256, 8) + ["crash 1", "restart 1", "call 1 regroup"] * int(32000 * share)
 
 
 def finished(share):
