@@ -174,14 +174,14 @@ def without_catalogues(copy):
 def with_mending(copy):
     """Leaves of the laws that no schedule is stuck those of mending, which stand on no catalogue in the grammar."""
     crate = copy / "crates/vp_progress"
-    for name in ("clients_are_served", "clients_can_be_served", "doubts_stay", "sites_can_meet"):
+    for name in ("clients_are_served", "clients_can_be_served", "doubts_stay", "majorities_go_on", "sites_can_meet"):
         without_claim(crate / "src/laws.rt", name)
-    without_lines(crate / "src/laws.rt", r"specs\.(Clients|NeverStuck|Doubts|Meeting|Together)\b")
+    without_lines(crate / "src/laws.rt", r"specs\.(Clients|NeverStuck|Doubts|Majority|Meeting|Together)\b")
     (crate / "src/worked.rt").unlink()
     (crate / "src/lib.rt").write_text("//! What can be mended.\n#![tactic(auto)]\n\npub mod laws;\n")
     shutil.rmtree(crate / "proofs/worked")
     shutil.rmtree(crate / "proofs/Serving")
-    for part, names in (("specs", "Clients NeverStuck Doubts Together Meeting Recovery Worked"), ("proofs", "Serving Returned Asked Doubts Passing Marks Marked Elsewhere Meetings")):
+    for part, names in (("specs", "Clients NeverStuck Doubts Together Meeting Majority Recovery Worked"), ("proofs", "Serving Returned Asked Doubts Passing Marks Marked Elsewhere Meetings Short Majority Exactly")):
         for name in names.split():
             (crate / part / f"{name}.antt").unlink()
         without_lines(crate / part / "Lib.antt", r"mod (%s)$" % names.replace(" ", "|"))

@@ -16,4 +16,5 @@ pub mod Heard
 pub mod Ends
 pub mod Apart
 pub mod Addressed
+pub mod InTime
 mod Together

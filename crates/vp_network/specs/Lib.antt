@@ -9,3 +9,4 @@ pub mod Asked
 pub mod Worked
 pub mod Laws
 pub mod Together
+pub mod InTime

@@ -5,6 +5,7 @@ ghost use Rattle.vp_network.specs.Nodes.{ProcessesAreNodes};
 ghost use Rattle.vp_network.specs.Lives.{RunsHappen};
 ghost use Rattle.vp_network.specs.Ends.{LivesFollow, RunsBreak, RunsEnd};
 ghost use Rattle.vp_network.specs.Serial.{ClustersAreSerial};
+ghost use Rattle.vp_network.specs.InTime.{ClustersComeInTime};
 ghost use Rattle.vp_network.specs.Apart.{ProcessesAreApart};
 ghost use Rattle.vp_network.specs.Together.{ProcessesMakeClusters};
 ghost use Rattle.vp_network.specs.Asked.{HandedRepliesAnswer, RepliesAnswerCalls};
@@ -22,6 +23,12 @@ pub fn clusters_are_one_copy()
 /// The commits of the processes are a serial run on one copy, each transaction once, and the ends in the answers to clients are true.
 pub fn clusters_are_serial()
     ensures { ClustersAreSerial }
+{}
+
+/// In the order in which the processes made them, the commits come in time: what is read of a record that is also changed is what the last commit
+/// before left there, in whatever view; and one that was answered, before another was begun, is before it.
+pub fn clusters_come_in_time()
+    ensures { ClustersComeInTime }
 {}
 
 /// Each process that runs is the run of a node, from what its log had as it started, over what has come to it since.

@@ -1,6 +1,6 @@
 -- What events that mend some sites leave: the other sites as they were; and where no prepare comes, no site is in a new doubt.
 use Rattle.std.proofs.Common.{◌≡◌, ◌≢◌, ◌∙◌, ap, sym, subst, ℕ, ◌+◌, ◌-◌, ◌^◌, Bool, true, false, List, [], ◌∷◌, ◌++◌, refl, ⊎_elim}
-use Rattle.std.specs.Prelude.{Option, Some, None, ◌==◌, not}
+use Rattle.std.specs.Prelude.{Option, Some, None, ◌==◌, ◌&&◌, not, nat_lt}
 use Rattle.std.specs.Option.{option_map_or}
 use Rattle.vp_model.specs.Types.{Sent, Message, Event, Input, Doubt}
 use Rattle.vp_model.specs.Types.event
@@ -86,17 +86,17 @@ module _ (catalogue : Catalogue) (q : ℕ) where
 
 -- ---- doubts
 
-module _ (catalogue : Catalogue) (ns : List ℕ) (q : ℕ) (d : Doubt) where
+module _ (catalogue : Catalogue) (told : ℕ) (ns : List ℕ) (q : ℕ) (d : Doubt) where
   abbrev Doubted : Scene → Type 0
   Doubted w = Has (kept_at w q).doubts d
 
-  no_prepare : (e : Event) (w : WorldState) (s : ℕ) (given : Input) → calms ns w e ≡ true → Gives e w s given → (from : ℕ) (m : Message) → is_prepare m ≡ true → given ≡ input.Message from m → ⊥
+  no_prepare : (e : Event) (w : WorldState) (s : ℕ) (given : Input) → calms told ns w e ≡ true → Gives e w s given → (from : ℕ) (m : Message) → is_prepare m ≡ true → given ≡ input.Message from m → ⊥
   no_prepare e w s _ pass (Gives.called words is) from m p c = let z = c in cc
   no_prepare e w s _ pass (Gives.ticked is) from m p c = let z = c in cc
   no_prepare e w s _ pass (Gives.probed is) from m p c = let z = c in cc
   no_prepare e w s _ pass (Gives.came k a is at to) from m p c =
       let same : a.message ≡ m = (let z = c in cc) in
-      let calm : is_calm (Some a) ≡ true = subst (λ (o : Option Sent). is_calm o ≡ true) at (both_true (is_within ns (message_at w k)) (is_calm (message_at w k)) (subst (λ (e : Event). calms ns w e ≡ true) is pass)).1 in
+      let calm : is_calm (Some a) ≡ true = subst (λ (o : Option Sent). is_calm o ≡ true) at (both_true (is_within ns (message_at w k)) (is_calm (message_at w k)) (both_true (nat_lt told k) (is_within ns (message_at w k) && is_calm (message_at w k)) (subst (λ (e : Event). calms told ns w e ≡ true) is pass)).1).1 in
       let z : not (is_prepare m) ≡ true = subst (λ (m : Message). not (is_prepare m) ≡ true) same calm in
       clash (is_prepare m) p z
     where
@@ -104,7 +104,7 @@ module _ (catalogue : Catalogue) (ns : List ℕ) (q : ℕ) (d : Doubt) where
       clash true e z = cc
       clash false e z = cc
 
-  was_there : (e : Event) (w : WorldState) (m : Moved) → Known catalogue (scene_of w) → Known catalogue (scene_of m.world) → calms ns w e ≡ true → Occurs catalogue e w m → Doubted (scene_of m.world) → Doubted (scene_of w)
+  was_there : (e : Event) (w : WorldState) (m : Moved) → Known catalogue (scene_of w) → Known catalogue (scene_of m.world) → calms told ns w e ≡ true → Occurs catalogue e w m → Doubted (scene_of m.world) → Doubted (scene_of w)
   was_there e w m k n pass (Occurs.acts s x given v same up arrives gives is) h =
       let scene : scene_of m.world ≡ acted (scene_of w) s x (step catalogue x given) = ap (λ (m : Moved). scene_of m.world) is ∙ stepped_scene catalogue s x given v ∙ ap (λ (z : Scene). acted z s x (step catalogue x given)) same in
       let now = subst (Known catalogue) scene n in
@@ -117,7 +117,7 @@ module _ (catalogue : Catalogue) (ns : List ℕ) (q : ℕ) (d : Doubt) where
       subst (λ (ds : List Doubt). Has ds d) (quiet_kept catalogue (scene_of w) (restarted catalogue (scene_of w) s) s quiet (λ (k : DurableState). k.doubts) quiet.doubts q) (subst Doubted same h)
 
   -- no doubt is new after these events
-  pub none_new : (events : List Event) (w : WorldState) → Known catalogue (scene_of w) → EachPasses catalogue (calms ns) w events → Doubted (scene_of (world_after catalogue events w)) → Doubted (scene_of w)
+  pub none_new : (events : List Event) (w : WorldState) → Known catalogue (scene_of w) → EachPasses catalogue (calms told ns) w events → Doubted (scene_of (world_after catalogue events w)) → Doubted (scene_of w)
   none_new [] w k pass h = h
   none_new (e ∷ events) w k pass h =
       let n = happens-good catalogue (Known catalogue) (known_last catalogue) e (record w { steps = w.steps + 1 }) k in

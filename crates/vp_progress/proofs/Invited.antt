@@ -2,7 +2,7 @@
 use Rattle.std.proofs.Common.{◌≡◌, ◌≢◌, ◌⊎◌, ◌∙◌, ap, sym, subst, ℕ, ◌+◌, ◌-◌, ◌<◌, ◌≤◌, ◌^◌, true, false, List, [], ◌∷◌, refl, arith, ⊎_elim, inl, inr}
 use Rattle.std.specs.Prelude.{Option, Some, None, ◌==◌, not, max, nat_eq, nat_lt}
 use Rattle.std.proofs.lemmas.Bool.Decides.{nat_tests}
-use Rattle.vp_model.specs.Types.{ViewId, Commit}
+use Rattle.vp_model.specs.Types.{ViewId}
 use Rattle.vp_model.specs.Types.call
 use Rattle.vp_model.specs.Types.input
 use Rattle.vp_model.specs.Types.message
@@ -23,8 +23,8 @@ use Rattle.vp_laws.proofs.Invariant.Known.{Known}
 use Rattle.vp_progress.specs.Whole.{promised_number}
 use Rattle.vp_progress.proofs.Calm.{calms, carries}
 use Rattle.vp_progress.proofs.Can.{Can, can_now, Each, one_by_one}
-use Rattle.vp_progress.proofs.Acts.{Did, by_regroup, by_carried}
-use Rattle.vp_progress.proofs.Started.{IsUp, Started}
+use Rattle.vp_progress.proofs.Acts.{Did, Since, sends_since, stays_since, by_regroup, by_carried}
+use Rattle.vp_progress.proofs.Started.{IsUp, Past, Started}
 use Rattle.vp_progress.proofs.Based.{Based, moves_on, other_as, greatest}
 use Rattle.vp_progress.proofs.Rows.{invites, awaits, accepts, regroup_commits, regroup_sends, awaits_commits, counts, counts_commits}
 
@@ -64,11 +64,11 @@ pub record Accepted (id : ViewId) (r q : ℕ) (w : WorldState) : Type 0 where
   pub waiting : at.waiting ≡ Some id
   pub counted : (x : SiteState) → site_of w r ≡ Some x → Has (acceptors x.inviting) q
 
-module _ (catalogue : Catalogue) (ns : List ℕ) (journal : List Commit) where
+module _ (catalogue : Catalogue) (ns : List ℕ) (past : Past) where
   -- the site r invites to the view: those that have accepted are among these sites, and each other one has accepted too, or may
   pub record Invited (id : ViewId) (r : ℕ) (w : WorldState) : Type 0 where
-    pub base : Based catalogue ns journal w
-    pub sent : (q : ℕ) → Has ns q → q ≢ r → Has w.sent (letter r q (message.Invite id))
+    pub base : Based catalogue ns past w
+    pub sent : (q : ℕ) → Has ns q → q ≢ r → Since past.told w (letter r q (message.Invite id))
     pub leader : SiteState
     pub up : site_of w r ≡ Some leader
     pub accepted : List ℕ
@@ -80,13 +80,13 @@ module _ (catalogue : Catalogue) (ns : List ℕ) (journal : List Commit) where
   -- ---- the invitation
 
   -- the site r has invited above each promise
-  pub regrouped : (w new : WorldState) (r : ℕ) (x : SiteState) → ((q : ℕ) → Has ns q → Has (sites_of catalogue) q) → Based catalogue ns journal w → ((q : ℕ) → Has ns q → IsUp q w) → Has ns r → site_of w r ≡ Some x → is_spent x.views ≡ false → ((q : ℕ) → Has ns q → (promise_at (scene_of w) q).number ≤ highest x.views)
+  pub regrouped : (w new : WorldState) (r : ℕ) (x : SiteState) → ((q : ℕ) → Has ns q → Has (sites_of catalogue) q) → Based catalogue ns past w → ((q : ℕ) → Has ns q → IsUp q w) → Has ns r → site_of w r ≡ Some x → is_spent x.views ≡ false → ((q : ℕ) → Has ns q → (promise_at (scene_of w) q).number ≤ highest x.views)
       → Known catalogue (scene_of new) → Did w new r x (step catalogue x (input.Call 0 call.Regroup)) → Invited (next_view x) r new
   regrouped w new r x sub base up here mine free top k d =
       let ok = base.known.views.site r x mine in
       record {
-        base = moves_on catalogue ns journal w new r x _ base k d (regroup_commits catalogue x 0 free);
-        sent = λ q h n. d.acted.sends _ (subst (λ (s : ℕ). Has (step catalogue x (input.Call 0 call.Regroup)).effects.messages (letter s q (message.Invite (next_view x)))) ok.id (regroup_sends catalogue x 0 q free (filter_keeps (λ q. not (q == x.id)) (sites_of catalogue) q (sub q h) (unlike q x.id (rw ok.id n)))));
+        base = moves_on catalogue ns past w new r x _ base k d (regroup_commits catalogue x 0 free);
+        sent = λ q h n. sends_since past.told base.grown d _ (subst (λ (s : ℕ). Has (step catalogue x (input.Call 0 call.Regroup)).effects.messages (letter s q (message.Invite (next_view x)))) ok.id (regroup_sends catalogue x 0 q free (filter_keeps (λ q. not (q == x.id)) (sites_of catalogue) q (sub q h) (unlike q x.id (rw ok.id n)))));
         leader = (step catalogue x (input.Call 0 call.Regroup)).site;
         up = d.acted.now;
         accepted = x.id ∷ [];
@@ -102,7 +102,7 @@ module _ (catalogue : Catalogue) (ns : List ℕ) (journal : List Commit) where
             });
       }
 
-  pub invites_all : (w : WorldState) (first : ℕ) (rest : List ℕ) → ns ≡ first ∷ rest → ((q : ℕ) → Has ns q → Has (sites_of catalogue) q) → Started catalogue ns journal w → Can catalogue (calms ns) w (λ new. (id : ViewId) × (r : ℕ) × Has ns r × Invited id r new)
+  pub invites_all : (w : WorldState) (first : ℕ) (rest : List ℕ) → ns ≡ first ∷ rest → ((q : ℕ) → Has ns q → Has (sites_of catalogue) q) → Started catalogue ns past w → Can catalogue (calms past.told ns) w (λ new. (id : ViewId) × (r : ℕ) × Has ns r × Invited id r new)
   invites_all w first rest is sub f =
       let known = f.fit.known in
       let g = greatest (λ q. (promise_at (scene_of w) q).number) first rest in
@@ -113,12 +113,12 @@ module _ (catalogue : Catalogue) (ns : List ℕ) (journal : List Commit) where
       let mine : x.promise ≡ promise_at (scene_of w) r = ap (λ (d : DurableState). d.promise) (known.views.site r x u.1).kept in
       let low : x.promise.number < 2 ^ 64 - 1 = rw (ap (λ (i : ViewId). i.number) mine, ← (promised_is (place_of r w.places))) (f.fit.unspent.promised r (has_test ns r here)) in
       let free : is_spent x.views ≡ false = not_spent x.promise.number x.seen (2 ^ 64 - 1) low (f.fit.unspent.seen r x (has_test ns r here) u.1) in
-      by_regroup catalogue ns _ w r x known here u.1
-      λ new k d. can_now catalogue (calms ns) _ new (
+      by_regroup catalogue past.told ns _ w r x known here u.1
+      λ new k d. can_now catalogue (calms past.told ns) _ new (
         next_view x,
         r,
         here,
-        regrouped w new r x sub (record { known = known; joined = f.joined; same = f.fit.same }) f.up here u.1 free (λ q h. below_highest _ x.promise.number x.seen (rw (ap (λ (i : ViewId). i.number) mine) (g.2 q (subst (λ (l : List ℕ). Has l q) is h)))) k d,
+        regrouped w new r x sub (record { known = known; joined = f.joined; same = f.fit.same; grown = f.fit.grown }) f.up here u.1 free (λ q h. below_highest _ x.promise.number x.seen (rw (ap (λ (i : ViewId). i.number) mine) (g.2 q (subst (λ (l : List ℕ). Has l q) is h)))) k d,
       )
 
   -- ---- the acceptances
@@ -128,17 +128,17 @@ module _ (catalogue : Catalogue) (ns : List ℕ) (journal : List Commit) where
     Has_accepted q w = q ≢ r → Accepted id r q w
 
     -- the invitation comes to a site that may accept, and its acceptance comes back
-    takes : (q : ℕ) (w : WorldState) → Has ns q → q ≢ r → (f : Invited id r w) → Ready id q w → Can catalogue (carries ns) w (Each (Invited id r) Has_accepted (q ∷ []) w)
+    takes : (q : ℕ) (w : WorldState) → Has ns q → q ≢ r → (f : Invited id r w) → Ready id q w → Can catalogue (carries past.told ns) w (Each (Invited id r) Has_accepted (q ∷ []) w)
     takes q w here n f a =
         let ok = f.base.known.views.site q a.at a.up in
         let b = below a.at.promise id a.low in
         let turned : r ≢ q = λ (same : r ≡ q). n (sym same) in
-        by_carried catalogue ns _ w q a.at f.base.known here a.up r (message.Invite id) refl (f.sent q here n) lead (f.base.joined r q lead here)
+        by_carried catalogue past.told ns _ w q a.at f.base.known here a.up r (message.Invite id) refl (f.sent q here n) lead (f.base.joined r q lead here)
         λ mid k d.
-        let base = moves_on catalogue ns journal w mid q a.at _ f.base k d (awaits_commits catalogue a.at r id b) in
+        let base = moves_on catalogue ns past w mid q a.at _ f.base k d (awaits_commits catalogue a.at r id b) in
         let up_r = other_as d r turned ∙ f.up in
-        let answer = d.acted.sends _ (subst (λ (s : ℕ). Has (step catalogue a.at (input.Message r (message.Invite id))).effects.messages (letter s r (message.Accept id))) ok.id (accepts catalogue a.at r id b)) in
-        by_carried catalogue ns _ mid r f.leader k lead up_r q (message.Accept id) refl answer here (base.joined q r here lead)
+        let answer = sends_since past.told f.base.grown d _ (subst (λ (s : ℕ). Has (step catalogue a.at (input.Message r (message.Invite id))).effects.messages (letter s r (message.Accept id))) ok.id (accepts catalogue a.at r id b)) in
+        by_carried catalogue past.told ns _ mid r f.leader k lead up_r q (message.Accept id) refl answer here (base.joined q r here lead)
         λ new k2 e.
         let now : (step catalogue f.leader (input.Message q (message.Accept id))).site.inviting ≡ Some (id, put_number q f.accepted) = counts catalogue f.leader q id f.accepted f.inviting in
         let grown : (c : ℕ) → Has f.accepted c → (x : SiteState) → site_of new r ≡ Some x → Has (acceptors x.inviting) c = λ c h x u. let same : (step catalogue f.leader (input.Message q (message.Accept id))).site ≡ x = (let z = sym e.acted.now ∙ u in grind (arith, z)) in rw (← same, now) (put_keeps q f.accepted c h) in
@@ -154,10 +154,10 @@ module _ (catalogue : Catalogue) (ns : List ℕ) (journal : List Commit) where
           waiting = g.waiting;
           counted = grown c (rw f.inviting at (g.counted f.leader f.up));
         } in
-        can_now catalogue (carries ns) _ new (record {
+        can_now catalogue (carries past.told ns) _ new (record {
           still = record {
-            base = moves_on catalogue ns journal mid new r f.leader _ base k2 e (counts_commits catalogue f.leader q id);
-            sent = λ c h p. e.acted.moved.sent _ (d.acted.moved.sent _ (f.sent c h p));
+            base = moves_on catalogue ns past mid new r f.leader _ base k2 e (counts_commits catalogue f.leader q id);
+            sent = λ c h p. stays_since past.told e _ (stays_since past.told d _ (f.sent c h p));
             leader = (step catalogue f.leader (input.Message q (message.Accept id))).site;
             up = e.acted.now;
             accepted = put_number q f.accepted;
@@ -170,12 +170,12 @@ module _ (catalogue : Catalogue) (ns : List ℕ) (journal : List Commit) where
           stays = λ c g p. ⊎_elim (λ (same : c ≡ q). rw same mine) (λ (other : c ≢ q). old c other p (g p)) (same_site c q);
         })
 
-    accepts_one : (q : ℕ) (w : WorldState) → Has ns q → Invited id r w → Can catalogue (carries ns) w (Each (Invited id r) Has_accepted (q ∷ []) w)
+    accepts_one : (q : ℕ) (w : WorldState) → Has ns q → Invited id r w → Can catalogue (carries past.told ns) w (Each (Invited id r) Has_accepted (q ∷ []) w)
     accepts_one q w here f =
         ⊎_elim
-        (λ (same : q ≡ r). can_now catalogue (carries ns) _ w (record { still = f; done = λ c h p. ⊎_elim (λ (one : q ≡ c). absurd (p (sym one ∙ same))) (λ more. absurd (has_none c more)) (has_cons q [] c h); stays = λ c g. g }))
-        (λ (n : q ≢ r). ⊎_elim (λ (a : Ready id q w). takes q w here n f a) (λ (a : Accepted id r q w). can_now catalogue (carries ns) _ w (record { still = f; done = λ c h p. ⊎_elim (λ (one : q ≡ c). subst (λ (c : ℕ). Accepted id r c w) one a) (λ more. absurd (has_none c more)) (has_cons q [] c h); stays = λ c g. g })) (f.site q here n))
+        (λ (same : q ≡ r). can_now catalogue (carries past.told ns) _ w (record { still = f; done = λ c h p. ⊎_elim (λ (one : q ≡ c). absurd (p (sym one ∙ same))) (λ more. absurd (has_none c more)) (has_cons q [] c h); stays = λ c g. g }))
+        (λ (n : q ≢ r). ⊎_elim (λ (a : Ready id q w). takes q w here n f a) (λ (a : Accepted id r q w). can_now catalogue (carries past.told ns) _ w (record { still = f; done = λ c h p. ⊎_elim (λ (one : q ≡ c). subst (λ (c : ℕ). Accepted id r c w) one a) (λ more. absurd (has_none c more)) (has_cons q [] c h); stays = λ c g. g })) (f.site q here n))
         (same_site q r)
 
-    pub accepts_all : (w : WorldState) → Invited id r w → Can catalogue (carries ns) w (Each (Invited id r) Has_accepted ns w)
-    accepts_all w f = one_by_one catalogue (carries ns) (Invited id r) Has_accepted ns accepts_one ns (λ a h. h) w f
+    pub accepts_all : (w : WorldState) → Invited id r w → Can catalogue (carries past.told ns) w (Each (Invited id r) Has_accepted ns w)
+    accepts_all w f = one_by_one catalogue (carries past.told ns) (Invited id r) Has_accepted ns accepts_one ns (λ a h. h) w f

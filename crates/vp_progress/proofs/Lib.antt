@@ -26,3 +26,6 @@ pub mod Marked
 pub mod Elsewhere
 pub mod Meetings
 pub mod Returned
+pub mod Short
+pub mod Majority
+pub mod Exactly

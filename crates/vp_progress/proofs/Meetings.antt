@@ -1,8 +1,8 @@
 -- Sites that are mended come together, whatever the others do: each free record is unlocked at each of them.
-use Rattle.std.proofs.Common.{◌≡◌, ◌∙◌, ap, sym, subst, ℕ, Bool, true, false, List, [], ◌∷◌, refl, arith, ⊎_elim}
+use Rattle.std.proofs.Common.{◌≡◌, ◌∙◌, ap, sym, subst, ℕ, Bool, true, false, List, [], ◌∷◌, length, refl, arith, ⊎_elim}
 use Rattle.std.specs.Prelude.{Option, Some, None, ◌==◌, not}
 use Rattle.std.specs.List.{list_any}
-use Rattle.vp_model.specs.Types.{View, Owner, Lock, Part, Live, Commit, Doubt, Refreshing}
+use Rattle.vp_model.specs.Types.{View, Owner, Lock, Part, Live, Doubt, Refreshing}
 use Rattle.vp_model.specs.Types.owner
 use Rattle.vp_model.specs.Words.{has, keys}
 use Rattle.vp_model.specs.Catalogue.{Catalogue, sites_of}
@@ -23,9 +23,9 @@ use Rattle.vp_progress.specs.Progress.{world_of}
 use Rattle.vp_progress.specs.Together.{IsFree, IsUnlocked, AreTogether}
 use Rattle.vp_progress.specs.Meeting.{CanMeet}
 use Rattle.vp_progress.proofs.Going.{world_goes_on, passing_flows_not}
-use Rattle.vp_progress.proofs.Calm.{calms, each_mends}
+use Rattle.vp_progress.proofs.Calm.{calms, each_mends, calm_fresh, each_fresh}
 use Rattle.vp_progress.proofs.Can.{Can, can_now, can_then}
-use Rattle.vp_progress.proofs.Started.{Fit}
+use Rattle.vp_progress.proofs.Started.{Past, past_of, Fit}
 use Rattle.vp_progress.proofs.Held.{Holds, Quiet}
 use Rattle.vp_progress.proofs.Certain.{none_found, doubts_at, Fewer, ends_all}
 use Rattle.vp_progress.proofs.OneDoubt.{InvOne, one_last, can_with}
@@ -36,7 +36,7 @@ use Rattle.vp_progress.proofs.Elsewhere.{all_same, none_new}
 use Rattle.vp_progress.proofs.Marks.{HoldsNow}
 use Rattle.vp_progress.proofs.Marked.{AllKnown, marked_last, doubt_lock}
 
-module _ (catalogue : Catalogue) (ns : List ℕ) (journal : List Commit) where
+module _ (catalogue : Catalogue) (ns : List ℕ) (past : Past) where
   abbrev Clear : WorldState → Type 0
   Clear w = (q : ℕ) → Has ns q → (c : Doubt) → Has (doubts_at (site_of w q)) c → Has ns c.txn.site → ⊥
 
@@ -48,7 +48,7 @@ module _ (catalogue : Catalogue) (ns : List ℕ) (journal : List Commit) where
   certain w q rec h e = any_false (λ (q : ℕ). any_writes rec (doubts_at (site_of w q))) ns (not_true _ e) q h
 
   abbrev Prepared : View → WorldState → WorldState → Type 0
-  Prepared v from w = Ready catalogue ns journal v (λ k. doubts_at (site_of from k)) (wanted from) (certain from) w
+  Prepared v from w = Ready catalogue ns past v (λ k. doubts_at (site_of from k)) (wanted from) (certain from) w
 
   -- a free record is wanted
   free_wanted : (v : View) (from w : WorldState) → Prepared v from w → (rec : ℕ) → IsFree catalogue ns w rec → wanted from rec ≡ true
@@ -73,7 +73,7 @@ module _ (catalogue : Catalogue) (ns : List ℕ) (journal : List Commit) where
     free = λ q rec x m up free. unlocked q rec x (has_from_test ns q m) up free;
   }
     where
-      quiet : Quiet catalogue ns journal v w
+      quiet : Quiet catalogue ns past v w
       quiet = f.sure.quiet
 
       clears : (q : ℕ) → Has ns q → (x : SiteState) → site_of w q ≡ Some x → (d : Doubt) → Has x.doubts d → Has ns d.txn.site → ⊥
@@ -135,37 +135,38 @@ module _ (catalogue : Catalogue) (ns : List ℕ) (journal : List Commit) where
     ready : Prepared view from w
     clear : Clear from
 
-  meets : (first : ℕ) (rest : List ℕ) → ns ≡ first ∷ rest → ((q : ℕ) → Has ns q → Has (sites_of catalogue) q) → (w : WorldState) → Fit catalogue ns journal w → With (Known catalogue) InvOne (scene_of w) → Can catalogue (calms ns) w Meets
+  meets : (first : ℕ) (rest : List ℕ) → ns ≡ first ∷ rest → ((q : ℕ) → Has ns q → Has (sites_of catalogue) q) → (w : WorldState) → Fit catalogue ns past w → With (Known catalogue) InvOne (scene_of w) → Can catalogue (calms past.told ns) w Meets
   meets first rest is sub w f good =
-      can_then catalogue (calms ns) (λ new. Joined catalogue ns journal new × With (Known catalogue) InvOne (scene_of new)) Meets w
-      (can_with catalogue (calms ns) (With (Known catalogue) InvOne) (one_last catalogue) (Joined catalogue ns journal) w good (joins catalogue ns journal first rest is sub w f))
+      can_then catalogue (calms past.told ns) (λ new. Joined catalogue ns past new × With (Known catalogue) InvOne (scene_of new)) Meets w
+      (can_with catalogue (calms past.told ns) (With (Known catalogue) InvOne) (one_last catalogue) (Joined catalogue ns past) w good (joins catalogue ns past first rest is sub w f))
       λ w1 j.
       let v = j.0.view in
-      can_then catalogue (calms ns) (λ new. Quiet catalogue ns journal v new × Fewer w1 new × Clear new) Meets w1
-      (ends_all catalogue ns journal v ns (λ q h. h) w1 (quiet_from catalogue ns journal w1 j.0 j.1.more))
-      λ w2 c. can_then catalogue (calms ns) (Prepared v w2) Meets w2 (refreshes_all catalogue ns journal v (λ k. doubts_at (site_of w2 k)) (wanted w2) (certain w2) w2 (record { quiet = c.0; same = λ k. refl }))
-      λ w3 g. can_now catalogue (calms ns) Meets w3 (record { from = w2; view = v; ready = g; clear = c.2 })
+      can_then catalogue (calms past.told ns) (λ new. Quiet catalogue ns past v new × Fewer w1 new × Clear new) Meets w1
+      (ends_all catalogue ns past v ns (λ q h. h) w1 (quiet_from catalogue ns past w1 j.0 j.1.more))
+      λ w2 c. can_then catalogue (calms past.told ns) (Prepared v w2) Meets w2 (refreshes_all catalogue ns past v (λ k. doubts_at (site_of w2 k)) (wanted w2) (certain w2) w2 (record { quiet = c.0; same = λ k. refl }))
+      λ w3 g. can_now catalogue (calms past.told ns) Meets w3 (record { from = w2; view = v; ready = g; clear = c.2 })
 
 pub meet : (s : Schedule) (first : ℕ) (rest : List ℕ) → ((q : ℕ) → has (first ∷ rest) q ≡ true → has (sites_of s.catalogue) q ≡ true) → AreUnspent (first ∷ rest) (world_of s) → CanMeet s (first ∷ rest)
 meet s first rest sub unspent =
     let ns = first ∷ rest in
     let good = in_last s.catalogue (With (Known s.catalogue) InvOne) (one_last s.catalogue) s.events in
     let inside : (q : ℕ) → Has ns q → Has (sites_of s.catalogue) q = (λ q h. has_from_test (sites_of s.catalogue) q (sub q (has_test ns q h))) in
-    let c = meets s.catalogue ns (world_of s).journal first rest refl inside (world_of s)
-    (record { known = good.base; unspent = unspent; there = λ q h. in_last s.catalogue (Places s.catalogue) (places_last s.catalogue) s.events q (inside q h); same = refl }) good in
-    let mending = each_mends s.catalogue ns c.events (world_of s) c.passing in
+    let c = meets s.catalogue ns (past_of (world_of s)) first rest refl inside (world_of s)
+    (record { known = good.base; unspent = unspent; there = λ q h. in_last s.catalogue (Places s.catalogue) (places_last s.catalogue) s.events q (inside q h); same = refl; grown = omega arith }) good in
+    let mending = each_mends s.catalogue (length (world_of s).sent) ns c.events (world_of s) c.passing in
     let is = world_goes_on s c.events (passing_flows_not s.catalogue (mends ns) (λ w count. refl) c.events (world_of s) mending) in
     let all = subst (λ (w : WorldState). AllKnown s.catalogue (scene_of w)) is (in_last s.catalogue (AllKnown s.catalogue) (marked_last s.catalogue) (goes_on s c.events).events) in
     record {
       more = c.events;
       mending = mending;
-      together = subst (AreTogether s.catalogue ns) (sym is) (together s.catalogue ns (world_of s).journal c.so.view c.so.from _ c.so.ready c.so.clear all);
+      fresh = each_fresh s.catalogue (calms (length (world_of s).sent) ns) (length (world_of s).sent) (calm_fresh (length (world_of s).sent) ns) c.events (world_of s) c.passing;
+      together = subst (AreTogether s.catalogue ns) (sym is) (together s.catalogue ns (past_of (world_of s)) c.so.view c.so.from _ c.so.ready c.so.clear all);
       leaves = record {
         others = λ q out. ap (λ (w : WorldState). place_of q w.places) is ∙ all_same s.catalogue q ns out c.events (world_of s) mending;
         doubts = λ q d out there. stay s ns q d c.events out there mending;
         known = λ q d there.
             let now = subst (λ (w : WorldState). Has (kept_at (scene_of w) q).doubts d) is (subst (λ (ds : List Doubt). Has ds d) (doubts_kept (place_of q (world_of (goes_on s c.events)).places)) (has_of _ d there)) in
-            contains _ d (subst (λ (ds : List Doubt). Has ds d) (sym (doubts_kept (place_of q (world_of s).places))) (none_new s.catalogue ns q d c.events (world_of s) good.base c.passing now));
+            contains _ d (subst (λ (ds : List Doubt). Has ds d) (sym (doubts_kept (place_of q (world_of s).places))) (none_new s.catalogue (length (world_of s).sent) ns q d c.events (world_of s) good.base c.passing now));
         journal = ap (λ (w : WorldState). w.journal) is ∙ c.so.ready.sure.quiet.base.same;
       };
     }

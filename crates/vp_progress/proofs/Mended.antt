@@ -1,7 +1,7 @@
 -- Whatever has happened, events that mend lead to a whole world.
-use Rattle.std.proofs.Common.{◌≡◌, ◌∙◌, ap, sym, subst, ℕ, Bool, true, false, cond, List, [], ◌∷◌, refl, ⊎_elim}
+use Rattle.std.proofs.Common.{◌≡◌, ◌∙◌, ap, sym, subst, ℕ, Bool, true, false, cond, List, [], ◌∷◌, length, refl, arith, ⊎_elim}
 use Rattle.std.specs.Prelude.{Option, Some, None, ◌==◌, map, option_map}
-use Rattle.vp_model.specs.Types.{ViewId, View, Owner, Lock, Doubt, Commit, Refreshing, Live, Part}
+use Rattle.vp_model.specs.Types.{ViewId, View, Owner, Lock, Doubt, Refreshing, Live, Part}
 use Rattle.vp_model.specs.Types.owner
 use Rattle.vp_model.specs.Words.{has, opening}
 use Rattle.vp_model.specs.Catalogue.{Catalogue, sites_of}
@@ -21,9 +21,9 @@ use Rattle.vp_laws.proofs.Invariant.Known.{Known}
 use Rattle.vp_progress.specs.Whole.{AreUnspent, IsWhole}
 use Rattle.vp_progress.specs.Progress.{world_of, CanBeWhole}
 use Rattle.vp_progress.proofs.Going.{world_goes_on, passing_flows_not}
-use Rattle.vp_progress.proofs.Calm.{opens, carries, calms, open_carries, carry_calm, each_mends}
+use Rattle.vp_progress.proofs.Calm.{opens, carries, calms, open_carries, carry_calm, each_mends, calm_fresh, each_fresh}
 use Rattle.vp_progress.proofs.Can.{Can, can_now, can_then, can_by}
-use Rattle.vp_progress.proofs.Started.{Fit, Started, starts_all}
+use Rattle.vp_progress.proofs.Started.{Past, past_of, Fit, Started, starts_all}
 use Rattle.vp_progress.proofs.Based.{Based, OneEach}
 use Rattle.vp_progress.proofs.Invited.{Invited, invites_all, accepts_all}
 use Rattle.vp_progress.proofs.Held.{Holds, Fixed, fixes_view, joins_all, Quiet, empty_from}
@@ -62,25 +62,25 @@ places_last catalogue = record {
 
 -- ---- one view
 
-module _ (catalogue : Catalogue) (ns : List ℕ) (journal : List Commit) where
+module _ (catalogue : Catalogue) (ns : List ℕ) (past : Past) where
   -- all hold one view of their own
   pub record Joined (w : WorldState) : Type 0 where
     pub view : View
-    pub base : Based catalogue ns journal w
+    pub base : Based catalogue ns past w
     pub all : (q : ℕ) → Has ns q → Has view.members q
     pub among : (q : ℕ) → Has view.members q → Has ns q
     pub holds : (q : ℕ) → Has ns q → Holds catalogue view q w
 
-  pub joins : (first : ℕ) (rest : List ℕ) → ns ≡ first ∷ rest → ((q : ℕ) → Has ns q → Has (sites_of catalogue) q) → (w : WorldState) → Fit catalogue ns journal w → Can catalogue (calms ns) w Joined
+  pub joins : (first : ℕ) (rest : List ℕ) → ns ≡ first ∷ rest → ((q : ℕ) → Has ns q → Has (sites_of catalogue) q) → (w : WorldState) → Fit catalogue ns past w → Can catalogue (calms past.told ns) w Joined
   joins first rest is sub w f =
-      can_then catalogue (calms ns) (Started catalogue ns journal) Joined w (can_by catalogue (opens ns) (calms ns) (λ w e p. carry_calm ns w e (open_carries ns w e p)) _ w (starts_all catalogue ns journal w f))
-      λ w1 s. can_then catalogue (calms ns) (λ new. (id : ViewId) × (r : ℕ) × Has ns r × Invited catalogue ns journal id r new) Joined w1 (invites_all catalogue ns journal w1 first rest is sub s)
-      λ w2 i. can_then catalogue (calms ns) _ Joined w2 (can_by catalogue (carries ns) (calms ns) (carry_calm ns) _ w2 (accepts_all catalogue ns journal i.0 i.1 i.2 w2 i.3))
-      λ w3 a. can_then catalogue (calms ns) (λ new. (v : View) × Fixed catalogue ns journal v i.1 new) Joined w3 (fixes_view catalogue ns journal i.0 i.1 w3 i.2 a.still (λ q h n. a.done q h n))
-      λ w4 v. can_then catalogue (calms ns) _ Joined w4 (joins_all catalogue ns journal v.0 i.1 i.2 w4 v.1)
-      λ w5 h. can_now catalogue (calms ns) Joined w5 (record { view = v.0; base = h.still.base; all = h.still.all; among = h.still.among; holds = h.done })
+      can_then catalogue (calms past.told ns) (Started catalogue ns past) Joined w (can_by catalogue (opens ns) (calms past.told ns) (λ w e p. carry_calm past.told ns w e (open_carries past.told ns w e p)) _ w (starts_all catalogue ns past w f))
+      λ w1 s. can_then catalogue (calms past.told ns) (λ new. (id : ViewId) × (r : ℕ) × Has ns r × Invited catalogue ns past id r new) Joined w1 (invites_all catalogue ns past w1 first rest is sub s)
+      λ w2 i. can_then catalogue (calms past.told ns) _ Joined w2 (can_by catalogue (carries past.told ns) (calms past.told ns) (carry_calm past.told ns) _ w2 (accepts_all catalogue ns past i.0 i.1 i.2 w2 i.3))
+      λ w3 a. can_then catalogue (calms past.told ns) (λ new. (v : View) × Fixed catalogue ns past v i.1 new) Joined w3 (fixes_view catalogue ns past i.0 i.1 w3 i.2 a.still (λ q h n. a.done q h n))
+      λ w4 v. can_then catalogue (calms past.told ns) _ Joined w4 (joins_all catalogue ns past v.0 i.1 i.2 w4 v.1)
+      λ w5 h. can_now catalogue (calms past.told ns) Joined w5 (record { view = v.0; base = h.still.base; all = h.still.all; among = h.still.among; holds = h.done })
 
-  pub quiet_from : (w : WorldState) (j : Joined w) → InvOne (scene_of w) → Quiet catalogue ns journal j.view w
+  pub quiet_from : (w : WorldState) (j : Joined w) → InvOne (scene_of w) → Quiet catalogue ns past j.view w
   quiet_from w j one = record {
     base = j.base;
     all = j.all;
@@ -118,8 +118,8 @@ same_has xs ys f g q = go (has xs q) (has ys q) refl refl
 abbrev every : ℕ → Bool
 every rec = true
 
-whole_from : (catalogue : Catalogue) (journal : List Commit) (v : View) (doubts : ℕ → List Doubt) (none : (q : ℕ) → Has (sites_of catalogue) q → doubts q ≡ []) (w : WorldState) → Ready catalogue (sites_of catalogue) journal v doubts every (λ q rec here want. ap (any_writes rec) (none q here)) w → IsWhole catalogue w
-whole_from catalogue journal v doubts none w f =
+whole_from : (catalogue : Catalogue) (past : Past) (v : View) (doubts : ℕ → List Doubt) (none : (q : ℕ) → Has (sites_of catalogue) q → doubts q ≡ []) (w : WorldState) → Ready catalogue (sites_of catalogue) past v doubts every (λ q rec here want. ap (any_writes rec) (none q here)) w → IsWhole catalogue w
+whole_from catalogue past v doubts none w f =
     let quiet = f.sure.quiet in
     record {
       view = v;
@@ -135,36 +135,36 @@ whole_from catalogue journal v doubts none w f =
 
 -- ---- from every schedule
 
-record Mended (catalogue : Catalogue) (journal : List Commit) (w : WorldState) : Type 0 where
+record Mended (catalogue : Catalogue) (past : Past) (w : WorldState) : Type 0 where
   whole : IsWhole catalogue w
-  same : w.journal ≡ journal
+  same : w.journal ≡ past.entries
 
-module _ (catalogue : Catalogue) (journal : List Commit) where
+module _ (catalogue : Catalogue) (past : Past) where
   abbrev ns : List ℕ
   ns = sites_of catalogue
 
   -- each doubt is of a site of the catalogue, and of those there is none
-  no_doubt : (v : View) (w : WorldState) → Quiet catalogue ns journal v w → ((q : ℕ) → Has ns q → (c : Doubt) → Has (doubts_at (site_of w q)) c → Has ns c.txn.site → ⊥) → (q : ℕ) → Has ns q → doubts_at (site_of w q) ≡ []
+  no_doubt : (v : View) (w : WorldState) → Quiet catalogue ns past v w → ((q : ℕ) → Has ns q → (c : Doubt) → Has (doubts_at (site_of w q)) c → Has ns c.txn.site → ⊥) → (q : ℕ) → Has ns q → doubts_at (site_of w q) ≡ []
   no_doubt v w f clear q h =
       let g = f.holds q h in
       empty_from (doubts_at (site_of w q)) (λ c there. clear q h c there (coordinator_stands catalogue w f.base.known q g.at c g.up (subst (λ (o : Option SiteState). Has (doubts_at o) c) g.up there)))
 
-  mended : (first : ℕ) (rest : List ℕ) → ns ≡ first ∷ rest → (w : WorldState) → Fit catalogue ns journal w → With (Known catalogue) InvOne (scene_of w) → Can catalogue (calms ns) w (Mended catalogue journal)
+  mended : (first : ℕ) (rest : List ℕ) → ns ≡ first ∷ rest → (w : WorldState) → Fit catalogue ns past w → With (Known catalogue) InvOne (scene_of w) → Can catalogue (calms past.told ns) w (Mended catalogue past)
   mended first rest is w f good =
-      can_then catalogue (calms ns) (λ new. Joined catalogue ns journal new × With (Known catalogue) InvOne (scene_of new)) (Mended catalogue journal) w
-      (can_with catalogue (calms ns) (With (Known catalogue) InvOne) (one_last catalogue) (Joined catalogue ns journal) w good (joins catalogue ns journal first rest is (λ q h. h) w f))
+      can_then catalogue (calms past.told ns) (λ new. Joined catalogue ns past new × With (Known catalogue) InvOne (scene_of new)) (Mended catalogue past) w
+      (can_with catalogue (calms past.told ns) (With (Known catalogue) InvOne) (one_last catalogue) (Joined catalogue ns past) w good (joins catalogue ns past first rest is (λ q h. h) w f))
       λ w1 j.
       let v = j.0.view in
-      can_then catalogue (calms ns) (λ new. Quiet catalogue ns journal v new × Fewer w1 new × ((q : ℕ) → Has ns q → (c : Doubt) → Has (doubts_at (site_of new q)) c → Has ns c.txn.site → ⊥)) (Mended catalogue journal) w1
-      (ends_all catalogue ns journal v ns (λ q h. h) w1 (quiet_from catalogue ns journal w1 j.0 j.1.more))
+      can_then catalogue (calms past.told ns) (λ new. Quiet catalogue ns past v new × Fewer w1 new × ((q : ℕ) → Has ns q → (c : Doubt) → Has (doubts_at (site_of new q)) c → Has ns c.txn.site → ⊥)) (Mended catalogue past) w1
+      (ends_all catalogue ns past v ns (λ q h. h) w1 (quiet_from catalogue ns past w1 j.0 j.1.more))
       λ w2 c.
       let doubts : ℕ → List Doubt = (λ k. doubts_at (site_of w2 k)) in
       let none = no_doubt v w2 c.0 c.2 in
-      can_then catalogue (calms ns) (Ready catalogue ns journal v doubts every (λ q rec here want. ap (any_writes rec) (none q here))) (Mended catalogue journal) w2 (refreshes_all catalogue ns journal v doubts every (λ q rec here want. ap (any_writes rec) (none q here)) w2 (record { quiet = c.0; same = λ k. refl }))
-      λ w3 g. can_now catalogue (calms ns) (Mended catalogue journal) w3 (record { whole = whole_from catalogue journal v doubts none w3 g; same = g.sure.quiet.base.same })
+      can_then catalogue (calms past.told ns) (Ready catalogue ns past v doubts every (λ q rec here want. ap (any_writes rec) (none q here))) (Mended catalogue past) w2 (refreshes_all catalogue ns past v doubts every (λ q rec here want. ap (any_writes rec) (none q here)) w2 (record { quiet = c.0; same = λ k. refl }))
+      λ w3 g. can_now catalogue (calms past.told ns) (Mended catalogue past) w3 (record { whole = whole_from catalogue past v doubts none w3 g; same = g.sure.quiet.base.same })
 
-  mended_none : ns ≡ [] → (w : WorldState) → w.journal ≡ journal → Can catalogue (calms ns) w (Mended catalogue journal)
-  mended_none is w same = can_now catalogue (calms ns) (Mended catalogue journal) w (record {
+  mended_none : ns ≡ [] → (w : WorldState) → w.journal ≡ past.entries → Can catalogue (calms past.told ns) w (Mended catalogue past)
+  mended_none is w same = can_now catalogue (calms past.told ns) (Mended catalogue past) w (record {
     whole = record {
       view = record { id = opening; members = [] };
       members = λ q. ap (λ (ms : List ℕ). has ms q) (sym is);
@@ -177,25 +177,26 @@ module _ (catalogue : Catalogue) (journal : List Commit) where
       none : (q : ℕ) → has ns q ≡ true → ⊥
       none q p = has_none q (subst (λ (ms : List ℕ). Has ms q) is (has_from_test ns q p))
 
-can_mend : (s : Schedule) → AreUnspent (sites_of s.catalogue) (world_of s) → Can s.catalogue (calms (sites_of s.catalogue)) (world_of s) (Mended s.catalogue (world_of s).journal)
+can_mend : (s : Schedule) → AreUnspent (sites_of s.catalogue) (world_of s) → Can s.catalogue (calms (length (world_of s).sent) (sites_of s.catalogue)) (world_of s) (Mended s.catalogue (past_of (world_of s)))
 can_mend s u = go (sites_of s.catalogue) refl
   where
-    go : (sites : List ℕ) → sites_of s.catalogue ≡ sites → Can s.catalogue (calms (sites_of s.catalogue)) (world_of s) (Mended s.catalogue (world_of s).journal)
-    go [] is = mended_none s.catalogue (world_of s).journal is (world_of s) refl
+    go : (sites : List ℕ) → sites_of s.catalogue ≡ sites → Can s.catalogue (calms (length (world_of s).sent) (sites_of s.catalogue)) (world_of s) (Mended s.catalogue (past_of (world_of s)))
+    go [] is = mended_none s.catalogue (past_of (world_of s)) is (world_of s) refl
     go (first ∷ rest) is =
         let good = in_last s.catalogue (With (Known s.catalogue) InvOne) (one_last s.catalogue) s.events in
-        mended s.catalogue (world_of s).journal first rest is (world_of s)
-        (record { known = good.base; unspent = u; there = in_last s.catalogue (Places s.catalogue) (places_last s.catalogue) s.events; same = refl })
+        mended s.catalogue (past_of (world_of s)) first rest is (world_of s)
+        (record { known = good.base; unspent = u; there = in_last s.catalogue (Places s.catalogue) (places_last s.catalogue) s.events; same = refl; grown = omega arith })
         good
 
 -- every schedule that spends no number can be mended
 pub can_be_whole : (s : Schedule) → AreUnspent (sites_of s.catalogue) (world_of s) → CanBeWhole s
 can_be_whole s u =
     let c = can_mend s u in
-    let is = world_goes_on s c.events (passing_flows_not s.catalogue (calms (sites_of s.catalogue)) (λ w count. refl) c.events (world_of s) c.passing) in
+    let is = world_goes_on s c.events (passing_flows_not s.catalogue (calms (length (world_of s).sent) (sites_of s.catalogue)) (λ w count. refl) c.events (world_of s) c.passing) in
     record {
       more = c.events;
-      mending = each_mends s.catalogue (sites_of s.catalogue) c.events (world_of s) c.passing;
+      mending = each_mends s.catalogue (length (world_of s).sent) (sites_of s.catalogue) c.events (world_of s) c.passing;
+      fresh = each_fresh s.catalogue (calms (length (world_of s).sent) (sites_of s.catalogue)) (length (world_of s).sent) (calm_fresh (length (world_of s).sent) (sites_of s.catalogue)) c.events (world_of s) c.passing;
       whole = subst (IsWhole s.catalogue) (sym is) c.so.whole;
       journal = ap (λ (w : WorldState). w.journal) is ∙ c.so.same;
     }

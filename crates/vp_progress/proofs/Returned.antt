@@ -22,7 +22,7 @@ use Rattle.vp_laws.proofs.Keeping.Known.{known_last}
 use Rattle.vp_progress.specs.Going.{goes_on, world_after, EachPasses, is_regroup, mends}
 use Rattle.vp_progress.specs.Whole.{AreUnspent, HasNameLeft}
 use Rattle.vp_progress.specs.Progress.{world_of}
-use Rattle.vp_progress.specs.Clients.{Wish, name_in, FitATransaction}
+use Rattle.vp_progress.specs.Clients.{Wish, name_in, FitATransaction, MayGive}
 use Rattle.vp_progress.specs.NeverStuck.{CanBeServed}
 use Rattle.vp_progress.proofs.Going.{world_goes_on, passing_flows_not}
 use Rattle.vp_progress.proofs.Acts.{stays_known}
@@ -74,14 +74,14 @@ module _ (catalogue : Catalogue) (ns : List ℕ) (q : ℕ) where
   left_by e w m k pass (Occurs.crashes s same shown) h = subst Left (sym same) (left_quiet (scene_of w) (crashed (scene_of w) s) s (crash_quiet catalogue (scene_of w) s) h)
   left_by e w m k pass (Occurs.restarts s place at up id same shown) h = subst Left (sym same) (left_quiet (scene_of w) (restarted catalogue (scene_of w) s) s (restart_quiet catalogue (scene_of w) s place at id) h)
 
-  left_after : (more : List Event) (w : WorldState) → Known catalogue (scene_of w) → EachPasses catalogue (mends ns) w more → Left (scene_of w) → Left (scene_of (world_after catalogue more w))
+  pub left_after : (more : List Event) (w : WorldState) → Known catalogue (scene_of w) → EachPasses catalogue (mends ns) w more → Left (scene_of w) → Left (scene_of (world_after catalogue more w))
   left_after [] w k pass h = h
   left_after (e ∷ more) w k pass h = left_after more (next catalogue e w).world (stays_known catalogue e w k) pass.1 (left_by e w (next catalogue e w) k pass.0 (occurs catalogue e w) h)
 
 -- ---- from every schedule
 
-pub can_be_served : (s : Schedule) (q : ℕ) (wishes : List Wish) → IsCatalogue s.catalogue → AreUnspent (sites_of s.catalogue) (world_of s) → has (sites_of s.catalogue) q ≡ true → HasNameLeft q (world_of s) → FitATransaction wishes → AllByRecursion (λ wish. is_some (find_record s.catalogue (name_in wish)) ≡ true) wishes → CanBeServed s q wishes
-can_be_served s q wishes catalogue room here left fits named =
+pub can_be_served : (s : Schedule) (q : ℕ) (wishes : List Wish) → IsCatalogue s.catalogue → AreUnspent (sites_of s.catalogue) (world_of s) → has (sites_of s.catalogue) q ≡ true → HasNameLeft q (world_of s) → FitATransaction wishes → AllByRecursion (λ wish. is_some (find_record s.catalogue (name_in wish)) ≡ true) wishes → AllByRecursion (MayGive s.catalogue (sites_of s.catalogue)) wishes → CanBeServed s q wishes
+can_be_served s q wishes catalogue room here left fits named gives =
     let c = can_be_whole s room in
     let ns = sites_of s.catalogue in
     let is = world_goes_on s c.more (passing_flows_not s.catalogue (mends ns) (λ w count. refl) c.more (world_of s) c.mending) in
@@ -91,9 +91,10 @@ can_be_served s q wishes catalogue room here left fits named =
     record {
       more = c.more;
       mending = c.mending;
+      fresh = c.fresh;
       journal = c.journal;
-      served = served (goes_on s c.more) q catalogue c.whole here x.0 wishes x.1 (after x.0 x.1) fits named;
+      served = served (goes_on s c.more) q catalogue c.whole here x.0 wishes x.1 (after x.0 x.1) fits named gives;
     }
 
-pub short_served : (s : Schedule) (q : ℕ) (wishes : List Wish) → IsCatalogue s.catalogue → length (moments_of s) < 2 ^ 32 - 2 → has (sites_of s.catalogue) q ≡ true → FitATransaction wishes → AllByRecursion (λ wish. is_some (find_record s.catalogue (name_in wish)) ≡ true) wishes → CanBeServed s q wishes
-short_served s q wishes catalogue short here fits named = can_be_served s q wishes catalogue (unspent s (sites_of s.catalogue) short) here (names_left s q short) fits named
+pub short_served : (s : Schedule) (q : ℕ) (wishes : List Wish) → IsCatalogue s.catalogue → length (moments_of s) < 2 ^ 32 - 2 → has (sites_of s.catalogue) q ≡ true → FitATransaction wishes → AllByRecursion (λ wish. is_some (find_record s.catalogue (name_in wish)) ≡ true) wishes → AllByRecursion (MayGive s.catalogue (sites_of s.catalogue)) wishes → CanBeServed s q wishes
+short_served s q wishes catalogue short here fits named gives = can_be_served s q wishes catalogue (unspent s (sites_of s.catalogue) short) here (names_left s q short) fits named gives

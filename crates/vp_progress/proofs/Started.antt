@@ -1,5 +1,5 @@
 -- Pairs are healed and sites start: all of these sites are up, and no pair of them is cut.
-use Rattle.std.proofs.Common.{◌≡◌, ◌≢◌, ◌∙◌, ap, sym, subst, ℕ, ◌+◌, ◌-◌, ◌<◌, ◌^◌, Bool, true, false, List, [], ◌∷◌, refl, arith, ⊎_elim}
+use Rattle.std.proofs.Common.{◌≡◌, ◌≢◌, ◌∙◌, ap, sym, subst, ℕ, ◌+◌, ◌-◌, ◌<◌, ◌≤◌, ◌^◌, Bool, true, false, List, [], ◌∷◌, length, refl, arith, ⊎_elim}
 use Rattle.std.specs.Prelude.{Option, Some, None, ◌==◌, not, map, filter, option_map}
 use Rattle.std.specs.List.{list_any}
 use Rattle.std.proofs.lemmas.Bool.Decides.{nat_tests}
@@ -56,18 +56,27 @@ IsThere q w = (p : Place) × (place_of q w.places ≡ Some p)
 abbrev pub IsUp : ℕ → WorldState → Type 0
 IsUp q w = (x : SiteState) × (site_of w q ≡ Some x)
 
-pub record Fit (catalogue : Catalogue) (ns : List ℕ) (journal : List Commit) (w : WorldState) : Type 0 where
+-- the journal as it was, and how many messages had been sent
+pub record Past : Type 0 where
+  pub entries : List Commit
+  pub told : ℕ
+
+abbrev pub past_of : WorldState → Past
+past_of w = record { entries = w.journal; told = length w.sent }
+
+pub record Fit (catalogue : Catalogue) (ns : List ℕ) (past : Past) (w : WorldState) : Type 0 where
   pub known : Known catalogue (scene_of w)
   pub unspent : AreUnspent ns w
   pub there : (q : ℕ) → Has ns q → IsThere q w
-  pub same : w.journal ≡ journal
+  pub same : w.journal ≡ past.entries
+  pub grown : past.told ≤ length w.sent
 
 down_place : (o : Option Place) (p : Place) → o ≡ Some p → up_in o ≡ None → p.up ≡ None
 down_place o p e n = sym (ap up_in e) ∙ n
 
-module _ (catalogue : Catalogue) (ns : List ℕ) (journal : List Commit) where
+module _ (catalogue : Catalogue) (ns : List ℕ) (past : Past) where
   abbrev F : WorldState → Type 0
-  F w = Fit catalogue ns journal w
+  F w = Fit catalogue ns past w
 
   abbrev NotCut : ℕ × ℕ → WorldState → Type 0
   NotCut pair w = is_cut w pair.0 pair.1 ≡ false
@@ -77,7 +86,7 @@ module _ (catalogue : Catalogue) (ns : List ℕ) (journal : List Commit) where
   heals pair w a b f =
       can_event catalogue (opens ns) _ w (event.Heal pair.0 pair.1) (rw (has_test ns pair.0 a, has_test ns pair.1 b) refl)
       (can_now catalogue (opens ns) _ _ (record {
-        still = record { known = stays_known catalogue (event.Heal pair.0 pair.1) w f.known; unspent = record { lives = f.unspent.lives; promised = f.unspent.promised; seen = f.unspent.seen }; there = f.there; same = f.same };
+        still = record { known = stays_known catalogue (event.Heal pair.0 pair.1) w f.known; unspent = record { lives = f.unspent.lives; promised = f.unspent.promised; seen = f.unspent.seen }; there = f.there; same = f.same; grown = f.grown };
         done = λ p h. ⊎_elim (λ (one : pair ≡ p). rw (← one) (healed pair.0 pair.1 w.cuts)) (λ more. absurd (has_none p more)) (has_cons pair [] p h);
         stays = λ p e. cut_less pair.0 pair.1 p.0 p.1 w.cuts e;
       }))
@@ -136,6 +145,7 @@ module _ (catalogue : Catalogue) (ns : List ℕ) (journal : List Commit) where
             unspent = begun_unspent q p w e f.0.unspent;
             there = λ k h. ⊎_elim (λ (one : k ≡ q). rw one (restart_place catalogue p, now_up q p w e)) (λ other. let t = f.0.there k h in (t.0, as_before q k w other ∙ t.1)) (same_site k q);
             same = f.0.same;
+            grown = f.0.grown;
           },
           f.1,
         );
@@ -170,11 +180,11 @@ module _ (catalogue : Catalogue) (ns : List ℕ) (journal : List Commit) where
 
   -- all are up, and no pair is cut
   pub record Started (w : WorldState) : Type 0 where
-    pub fit : Fit catalogue ns journal w
+    pub fit : Fit catalogue ns past w
     pub joined : AreJoined ns w
     pub up : (q : ℕ) → Has ns q → IsUp q w
 
-  pub starts_all : (w : WorldState) → Fit catalogue ns journal w → Can catalogue (opens ns) w Started
+  pub starts_all : (w : WorldState) → Fit catalogue ns past w → Can catalogue (opens ns) w Started
   starts_all w f =
       can_then catalogue (opens ns) (λ new. F new × JoinedOf ns new × ((p : ℕ × ℕ) → NotCut p w → NotCut p new)) Started w (joins_all ns (λ a h. h) w f)
       λ mid m. can_then catalogue (opens ns) (Each Joined IsUp ns mid) Started mid (one_by_one catalogue (opens ns) Joined IsUp ns raises ns (λ a h. h) mid (m.0, m.1))

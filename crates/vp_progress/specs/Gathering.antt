@@ -6,7 +6,7 @@ use Rattle.vp_model.specs.Words.{has}
 use Rattle.vp_model.specs.Catalogue.{sites_of}
 use Rattle.vp_model.specs.Site.{SiteState}
 use Rattle.vp_model.specs.World.{WorldState, Schedule, place_of, site_of, moments_of}
-use Rattle.vp_progress.specs.Going.{goes_on, EachPasses, is_regroup, mends}
+use Rattle.vp_progress.specs.Going.{goes_on, EachPasses, AreFresh, is_regroup, mends}
 use Rattle.vp_progress.specs.Whole.{promised_number, AreUnspent}
 use Rattle.vp_progress.specs.Progress.{world_of}
 
@@ -33,6 +33,7 @@ pub record IsAwaited (sites : List ℕ) (leader : ℕ) (w : WorldState) : Type 0
 pub record CanGather (s : Schedule) (sites : List ℕ) (leader : ℕ) : Type 0 where
   pub more : List Event
   pub gathering : EachPasses s.catalogue (gathers leader sites) (world_of s) more
+  pub fresh : AreFresh (world_of s) more
   pub twice : calls_in more ≤ 2
   pub awaited : IsAwaited sites leader (world_of (goes_on s more))
 

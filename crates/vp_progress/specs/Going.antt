@@ -1,5 +1,6 @@
 -- How a schedule goes on, and which events mend it or serve a client.
-use Rattle.std.specs.Prelude.{◌≡◌, ⊤, ℕ, Bool, true, false, not, ◌==◌, ◌&&◌, List, [], ◌∷◌, ◌++◌, Option, Some, None}
+use Rattle.std.specs.Prelude.{◌≡◌, ⊤, ℕ, ◌<◌, Bool, true, false, not, ◌==◌, ◌&&◌, List, [], ◌∷◌, ◌++◌, length, Option, Some, None}
+use Rattle.std.specs.List.{AllByRecursion}
 use Rattle.vp_model.specs.Types.{Sent, Call, Event}
 use Rattle.vp_model.specs.Types.call
 use Rattle.vp_model.specs.Types.event
@@ -19,6 +20,16 @@ world_after catalogue events w = for_each events (λ e w. (next catalogue e w).w
 abbrev pub EachPasses : Catalogue → (WorldState → Event → Bool) → WorldState → List Event → Type 0
 EachPasses catalogue test w [] = ⊤
 EachPasses catalogue test w (e ∷ more) = (test w e ≡ true) × EachPasses catalogue test (next catalogue e w).world more
+
+-- If it is a delivery, then of a message that was sent after the first so many.
+abbrev pub IsFresh : ℕ → Event → Type 0
+IsFresh told (event.Deliver k) = told < k
+IsFresh told e = ⊤
+
+-- None of these events delivers a message that had been sent in this world: the network may have lost all of them. What is delivered the
+-- events themselves have sent.
+abbrev pub AreFresh : WorldState → List Event → Type 0
+AreFresh w events = AllByRecursion (IsFresh (length w.sent)) events
 
 -- the message goes from one of these sites to one of them
 abbrev pub is_within : List ℕ → Option Sent → Bool

@@ -6,6 +6,7 @@ pub mod NeverStuck
 pub mod Doubts
 pub mod Together
 pub mod Meeting
+pub mod Majority
 pub mod Gathering
 pub mod Recovery
 pub mod Worked

@@ -5,7 +5,7 @@ use Rattle.vp_model.specs.Types.{Doubt, Event}
 use Rattle.vp_model.specs.Words.{has}
 use Rattle.vp_model.specs.Catalogue.{sites_of}
 use Rattle.vp_model.specs.World.{WorldState, Schedule, place_of}
-use Rattle.vp_progress.specs.Going.{goes_on, EachPasses, mends}
+use Rattle.vp_progress.specs.Going.{goes_on, EachPasses, AreFresh, mends}
 use Rattle.vp_progress.specs.Whole.{AreUnspent}
 use Rattle.vp_progress.specs.Progress.{world_of}
 use Rattle.vp_progress.specs.Doubts.{doubts_of}
@@ -19,10 +19,11 @@ pub record LeavesOthers (sites : List ℕ) (w new : WorldState) : Type 0 where
   pub known : (q : ℕ) (d : Doubt) → Contains (doubts_of new q) d → Contains (doubts_of w q) d
   pub journal : new.journal ≡ w.journal
 
--- Events that mend these sites alone bring them together.
+-- Events that mend these sites alone bring them together, by messages that they send themselves.
 pub record CanMeet (s : Schedule) (sites : List ℕ) : Type 0 where
   pub more : List Event
   pub mending : EachPasses s.catalogue (mends sites) (world_of s) more
+  pub fresh : AreFresh (world_of s) more
   pub together : AreTogether s.catalogue sites (world_of (goes_on s more))
   pub leaves : LeavesOthers sites (world_of s) (world_of (goes_on s more))
 

@@ -3,17 +3,18 @@ use Rattle.std.specs.Prelude.{◌≡◌, ◌<◌, ◌^◌, ◌-◌, List, length
 use Rattle.vp_model.specs.Types.{Event}
 use Rattle.vp_model.specs.Catalogue.{sites_of}
 use Rattle.vp_model.specs.World.{WorldState, Schedule, run_of, moments_of, journal_of}
-use Rattle.vp_progress.specs.Going.{goes_on, EachPasses, mends}
+use Rattle.vp_progress.specs.Going.{goes_on, EachPasses, AreFresh, mends}
 use Rattle.vp_progress.specs.Whole.{AreUnspent, IsWhole}
 
 -- the world in which the schedule ends
 abbrev pub world_of : Schedule → WorldState
 world_of s = (run_of s).world
 
--- Events that mend lead to a whole world, and commit nothing more.
+-- Events that mend lead to a whole world, and commit nothing more. No message is needed that was sent before.
 pub record CanBeWhole (s : Schedule) : Type 0 where
   pub more : List Event
   pub mending : EachPasses s.catalogue (mends (sites_of s.catalogue)) (world_of s) more
+  pub fresh : AreFresh (world_of s) more
   pub whole : IsWhole s.catalogue (world_of (goes_on s more))
   pub journal : journal_of (goes_on s more) ≡ journal_of s
 

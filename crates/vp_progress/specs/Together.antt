@@ -8,7 +8,7 @@ use Rattle.vp_model.specs.Site.{SiteState}
 use Rattle.vp_model.specs.Refresh.{is_doubtful, refreshing_of}
 use Rattle.vp_model.specs.World.{WorldState, Schedule, site_of, is_cut}
 use Rattle.vp_progress.specs.Progress.{world_of}
-use Rattle.vp_progress.specs.Clients.{Wish, name_in, FitATransaction, IsServed}
+use Rattle.vp_progress.specs.Clients.{Wish, name_in, FitATransaction, MayGive, IsServed}
 
 -- It holds the view, and has nothing of its own or of others that goes on; its doubts are of coordinators elsewhere.
 pub record IsIdle (sites : List ℕ) (v : View) (x : SiteState) : Type 0 where
@@ -56,4 +56,5 @@ SitesServe =
     → x.seq < 2 ^ 32 - 1
     → FitATransaction wishes
     → AllByRecursion (IsGrantable s.catalogue sites (world_of s)) wishes
+    → AllByRecursion (MayGive s.catalogue sites) wishes
     → IsServed s sites q wishes (StayTogether s.catalogue sites (world_of s))

@@ -7,6 +7,7 @@ ghost use Rattle.vp_progress.specs.Gathering.{AnyoneCanLead, AnyoneCanLeadShortl
 ghost use Rattle.vp_progress.specs.Doubts.{DoubtsStay};
 ghost use Rattle.vp_progress.specs.Meeting.{SitesCanMeet};
 ghost use Rattle.vp_progress.specs.Together.{SitesServe};
+ghost use Rattle.vp_progress.specs.Majority.{MajoritiesGoOn, OnlyMajoritiesAreFree};
 
 /// Every schedule that spends no number can go on, by events that mend, to a world in which every site is up in one view of all sites
 /// and at rest: no lock, no refresh, no transaction, no part and no doubt is left. The journal stays as it was. A run of fewer than
@@ -16,7 +17,7 @@ pub fn schedules_can_mend()
     ensures short { ShortSchedulesCanMend }
 {}
 
-/// In a whole world a client at any site gets any reads, writes and deletes committed for which one transaction has room: at most 64, and at
+/// In a whole world a client at any site gets any reads, writes, deletes and weighs committed for which one transaction has room: at most 64, and at
 /// most 15,360 bytes of values. By its own calls and messages alone its transaction enters the journal, with just what was asked, and the
 /// world is whole again. So does a client of any sites that are together, for the records that are free there, whatever other sites do.
 pub fn clients_are_served()
@@ -47,4 +48,13 @@ pub fn anyone_can_lead()
 /// another site, doubts of coordinators elsewhere stay, and there is no new one. The journal is as it was.
 pub fn sites_can_meet()
     ensures { SitesCanMeet }
+{}
+
+/// Whatever has happened and whatever the other sites do, a client at one of some sites gets any reads, writes, deletes and weighs committed of records
+/// of which these sites are a majority: they have more than half of the weight by the table in force, and no one of them is in doubt about a
+/// change of it of a coordinator elsewhere. No message is needed that was sent before.
+/// However they have met, no other record is free to them.
+pub fn majorities_go_on()
+    ensures serve { MajoritiesGoOn }
+    ensures only { OnlyMajoritiesAreFree }
 {}

@@ -14,6 +14,7 @@ use Rattle.vp_laws.proofs.Lists.Catalogues.{whole_catalogue}
 use Rattle.vp_laws.proofs.Words.Views.{each, onward}
 use Rattle.vp_laws.proofs.Words.Decisions.{decisions_agreed}
 use Rattle.vp_laws.proofs.Words.Weighed.{schedule_weighed}
+use Rattle.vp_timely.proofs.AllTimely.{all_timely}
 use Rattle.vp_cluster.specs.Ran.{Runs}
 use Rattle.vp_cluster.specs.declared.cluster.Ran.{Ran}
 use Rattle.vp_replay.specs.Replayed.{IsDone}
@@ -29,6 +30,7 @@ replay_is_done s ran mid text schedule runs e = record {
   one_copy = one_copy_told s whole_is;
   weighed = schedule_weighed s whole_is;
   sites_agree = record { views = each s; onward = onward s; decisions = decisions_agreed s whole_is };
+  timely = all_timely s whole_is;
 }
   where
     whole_is : IsWhole s.catalogue

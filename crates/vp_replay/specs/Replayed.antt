@@ -9,6 +9,7 @@ use Rattle.vp_model.specs.Texts.Trace.{trace_text}
 use Rattle.vp_model.specs.Texts.History.{history_text}
 use Rattle.vp_laws.specs.Agreement.{ViewsAgree, ViewsGoOn}
 use Rattle.vp_laws.specs.Decisions.{DecisionsAgree}
+use Rattle.vp_timely.specs.Timely.{IsTimely}
 pub use Rattle.vp_refusals.specs.PlayAnswers.{IsPlayed, Tells, IsRefused, IsPlayAnswer}
 use Rattle.vp_status.specs.Refused.{limit_text}
 use Rattle.vp_status.specs.declared.status.Status.{Status}
@@ -27,13 +28,14 @@ pub record SitesAgree (s : Schedule) : Type 0 where
   pub decisions : (m : Moment) → Contains (moments_of s) m → DecisionsAgree s.catalogue (journal_of s) m.before
 
 -- No limit is reached, what is printed is the schedule's trace and then its history, the schedule is one copy, also where its transactions
--- change weights, and its sites agree.
+-- change weights, its sites agree, and its commits come in time.
 pub record IsDone (s : Schedule) (text : List ℕ) : Type 0 where
   pub whole : limit_reached world_limits s ≡ None
   pub printed : text ≡ trace_text s ++ history_text s
   pub one_copy : IsOneCopy s
   pub weighed : IsWeighed s
   pub sites_agree : SitesAgree s
+  pub timely : IsTimely s
 
 -- A limit of the world ends the schedule: what is printed is the trace of the steps before, and the limit.
 pub record IsLimited (s : Schedule) (text : List ℕ) : Type 0 where

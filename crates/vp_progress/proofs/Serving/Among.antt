@@ -1,5 +1,5 @@
 -- Sites that are together serve their clients, as far as records are free there.
-use Rattle.std.proofs.Common.{◌≡◌, ◌∙◌, ap, sym, subst, ℕ, ◌-◌, ◌^◌, ◌<◌, true, List, refl, arith}
+use Rattle.std.proofs.Common.{◌≡◌, ◌∙◌, ap, sym, subst, ℕ, ◌-◌, ◌^◌, ◌<◌, true, List, length, refl, arith}
 use Rattle.std.specs.Prelude.{Some}
 use Rattle.std.specs.List.{Contains, AllByRecursion, list_any}
 use Rattle.vp_text.proofs.Items.{all_each}
@@ -15,14 +15,17 @@ use Rattle.vp_laws.proofs.Invariant.Known.{Known}
 use Rattle.vp_laws.proofs.Keeping.Known.{known_last}
 use Rattle.vp_progress.specs.Going.{serves}
 use Rattle.vp_progress.specs.Progress.{world_of}
-use Rattle.vp_progress.specs.Clients.{Wish, FitATransaction, IsServed}
+use Rattle.vp_progress.specs.Clients.{Wish, FitATransaction, IsServed, MayGive}
 use Rattle.vp_progress.specs.Together.{IsFree, AreTogether, StayTogether, IsGrantable}
+use Rattle.vp_progress.proofs.Started.{past_of}
+use Rattle.vp_progress.proofs.Calm.{serves_since, since_serves, since_fresh, each_fresh}
+use Rattle.vp_progress.proofs.Can.{pass_by}
 use Rattle.vp_progress.proofs.Going.{world_goes_on, passing_flows_not}
 use Rattle.vp_progress.proofs.Serving.Sites.{Rest, IsResting}
 use Rattle.vp_progress.proofs.Serving.Worlds.{IsUnused}
 use Rattle.vp_progress.proofs.Serving.Commits.{Committed}
 use Rattle.vp_progress.proofs.Serving.Begun.{Resting, Grantable, serves_all}
-use Rattle.vp_progress.proofs.Serving.Served.{rest_in, rest_of}
+use Rattle.vp_progress.proofs.Serving.Served.{rest_in, rest_of, table_grows, all_both}
 
 one_state : (k : ℕ) (x y : SiteState) (w : WorldState) → site_of w k ≡ Some x → site_of w k ≡ Some y → x ≡ y
 one_state k x y w a b = let z = sym a ∙ b in grind (arith, z)
@@ -40,10 +43,10 @@ module _ (s : Schedule) (ns : List ℕ) (q : ℕ) (t : AreTogether s.catalogue n
   rests_as : (k : ℕ) (x : SiteState) → site_of w k ≡ Some x → rest_of w k ≡ record { locks = x.locks; refresh = x.refresh; doubts = x.doubts; bars = x.bars }
   rests_as k x up = ap rest_in up
 
-  resting : Resting s.catalogue ns t.view q (has_from_test ns q here) (rest_of w) among members w.journal w
+  resting : Resting s.catalogue ns t.view q (has_from_test ns q here) (rest_of w) among members (past_of w) w
   resting = record {
     known = in_last s.catalogue (Known s.catalogue) (known_last s.catalogue) s.events;
-    joined = λ a b m n. t.joined a b (has_test ns a m) (has_test ns b n);
+    stand = record { joined = λ a b m n. t.joined a b (has_test ns a m) (has_test ns b n); grown = omega arith };
     same = refl;
     rests = λ k m. let x = t.idle k (has_test ns k m) in (x.0, x.1, subst (λ (r : Rest). IsResting t.view r x.0) (sym (rests_as k x.0 x.1)) (record { held = x.2.held; live = x.2.live; parts = x.2.parts; refresh = refl; doubts = refl; bars = refl; locks = λ l there. there }));
   }
@@ -59,7 +62,7 @@ module _ (s : Schedule) (ns : List ℕ) (q : ℕ) (t : AreTogether s.catalogue n
   }
 
   -- each site has just the doubts and the bars that it had, and at most the locks
-  module _ (entry : Commit) (new : WorldState) (c : Committed s.catalogue ns t.view q (has_from_test ns q here) (rest_of w) among members w.journal entry new) where
+  module _ (entry : Commit) (new : WorldState) (c : Committed s.catalogue ns t.view q (has_from_test ns q here) (rest_of w) among members (past_of w) entry new) where
     same_doubts : (k : ℕ) (x y : SiteState) → Has ns k → site_of w k ≡ Some x → site_of new k ≡ Some y → y.doubts ≡ x.doubts
     same_doubts k x y m up now = let r = c.rests k m in ap (λ (z : SiteState). z.doubts) (one_state k y r.0 new now r.1) ∙ r.2.doubts ∙ ap (λ (r : Rest). r.doubts) (rests_as k x up)
 
@@ -84,7 +87,7 @@ module _ (s : Schedule) (ns : List ℕ) (q : ℕ) (t : AreTogether s.catalogue n
     together = record {
       view = t.view;
       members = t.members;
-      joined = λ a b m n. c.joined a b (has_from_test ns a m) (has_from_test ns b n);
+      joined = λ a b m n. c.stand.joined a b (has_from_test ns a m) (has_from_test ns b n);
       idle = λ k m.
           let r = c.rests k (has_from_test ns k m) in
           let x = t.idle k m in
@@ -100,20 +103,29 @@ module _ (s : Schedule) (ns : List ℕ) (q : ℕ) (t : AreTogether s.catalogue n
           };
     }
 
-  grantable : (wish : Wish) → IsGrantable s.catalogue ns w wish → Grantable s.catalogue ns t.view q (has_from_test ns q here) (rest_of w) among members w.journal wish
-  grantable wish g = (g.0, g.1, unused g.0 g.2)
+  widened : (wish : Wish) → MayGive s.catalogue ns wish → MayGive s.catalogue t.view.members wish
+  widened (Wish.weigh name table) may = (may.0, table_grows table ns t.view.members members may.1)
+  widened (Wish.read name) may = tt
+  widened (Wish.write name value) may = tt
+  widened (Wish.delete name) may = tt
 
-  pub served_among : (x : SiteState) (wishes : List Wish) → site_of w q ≡ Some x → x.seq < 2 ^ 32 - 1 → FitATransaction wishes → AllByRecursion (IsGrantable s.catalogue ns w) wishes → IsServed s ns q wishes (StayTogether s.catalogue ns w)
-  served_among x wishes up left fits free =
-      let c = serves_all s.catalogue ns t.view q (has_from_test ns q here) (rest_of w) among members w.journal wishes w resting x up left fits (all_each _ _ grantable wishes free) in
-      let is = world_goes_on s c.events (passing_flows_not s.catalogue (serves q ns) (λ w count. refl) c.events w c.passing) in
+  grantable : (wish : Wish) → IsGrantable s.catalogue ns w wish × MayGive s.catalogue ns wish → Grantable s.catalogue ns t.view q (has_from_test ns q here) (rest_of w) among members (past_of w) wish
+  grantable wish g = let own = g.0 in (own.0, own.1, unused own.0 own.2, widened wish g.1)
+
+  pub served_among : (x : SiteState) (wishes : List Wish) → site_of w q ≡ Some x → x.seq < 2 ^ 32 - 1 → FitATransaction wishes → AllByRecursion (IsGrantable s.catalogue ns w) wishes → AllByRecursion (MayGive s.catalogue ns) wishes → IsServed s ns q wishes (StayTogether s.catalogue ns w)
+  served_among x wishes up left fits free gives =
+      let c = serves_all s.catalogue ns t.view q (has_from_test ns q here) (rest_of w) among members (past_of w) wishes w resting x up left fits (all_each _ _ grantable wishes (all_both _ _ wishes free gives)) in
+      let is = world_goes_on s c.events (passing_flows_not s.catalogue (serves_since (length w.sent) q ns) (λ w count. refl) c.events w c.passing) in
       let after : StayTogether s.catalogue ns w _ = record { together = together c.so.entry _ c.so.committed; free = still_free c.so.entry _ c.so.committed } in
       record {
         more = c.events;
-        serving = c.passing;
+        serving = pass_by s.catalogue (serves_since (length w.sent) q ns) (serves q ns) (since_serves (length w.sent) q ns) c.events w c.passing;
+        fresh = each_fresh s.catalogue (serves_since (length w.sent) q ns) (length w.sent) (since_fresh (length w.sent) q ns) c.events w c.passing;
         entry = c.so.entry;
         own = c.so.own;
+        deeds = c.so.deeds;
         fulfilled = c.so.fulfilled;
+        ops = c.so.ops;
         tables = c.so.tables;
         journal = ap (λ (w : WorldState). w.journal) is ∙ c.so.committed.same;
         after = subst (StayTogether s.catalogue ns w) (sym is) after;

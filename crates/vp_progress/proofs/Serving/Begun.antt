@@ -1,17 +1,16 @@
 -- A transaction begins at a site where all rests, and does what a client wishes, one operation after the other.
-use Rattle.std.proofs.Common.{◌≡◌, ◌≢◌, ◌∙◌, ap, sym, subst, ℕ, ◌+◌, ◌-◌, ◌^◌, ◌<◌, ◌≤◌, Bool, true, false, List, [], ◌∷◌, ◌++◌, length, refl, arith, inr, append-nil}
+use Rattle.std.proofs.Common.{◌≡◌, ◌≢◌, ◌∙◌, ap, sym, subst, ℕ, ◌+◌, ◌-◌, ◌^◌, ◌<◌, ◌≤◌, Bool, true, false, List, [], ◌∷◌, length, refl, arith, inr, append-nil}
 use Rattle.std.specs.Prelude.{Some, None, ◌==◌, not, sum_by}
 use Rattle.std.specs.List.{AllByRecursion}
 use Rattle.std.proofs.lemmas.Bool.Decides.{nat_tests}
-use Rattle.std.proofs.lemmas.List.{append_assoc}
 use Rattle.std.proofs.lemmas.List.Sums.{sum_by-cons}
 use Rattle.vp_model.specs.Types.{TxnId, View, Op, Commit, Part, Live, Doubt}
 use Rattle.vp_model.specs.Types.call
-use Rattle.vp_model.specs.Words.{has_txn, same_txn}
-use Rattle.vp_model.specs.Catalogue.{Catalogue, find_record}
+use Rattle.vp_model.specs.Words.{has_txn, same_txn, for_each}
+use Rattle.vp_model.specs.Catalogue.{Catalogue, Table, find_record}
 use Rattle.vp_model.specs.Durable.{without_doubt}
 use Rattle.vp_model.specs.Site.{SiteState}
-use Rattle.vp_model.specs.Transactions.{entry_of}
+use Rattle.vp_model.specs.Transactions.{entry_of, Deed, with_operation, with_table}
 use Rattle.vp_model.specs.Calls.{begun, size_of}
 use Rattle.vp_model.specs.World.{WorldState, site_of}
 use Rattle.vp_model.proofs.SameTxn.{same_txn-is, same_txn-other}
@@ -22,16 +21,16 @@ use Rattle.vp_laws.proofs.Worlds.Scenes.{scene_of}
 use Rattle.vp_laws.proofs.Invariant.Names.{UsedTxn}
 use Rattle.vp_laws.proofs.Invariant.Known.{Known}
 use Rattle.vp_laws.proofs.Keeping.Endings.{fresh}
-use Rattle.vp_progress.specs.Going.{serves}
-use Rattle.vp_progress.specs.Clients.{Wish, name_in, bytes_in, FitATransaction, FulfilAll}
+use Rattle.vp_progress.specs.Clients.{Wish, name_in, bytes_in, FitATransaction, FulfilAll, MayGive}
+use Rattle.vp_progress.proofs.Calm.{serves_since}
 use Rattle.vp_progress.proofs.Can.{Can, can_now, can_then}
 use Rattle.vp_progress.proofs.Acts.{Did}
-use Rattle.vp_progress.proofs.Started.{AreJoined}
+use Rattle.vp_progress.proofs.Started.{Past}
 use Rattle.vp_progress.proofs.Based.{other_as}
 use Rattle.vp_progress.proofs.Serving.Rows.{begins}
 use Rattle.vp_progress.proofs.Serving.Sites.{Rest, IsResting, Lends}
 use Rattle.vp_progress.proofs.Serving.Leading.{leads_begun}
-use Rattle.vp_progress.proofs.Serving.Worlds.{IsUnused, Serving, calls, still_joined, same_journal}
+use Rattle.vp_progress.proofs.Serving.Worlds.{IsUnused, Stand, Serving, calls, still_stand, same_journal}
 use Rattle.vp_progress.proofs.Serving.Operations.{Done, fulfils_one}
 use Rattle.vp_progress.proofs.Serving.Commits.{RestsAt, Committed, commits_all}
 
@@ -47,25 +46,25 @@ not_ended txns txn none = go (has_txn txns txn) refl
 new_doubt : (ds : List Doubt) (txn : TxnId) → ((d : Doubt) → Has ds d → d.txn ≢ txn) → without_doubt txn ds ≡ ds
 new_doubt ds txn none = filter_all (λ (d : Doubt). not (same_txn d.txn txn)) ds (λ d h. let e = same_txn-other d.txn txn (none d h) in rw e refl)
 
-module _ (catalogue : Catalogue) (ns : List ℕ) (v : View) (q : ℕ) (lead : Has ns q) (rest : ℕ → Rest) (among : (k : ℕ) → Has v.members k → Has ns k) (members : (k : ℕ) → Has ns k → Has v.members k) (journal : List Commit) where
+module _ (catalogue : Catalogue) (ns : List ℕ) (v : View) (q : ℕ) (lead : Has ns q) (rest : ℕ → Rest) (among : (k : ℕ) → Has v.members k → Has ns k) (members : (k : ℕ) → Has ns k → Has v.members k) (past : Past) where
   abbrev Goes : Live → WorldState → Type 0
-  Goes t w = Serving catalogue ns v q rest among journal t [] w
+  Goes t w = Serving catalogue ns v q rest among past t [] w
 
   abbrev Reaches : WorldState → (WorldState → Type 0) → Type 0
-  Reaches w Q = Can catalogue (serves q ns) w Q
+  Reaches w Q = Can catalogue (serves_since past.told q ns) w Q
 
   abbrev pub AtRest : ℕ → WorldState → Type 0
-  AtRest k w = RestsAt catalogue ns v q lead rest among members journal k w
+  AtRest k w = RestsAt catalogue ns v q lead rest among members past k w
 
   -- all rests
   pub record Resting (w : WorldState) : Type 0 where
     pub known : Known catalogue (scene_of w)
-    pub joined : AreJoined ns w
-    pub same : w.journal ≡ journal
+    pub stand : Stand past.told ns w
+    pub same : w.journal ≡ past.entries
     pub rests : (k : ℕ) → Has ns k → AtRest k w
 
   abbrev pub Grantable : Wish → Type 0
-  Grantable wish = (rec : ℕ) × (find_record catalogue (name_in wish) ≡ Some rec) × IsUnused catalogue ns v q rest among rec
+  Grantable wish = (rec : ℕ) × (find_record catalogue (name_in wish) ≡ Some rec) × IsUnused catalogue ns v q rest among rec × MayGive catalogue v.members wish
 
   -- a new transaction of the site
   record Begun (x : SiteState) (w : WorldState) : Type 0 where
@@ -79,15 +78,15 @@ module _ (catalogue : Catalogue) (ns : List ℕ) (v : View) (q : ℕ) (lead : Ha
       let txn = next_name x in
       let id = (f.known.views.site q x up).id in
       let unused : UsedTxn (scene_of w) txn → ⊥ = (λ u. fresh (scene_of w) q x up id txn u refl) in
-      calls catalogue ns v q rest among (Begun x) w f.known x up call.Begin refl
+      calls catalogue ns v q rest among past.told (Begun x) w f.known x up call.Begin refl
       λ new known d0.
       let d = subst (Did w new q x) (begins catalogue x v r.held r.live left) d0 in
       let g = leads_begun (rest q) txn 0 v.id (lent_at x) r.live r.locks r.bars refl in
-      can_now catalogue (serves q ns) (Begun x) new (record {
+      can_now catalogue (serves_since past.told q ns) (Begun x) new (record {
         goes = record {
           known = known;
-          joined = still_joined catalogue ns v q rest among w new q x _ f.joined d;
-          same = same_journal catalogue ns v q rest among w new q x _ journal [] f.same d g.commits ∙ append-nil journal;
+          stand = still_stand catalogue ns v q rest among past.told w new q x _ f.stand d;
+          same = same_journal catalogue ns v q rest among w new q x _ past.entries [] f.same d g.commits ∙ append-nil past.entries;
           at = _;
           up = d.acted.now;
           leads = record { held = r.held; live = g.live; parts = r.parts; refresh = r.refresh; doubts = r.doubts; bars = g.bars; locks = g.locks };
@@ -122,31 +121,31 @@ module _ (catalogue : Catalogue) (ns : List ℕ) (v : View) (q : ℕ) (lead : Ha
 
   record Fulfilled (t : Live) (wishes : List Wish) (w : WorldState) : Type 0 where
     now : Live
-    ops : List Op
+    deeds : List Deed
     goes : Goes now w
     idle : now.pending ≡ None
-    fulfil : FulfilAll catalogue wishes ops
-    more : now.ops ≡ t.ops ++ ops
-    tables : now.tables ≡ t.tables
+    fulfil : FulfilAll catalogue wishes deeds
+    more : now.ops ≡ for_each deeds with_operation t.ops
+    tables : now.tables ≡ for_each deeds with_table t.tables
     named : now.txn ≡ t.txn
 
   all_wishes : (wishes : List Wish) (t : Live) (w : WorldState) → Goes t w → t.pending ≡ None → length t.answers + length wishes ≤ 64 → size_of t + sum_by bytes_in wishes ≤ 15360 → AllByRecursion Grantable wishes → Reaches w (Fulfilled t wishes)
-  all_wishes [] t w f idle few small h = can_now catalogue (serves q ns) _ w (record { now = t; ops = []; goes = f; idle = idle; fulfil = tt; more = sym (append-nil t.ops); tables = refl; named = refl })
+  all_wishes [] t w f idle few small h = can_now catalogue (serves_since past.told q ns) _ w (record { now = t; deeds = []; goes = f; idle = idle; fulfil = tt; more = refl; tables = refl; named = refl })
   all_wishes (wish ∷ wishes) t w f idle few small h =
       let bytes = sum_by-cons bytes_in wish wishes in
-      can_then catalogue (serves q ns) (Done catalogue ns v q lead rest among journal t wish) (Fulfilled t (wish ∷ wishes)) w
-      (fulfils_one catalogue ns v q lead rest among journal t w f idle (omega (arith, few)) wish (omega (arith, small, bytes)) h.0.0 h.0.1 h.0.2)
+      can_then catalogue (serves_since past.told q ns) (Done catalogue ns v q lead rest among past t wish) (Fulfilled t (wish ∷ wishes)) w
+      (fulfils_one catalogue ns v q lead rest among past t w f idle (omega (arith, few)) wish (omega (arith, small, bytes)) h.0.0 h.0.1 h.0.2 h.0.3)
       λ mid d.
-      can_then catalogue (serves q ns) (Fulfilled d.now wishes) (Fulfilled t (wish ∷ wishes)) mid
+      can_then catalogue (serves_since past.told q ns) (Fulfilled d.now wishes) (Fulfilled t (wish ∷ wishes)) mid
       (all_wishes wishes d.now mid d.goes d.idle (let longer = d.answers in omega (arith, few, longer)) (let larger = d.size in omega (arith, small, bytes, larger)) h.1)
-      λ new e. can_now catalogue (serves q ns) _ new (record {
+      λ new e. can_now catalogue (serves_since past.told q ns) _ new (record {
         now = e.now;
-        ops = d.operation ∷ e.ops;
+        deeds = d.deed ∷ e.deeds;
         goes = e.goes;
         idle = e.idle;
         fulfil = (d.fulfils, e.fulfil);
-        more = e.more ∙ ap (λ (ops : List Op). ops ++ e.ops) d.ops ∙ append_assoc t.ops (d.operation ∷ []) e.ops;
-        tables = e.tables ∙ d.tables;
+        more = e.more ∙ ap (λ (ops : List Op). for_each e.deeds with_operation ops) d.ops;
+        tables = e.tables ∙ ap (λ (ts : List (ℕ × Table)). for_each e.deeds with_table ts) d.tables;
         named = e.named ∙ d.named;
       })
 
@@ -154,21 +153,25 @@ module _ (catalogue : Catalogue) (ns : List ℕ) (v : View) (q : ℕ) (lead : Ha
   pub record Serves (wishes : List Wish) (w : WorldState) : Type 0 where
     pub entry : Commit
     pub own : entry.txn.site ≡ q
-    pub fulfilled : FulfilAll catalogue wishes entry.ops
-    pub tables : entry.tables ≡ []
-    pub committed : Committed catalogue ns v q lead rest among members journal entry w
+    pub deeds : List Deed
+    pub fulfilled : FulfilAll catalogue wishes deeds
+    pub ops : entry.ops ≡ for_each deeds with_operation []
+    pub tables : entry.tables ≡ for_each deeds with_table []
+    pub committed : Committed catalogue ns v q lead rest among members past entry w
 
   pub serves_all : (wishes : List Wish) (w : WorldState) → Resting w → (x : SiteState) → site_of w q ≡ Some x → x.seq < 2 ^ 32 - 1 → FitATransaction wishes → AllByRecursion Grantable wishes → Reaches w (Serves wishes)
   serves_all wishes w f x up left fits grantable =
       let t = begun (next_name x) v.id in
       let id = (f.known.views.site q x up).id in
-      can_then catalogue (serves q ns) (Begun x) (Serves wishes) w (begins_one w f x up (grind (arith, nat_tests, left)))
-      λ w1 b. can_then catalogue (serves q ns) (Fulfilled t wishes) (Serves wishes) w1 (all_wishes wishes t w1 b.goes refl (let few = fits.few in omega (arith, few)) (let small = fits.small in omega (arith, small)) grantable)
-      λ w2 e. can_then catalogue (serves q ns) (Committed catalogue ns v q lead rest among members journal (entry_of e.now)) (Serves wishes) w2 (commits_all catalogue ns v q lead rest among members journal e.now w2 e.goes e.idle)
-      λ new c. can_now catalogue (serves q ns) (Serves wishes) new (record {
+      can_then catalogue (serves_since past.told q ns) (Begun x) (Serves wishes) w (begins_one w f x up (grind (arith, nat_tests, left)))
+      λ w1 b. can_then catalogue (serves_since past.told q ns) (Fulfilled t wishes) (Serves wishes) w1 (all_wishes wishes t w1 b.goes refl (let few = fits.few in omega (arith, few)) (let small = fits.small in omega (arith, small)) grantable)
+      λ w2 e. can_then catalogue (serves_since past.told q ns) (Committed catalogue ns v q lead rest among members past (entry_of e.now)) (Serves wishes) w2 (commits_all catalogue ns v q lead rest among members past e.now w2 e.goes e.idle)
+      λ new c. can_now catalogue (serves_since past.told q ns) (Serves wishes) new (record {
         entry = entry_of e.now;
         own = ap (λ (u : TxnId). u.site) e.named ∙ id;
-        fulfilled = subst (FulfilAll catalogue wishes) (sym e.more) e.fulfil;
+        deeds = e.deeds;
+        fulfilled = e.fulfil;
+        ops = e.more;
         tables = e.tables;
         committed = c;
       })

@@ -32,10 +32,10 @@ use Rattle.vp_laws.proofs.Invariant.HasLeft.{HasLeft}
 use Rattle.vp_laws.proofs.Journal.Changed.{HasChanged}
 use Rattle.vp_laws.proofs.Invariant.Used.{HasAnswered, LockedAt}
 use Rattle.vp_laws.proofs.Invariant.Known.{Known}
-use Rattle.vp_progress.specs.Going.{serves}
+use Rattle.vp_progress.proofs.Calm.{serves_since}
 use Rattle.vp_progress.proofs.Can.{Can, can_now, can_then, Each, one_by_one}
-use Rattle.vp_progress.proofs.Acts.{Did}
-use Rattle.vp_progress.proofs.Started.{AreJoined}
+use Rattle.vp_progress.proofs.Acts.{Did, Since, stays_since, sends_since}
+use Rattle.vp_progress.proofs.Started.{Past}
 use Rattle.vp_progress.proofs.Based.{other_as}
 use Rattle.vp_progress.proofs.Certain.{ended_commits}
 use Rattle.vp_progress.proofs.Current.{holds_it}
@@ -44,7 +44,7 @@ use Rattle.vp_progress.proofs.Serving.Answers.{votes_counted}
 use Rattle.vp_progress.proofs.Serving.Parts.{votes, outcome_ends}
 use Rattle.vp_progress.proofs.Serving.Sites.{Rest, IsResting, Lends, leads_first, votes_on, doubt_settled, ends_resting}
 use Rattle.vp_progress.proofs.Serving.Leading.{asks_votes, Decided, decides}
-use Rattle.vp_progress.proofs.Serving.Worlds.{Serving, Exchanged, calls, comes, still_joined, same_journal, led_in, own_moves, exchanges}
+use Rattle.vp_progress.proofs.Serving.Worlds.{Stand, Serving, Exchanged, calls, comes, still_stand, same_journal, led_in, own_moves, exchanges}
 use Rattle.vp_progress.proofs.Serving.Waiting.{left_of, Asked, Counted, counts, exchanged, waits_all}
 use Rattle.vp_progress.proofs.Serving.Operations.{is_other}
 
@@ -83,12 +83,12 @@ read_there k remote rec h =
     subst (λ (r : ℕ). Has remote (k, r)) a.2 (subst (λ (s : ℕ). Has remote (s, a.0.1)) site f.0))
     (read_from (filter (λ (asked : ℕ × ℕ). asked.0 == k) remote) [] rec h)
 
-module _ (catalogue : Catalogue) (ns : List ℕ) (v : View) (q : ℕ) (lead : Has ns q) (rest : ℕ → Rest) (among : (k : ℕ) → Has v.members k → Has ns k) (members : (k : ℕ) → Has ns k → Has v.members k) (journal : List Commit) where
+module _ (catalogue : Catalogue) (ns : List ℕ) (v : View) (q : ℕ) (lead : Has ns q) (rest : ℕ → Rest) (among : (k : ℕ) → Has v.members k → Has ns k) (members : (k : ℕ) → Has ns k → Has v.members k) (past : Past) where
   abbrev Goes : Live → List ℕ → WorldState → Type 0
-  Goes t missing w = Serving catalogue ns v q rest among journal t missing w
+  Goes t missing w = Serving catalogue ns v q rest among past t missing w
 
   abbrev Reaches : WorldState → (WorldState → Type 0) → Type 0
-  Reaches w Q = Can catalogue (serves q ns) w Q
+  Reaches w Q = Can catalogue (serves_since past.told q ns) w Q
 
   -- ---- a part has all its locks
 
@@ -103,7 +103,7 @@ module _ (catalogue : Catalogue) (ns : List ℕ) (v : View) (q : ℕ) (lead : Ha
     live_here = subst (λ (ts : List Live). Has ts t) (sym f.leads.live) (has_one t)
 
     view_is : t.view ≡ v.id
-    view_is = (led_in catalogue ns v q rest among journal t [] w f).0
+    view_is = (led_in catalogue ns v q rest among past t [] w f).0
 
     answered_for : AnswersOk catalogue (scene_of w) f.at.id f.at.held t
     answered_for = f.known.answers.live q f.at t f.up live_here
@@ -143,13 +143,13 @@ module _ (catalogue : Catalogue) (ns : List ℕ) (v : View) (q : ℕ) (lead : Ha
     ) refl
 
     -- and votes
-    votes_there : (part : Has t.parts k) (number : ℕ) → Has w.sent (letter q k (message.Prepare t.txn t.view number (records_read_at k t.remote) (writes_held catalogue k (last_changes (entry_of t))))) → Reaches w (Exchanged catalogue ns v q rest among journal t [] k (message.Vote t.txn) w)
+    votes_there : (part : Has t.parts k) (number : ℕ) → Since past.told w (letter q k (message.Prepare t.txn t.view number (records_read_at k t.remote) (writes_held catalogue k (last_changes (entry_of t))))) → Reaches w (Exchanged catalogue ns v q rest among past t [] k (message.Vote t.txn) w)
     votes_there part number sent =
         let reads = records_read_at k t.remote in
         let writes = writes_held catalogue k (last_changes (entry_of t)) in
         let holding : holds_view part_site t.view ≡ true = subst (λ (i : ViewId). holds_view part_site i ≡ true) (sym view_is) (holds_it part_site v lends_there.held) in
         let takes = ⊎_elim (λ none. absurd (has_none k none)) (λ there. there) ((f.others k here n).part part) in
-        exchanges catalogue ns v q rest among journal lead t [] w k here n f part (message.Prepare t.txn t.view number reads writes) (message.Vote t.txn) sent
+        exchanges catalogue ns v q rest among past lead t [] w k here n f part (message.Prepare t.txn t.view number reads writes) (message.Vote t.txn) sent
         (votes_on v (rest k) t.txn part_site lends_there q writes (step catalogue part_site (input.Message q (message.Prepare t.txn t.view number reads writes))) (λ rec h. (f.free rec (written_there rec h).0).quiet k here)
         (votes catalogue part_site q t.txn t.view number reads writes holding lends_there.new takes all_locked))
 
@@ -163,12 +163,12 @@ module _ (catalogue : Catalogue) (ns : List ℕ) (v : View) (q : ℕ) (lead : Ha
     at : SiteState
     up : site_of w k ≡ Some at
     lends : Lends v (rest k) txn at
-    told : Has w.sent (letter q k (message.Outcome txn true))
+    told : Since past.told w (letter q k (message.Outcome txn true))
 
   record Over (entry : Commit) (w : WorldState) : Type 0 where
     known : Known catalogue (scene_of w)
-    joined : AreJoined ns w
-    same : w.journal ≡ journal ++ entry ∷ []
+    stand : Stand past.told ns w
+    same : w.journal ≡ past.entries ++ entry ∷ []
     site : (k : ℕ) → Has ns k → RestsAt k w ⊎ IsTold entry.txn k w
 
   decided_world : (was t : Live) (w new : WorldState) (f : Goes was [] w) → was.txn ≡ t.txn → was.parts ≡ t.parts → Known catalogue (scene_of new) → Did w new q f.at (put_back (begin_step f.at) (decide catalogue f.at.id t (lent_at f.at))) → Over (entry_of t) new
@@ -178,8 +178,8 @@ module _ (catalogue : Catalogue) (ns : List ℕ) (v : View) (q : ℕ) (lead : Ha
       let id = (f.known.views.site q f.at f.up).id in
       record {
         known = known;
-        joined = still_joined catalogue ns v q rest among w new q f.at _ f.joined d;
-        same = same_journal catalogue ns v q rest among w new q f.at _ journal (entry_of t ∷ []) f.same d g.commits;
+        stand = still_stand catalogue ns v q rest among past.told w new q f.at _ f.stand d;
+        same = same_journal catalogue ns v q rest among w new q f.at _ past.entries (entry_of t ∷ []) f.same d g.commits;
         site = λ k here. ⊎_elim
             (λ (own : k ≡ q). inl (subst (λ (k : ℕ). RestsAt k new) (sym own) (_, d.acted.now, record { held = f.leads.held; live = g.live; parts = f.leads.parts; refresh = f.leads.refresh; doubts = f.leads.doubts; bars = g.bars; locks = g.locks })))
             (λ other. elsewhere k here other l g id (has t.parts k) refl)
@@ -191,7 +191,7 @@ module _ (catalogue : Catalogue) (ns : List ℕ) (v : View) (q : ℕ) (lead : Ha
         at = o.at;
         up = other_as d k n ∙ o.up;
         lends = subst (λ (u : TxnId). Lends v (rest k) u o.at) named o.lends;
-        told = d.acted.sends _ (subst (λ (i : ℕ). Has (decide catalogue f.at.id t (lent_at f.at)).effects.messages (letter i k (message.Outcome t.txn true))) id ((decides (rest q) catalogue f.at.id was t (lent_at f.at) named (leads_first v (rest q) was f.at f.leads)).tells k (has_from_test t.parts k e)));
+        told = sends_since past.told f.stand.grown d _ (subst (λ (i : ℕ). Has (decide catalogue f.at.id t (lent_at f.at)).effects.messages (letter i k (message.Outcome t.txn true))) id ((decides (rest q) catalogue f.at.id was t (lent_at f.at) named (leads_first v (rest q) was f.at f.leads)).tells k (has_from_test t.parts k e)));
       })
       elsewhere k here n l g id false e = inl (let o = f.others k here n in (o.at, other_as d k n ∙ o.up, o.rests (λ h. let a = has_test t.parts k (subst (λ (ks : List ℕ). Has ks k) parts h) in let z = sym a ∙ e in cc)))
 
@@ -199,23 +199,23 @@ module _ (catalogue : Catalogue) (ns : List ℕ) (v : View) (q : ℕ) (lead : Ha
 
   told_one : (entry : Commit) (k : ℕ) (w : WorldState) → Has ns k → Over entry w → Reaches w (Each (Over entry) RestsAt (k ∷ []) w)
   told_one entry k w here f = ⊎_elim
-      (λ (r : RestsAt k w). can_now catalogue (serves q ns) _ w (record { still = f; done = λ j h. subst (λ (j : ℕ). RestsAt j w) (has_one_is k j h) r; stays = λ j g. g }))
+      (λ (r : RestsAt k w). can_now catalogue (serves_since past.told q ns) _ w (record { still = f; done = λ j h. subst (λ (j : ℕ). RestsAt j w) (has_one_is k j h) r; stays = λ j g. g }))
       (λ (a : IsTold entry.txn k w).
-      comes catalogue ns v q rest among _ w f.known k a.at here a.up q (message.Outcome entry.txn true) a.told lead f.joined
+      comes catalogue ns v q rest among past.told _ w f.known k a.at here a.up q (message.Outcome entry.txn true) a.told lead f.stand
       λ new known d0.
       let row = outcome_ends catalogue a.at q entry.txn true (doubt_settled v (rest k) entry.txn a.at a.lends) in
       let o = end_here q entry.txn true (doubt_of entry.txn a.at.doubts) (begin_step a.at) in
       let d = subst (Did w new k a.at) row d0 in
       let mine : RestsAt k new = (_, d.acted.now, ends_resting v (rest k) entry.txn a.at a.lends q true (doubt_of entry.txn a.at.doubts)) in
       let old : (j : ℕ) → RestsAt j w → RestsAt j new = λ j g. ⊎_elim (λ (same : j ≡ k). subst (λ (j : ℕ). RestsAt j new) (sym same) mine) (λ other. (g.0, other_as d j other ∙ g.1, g.2)) (same_site j k) in
-      can_now catalogue (serves q ns) _ new (record {
+      can_now catalogue (serves_since past.told q ns) _ new (record {
         still = record {
           known = known;
-          joined = still_joined catalogue ns v q rest among w new k a.at _ f.joined d;
-          same = same_journal catalogue ns v q rest among w new k a.at _ (journal ++ entry ∷ []) [] f.same d (ended_commits a.at q entry.txn true (doubt_of entry.txn a.at.doubts)) ∙ append-nil (journal ++ entry ∷ []);
+          stand = still_stand catalogue ns v q rest among past.told w new k a.at _ f.stand d;
+          same = same_journal catalogue ns v q rest among w new k a.at _ (past.entries ++ entry ∷ []) [] f.same d (ended_commits a.at q entry.txn true (doubt_of entry.txn a.at.doubts)) ∙ append-nil (past.entries ++ entry ∷ []);
           site = λ j there. ⊎_elim
               (λ (same : j ≡ k). inl (subst (λ (j : ℕ). RestsAt j new) (sym same) mine))
-              (λ (other : j ≢ k). ⊎_elim (λ (g : RestsAt j w). inl (old j g)) (λ (b : IsTold entry.txn j w). inr (record { at = b.at; up = other_as d j other ∙ b.up; lends = b.lends; told = d.acted.moved.sent _ b.told })) (f.site j there))
+              (λ (other : j ≢ k). ⊎_elim (λ (g : RestsAt j w). inl (old j g)) (λ (b : IsTold entry.txn j w). inr (record { at = b.at; up = other_as d j other ∙ b.up; lends = b.lends; told = stays_since past.told d _ b.told })) (f.site j there))
               (same_site j k);
         };
         done = λ j h. subst (λ (j : ℕ). RestsAt j new) (has_one_is k j h) mine;
@@ -225,15 +225,15 @@ module _ (catalogue : Catalogue) (ns : List ℕ) (v : View) (q : ℕ) (lead : Ha
 
   -- the transaction has committed, and nothing is left of it
   pub record Committed (entry : Commit) (w : WorldState) : Type 0 where
-    pub joined : AreJoined ns w
-    pub same : w.journal ≡ journal ++ entry ∷ []
+    pub stand : Stand past.told ns w
+    pub same : w.journal ≡ past.entries ++ entry ∷ []
     pub rests : (k : ℕ) → Has ns k → RestsAt k w
 
   told_all : (entry : Commit) (w : WorldState) → Over entry w → Reaches w (Committed entry)
   told_all entry w f =
-      can_then catalogue (serves q ns) (Each (Over entry) RestsAt ns w) (Committed entry) w
-      (one_by_one catalogue (serves q ns) (Over entry) RestsAt ns (told_one entry) ns (λ k h. h) w f)
-      λ new e. can_now catalogue (serves q ns) (Committed entry) new (record { joined = e.still.joined; same = e.still.same; rests = e.done })
+      can_then catalogue (serves_since past.told q ns) (Each (Over entry) RestsAt ns w) (Committed entry) w
+      (one_by_one catalogue (serves_since past.told q ns) (Over entry) RestsAt ns (told_one entry) ns (λ k h. h) w f)
+      λ new e. can_now catalogue (serves_since past.told q ns) (Committed entry) new (record { stand = e.still.stand; same = e.still.same; rests = e.done })
 
   -- ---- the call
 
@@ -250,21 +250,21 @@ module _ (catalogue : Catalogue) (ns : List ℕ) (v : View) (q : ℕ) (lead : Ha
     abbrev vote_ask : ℕ → Message
     vote_ask k = prepare_for catalogue t commit_call k
 
-    vote_one : (missing : List ℕ) (k : ℕ) (u : WorldState) → Has t.parts k → Has missing k → Goes (waiting t commit_call missing) [] u → Asked catalogue ns v q lead rest among journal t commit_call vote_ask Fin none_away none_waited none_kept missing u → Reaches u (Counted catalogue ns v q lead rest among journal t commit_call vote_ask Fin none_away none_waited none_kept missing k u)
+    vote_one : (missing : List ℕ) (k : ℕ) (u : WorldState) → Has t.parts k → Has missing k → Goes (waiting t commit_call missing) [] u → Asked catalogue ns v q lead rest among past t commit_call vote_ask Fin none_away none_waited none_kept missing u → Reaches u (Counted catalogue ns v q lead rest among past t commit_call vote_ask Fin none_away none_waited none_kept missing k u)
     vote_one missing k u part waits g asked =
         let now = waiting t commit_call missing in
         let p = record commit_call { missing = missing } in
-        let i = (led_in catalogue ns v q rest among journal now [] u g).1 k part in
-        exchanged catalogue ns v q lead rest among journal t commit_call vote_ask Fin none_away none_waited none_kept missing k u (message.Vote t.txn)
+        let i = (led_in catalogue ns v q rest among past now [] u g).1 k part in
+        exchanged catalogue ns v q lead rest among past t commit_call vote_ask Fin none_away none_waited none_kept missing k u (message.Vote t.txn)
         (votes_there now u g p refl refl k i.0 i.1 part number (asked k waits))
-        λ mid e. counts catalogue ns v q lead rest among journal t commit_call vote_ask Fin none_away none_waited none_kept missing k mid e.serving i.0 waits e.takes (message.Vote t.txn) e.answered
+        λ mid e. counts catalogue ns v q lead rest among past t commit_call vote_ask Fin none_away none_waited none_kept missing k mid e.serving i.0 waits e.takes (message.Vote t.txn) e.answered
         (decide catalogue e.serving.at.id now)
         (votes_counted catalogue k now p refl (has_test missing k waits) e.serving.at t.txn number e.serving.leads.live refl)
         λ all new known d. told_all (entry_of t) new (decided_world now now mid new e.serving refl refl known d)
 
     pub commits_all : Reaches w Fin
     commits_all =
-        calls catalogue ns v q rest among Fin w f.known f.at f.up (call.Commit t.txn number) refl
+        calls catalogue ns v q rest among past.told Fin w f.known f.at f.up (call.Commit t.txn number) refl
         λ new known d. go new known d (is_empty t.parts) refl
       where
         row : step catalogue f.at (input.Call 0 (call.Commit t.txn number)) ≡ put_back (begin_step f.at) (commit catalogue f.at.id t commit_call (lent_at f.at))
@@ -279,7 +279,7 @@ module _ (catalogue : Catalogue) (ns : List ℕ) (v : View) (q : ℕ) (lead : Ha
             let a = asks_votes (rest q) t (lent_at f.at) (leads_first v (rest q) t f.at f.leads) catalogue f.at.id commit_call in
             let now = subst (Did w new q f.at) is d in
             let id = (f.known.views.site q f.at f.up).id in
-            waits_all catalogue ns v q lead rest among journal t commit_call vote_ask Fin none_away none_waited none_kept t.parts vote_one (length t.parts) t.parts new (λ k h. h) (omega arith) e
-            (own_moves catalogue ns v q rest among journal t (waiting t commit_call t.parts) [] [] w new f _ known now a.0 refl f.free (λ k h. h)
-            (λ k h. let i = (led_in catalogue ns v q rest among journal t [] w f).1 k h in let o = f.others k i.0 i.1 in ⊎_elim (λ none. absurd (has_none k none)) (λ there. inr (o.at, o.up, there)) (o.part h)))
-            (λ k h. now.acted.sends _ (subst (λ (i : ℕ). Has (prepare_parts catalogue f.at.id t commit_call (lent_at f.at)).effects.messages (letter i k (vote_ask k))) id (a.1 k h)))
+            waits_all catalogue ns v q lead rest among past t commit_call vote_ask Fin none_away none_waited none_kept t.parts vote_one (length t.parts) t.parts new (λ k h. h) (omega arith) e
+            (own_moves catalogue ns v q rest among past t (waiting t commit_call t.parts) [] [] w new f _ known now a.0 refl f.free (λ k h. h)
+            (λ k h. let i = (led_in catalogue ns v q rest among past t [] w f).1 k h in let o = f.others k i.0 i.1 in ⊎_elim (λ none. absurd (has_none k none)) (λ there. inr (o.at, o.up, there)) (o.part h)))
+            (λ k h. sends_since past.told f.stand.grown now _ (subst (λ (i : ℕ). Has (prepare_parts catalogue f.at.id t commit_call (lent_at f.at)).effects.messages (letter i k (vote_ask k))) id (a.1 k h)))

@@ -8,7 +8,7 @@ use Rattle.vp_model.specs.Types.call
 use Rattle.vp_model.specs.Types.input
 use Rattle.vp_model.specs.Types.op
 use Rattle.vp_model.specs.Words.{first, has, is_empty, value_at}
-use Rattle.vp_model.specs.Catalogue.{Catalogue, find_record, holders}
+use Rattle.vp_model.specs.Catalogue.{Catalogue, find_record, holders, Table, has_holders, accessible_by}
 use Rattle.vp_model.specs.Locks.{conflict}
 use Rattle.vp_model.specs.Site.{Surroundings, SiteState, Lent, begin_step, surroundings, put_back}
 use Rattle.vp_model.specs.Transactions.{Deed, last_writes, last_changes, entry_of, complete, decide}
@@ -125,6 +125,15 @@ module _ (catalogue : Catalogue) (x : SiteState) (t : Live) (number : ℕ) (live
       let p = handled 0 number words in
       let asked : ℕ → Deed = λ rec. Deed.operates (op.Write rec None) in
       ap (put_back (begin_step x)) (call_is catalogue x.id x.held t (lent_at x) number words live next idle ∙ record_is catalogue x.id x.held t (lent_at x) p name asked rec (change catalogue x.id x.held t p name asked) f refl n refl (rw (unbarred, held) refl))
+
+  pub weighs : (name : List ℕ) (table : Table) (rec : ℕ) → find_record catalogue name ≡ Some rec → nat_le 64 (length t.answers) ≡ false → is_too_large t (Deed.weighs rec table) ≡ false → has_holders catalogue rec table ≡ true → accessible_by table (members_in x.held) ≡ true → value_at rec x.bars ≡ None → list_any (has (members_in x.held)) (holders catalogue rec) ≡ true
+      → step catalogue x (input.Call 0 (call.Weigh t.txn number name table)) ≡ put_back (begin_step x) (change catalogue x.id x.held t (handled 0 number (call.Weigh t.txn number name table)) name (λ rec. Deed.weighs rec table) rec (lent_at x))
+  unfolding step on_input on_call own_call new_call new_change
+  weighs name table rec f n small fits enough unbarred held =
+      let words = call.Weigh t.txn number name table in
+      let p = handled 0 number words in
+      let asked : ℕ → Deed = λ rec. Deed.weighs rec table in
+      ap (put_back (begin_step x)) (call_is catalogue x.id x.held t (lent_at x) number words live next idle ∙ record_is catalogue x.id x.held t (lent_at x) p name asked rec (change catalogue x.id x.held t p name asked) f (rw fits refl) n small (rw (enough, unbarred, held) refl))
 
   pub commits : step catalogue x (input.Call 0 (call.Commit t.txn number)) ≡ put_back (begin_step x) (commit catalogue x.id t (handled 0 number (call.Commit t.txn number)) (lent_at x))
   unfolding step on_input on_call own_call new_call

@@ -32,8 +32,11 @@ use Rattle.vp_laws.proofs.Keeping.Known.{known_last}
 use Rattle.vp_progress.specs.Going.{serves}
 use Rattle.vp_progress.specs.Whole.{IsWhole}
 use Rattle.vp_progress.specs.Progress.{world_of}
-use Rattle.vp_progress.specs.Clients.{Wish, name_in, FitATransaction, IsServed}
+use Rattle.vp_progress.specs.Clients.{Wish, name_in, FitATransaction, IsServed, MayGive}
+use Rattle.vp_progress.proofs.Calm.{serves_since, since_serves, since_fresh, each_fresh}
+use Rattle.vp_progress.proofs.Can.{pass_by}
 use Rattle.vp_progress.proofs.Going.{world_goes_on, passing_flows_not}
+use Rattle.vp_progress.proofs.Started.{past_of}
 use Rattle.vp_progress.proofs.Held.{empty_from}
 use Rattle.vp_progress.proofs.Certain.{members_stand}
 use Rattle.vp_progress.proofs.Serving.Sites.{Rest, IsResting}
@@ -83,8 +86,13 @@ inside_grows a b sub (w ∷ ws) = go (has a w.0) refl (has b w.0) refl (inside_g
     go false e true f rest own other = rw (e, f) (omega (arith, rest, other))
     go false e false f rest own other = rw (e, f) rest
 
-table_grows : (t : Table) (a b : List ℕ) → ((k : ℕ) → Has a k → Has b k) → accessible_by t a ≡ true → accessible_by t b ≡ true
+pub table_grows : (t : Table) (a b : List ℕ) → ((k : ℕ) → Has a k → Has b k) → accessible_by t a ≡ true → accessible_by t b ≡ true
 table_grows t a b sub e = let more = inside_grows a b sub t in grind (arith, nat_tests, e, more)
+
+-- both of each
+pub all_both : {A : Type 0} (P Q : A → Type 0) (xs : List A) → AllByRecursion P xs → AllByRecursion Q xs → AllByRecursion (λ x. P x × Q x) xs
+all_both P Q [] p q = tt
+all_both P Q (x ∷ xs) p q = ((p.0, q.0), all_both P Q xs p.1 q.1)
 
 -- ---- what rests at a site
 
@@ -114,10 +122,10 @@ module _ (s : Schedule) (q : ℕ) (h : IsCatalogue s.catalogue) (whole : IsWhole
       let x = whole.sites k (has_test ns k m) in
       ap rest_in x.1 ∙ rw (x.2.locks, x.2.refresh, x.2.doubts, x.1) refl
 
-  resting : Resting s.catalogue ns whole.view q (has_from_test ns q here) (rest_of w) among members w.journal w
+  resting : Resting s.catalogue ns whole.view q (has_from_test ns q here) (rest_of w) among members (past_of w) w
   resting = record {
     known = in_last s.catalogue (Known s.catalogue) (known_last s.catalogue) s.events;
-    joined = λ a b m n. whole.joined a b (has_test ns a m) (has_test ns b n);
+    stand = record { joined = λ a b m n. whole.joined a b (has_test ns a m) (has_test ns b n); grown = omega arith };
     same = refl;
     rests = λ k m. let x = whole.sites k (has_test ns k m) in (x.0, x.1, subst (λ (r : Rest). IsResting whole.view r x.0) (sym (nothing k m)) (record { held = x.2.held; live = x.2.live; parts = x.2.parts; refresh = x.2.refresh; doubts = x.2.doubts; bars = ap (λ (o : Option SiteState). (rest_in o).bars) (sym x.1); locks = λ l there. subst (λ (ls : List Lock). Has ls l) x.2.locks there }));
   }
@@ -154,18 +162,24 @@ module _ (s : Schedule) (q : ℕ) (h : IsCatalogue s.catalogue) (whole : IsWhole
     quiet = λ k m. ap (λ (r : Rest). refreshing_of rec r.refresh) (nothing k m);
   }
 
-  grantable : (wish : Wish) → is_some (find_record s.catalogue (name_in wish)) ≡ true → Grantable s.catalogue ns whole.view q (has_from_test ns q here) (rest_of w) among members w.journal wish
-  grantable wish e = go (find_record s.catalogue (name_in wish)) refl e
-    where
-      go : (o : Option ℕ) → find_record s.catalogue (name_in wish) ≡ o → is_some o ≡ true → Grantable s.catalogue ns whole.view q (has_from_test ns q here) (rest_of w) among members w.journal wish
-      go None f g = cc
-      go (Some rec) f g = (rec, f, free rec (name_in wish) f)
+  widened : (wish : Wish) → MayGive s.catalogue ns wish → MayGive s.catalogue whole.view.members wish
+  widened (Wish.weigh name table) may = (may.0, table_grows table ns whole.view.members members may.1)
+  widened (Wish.read name) may = tt
+  widened (Wish.write name value) may = tt
+  widened (Wish.delete name) may = tt
 
-  whole_after : (entry : Commit) (new : WorldState) → Committed s.catalogue ns whole.view q (has_from_test ns q here) (rest_of w) among members w.journal entry new → IsWhole s.catalogue new
+  grantable : (wish : Wish) → (is_some (find_record s.catalogue (name_in wish)) ≡ true) × MayGive s.catalogue ns wish → Grantable s.catalogue ns whole.view q (has_from_test ns q here) (rest_of w) among members (past_of w) wish
+  grantable wish e = go (find_record s.catalogue (name_in wish)) refl e.0
+    where
+      go : (o : Option ℕ) → find_record s.catalogue (name_in wish) ≡ o → is_some o ≡ true → Grantable s.catalogue ns whole.view q (has_from_test ns q here) (rest_of w) among members (past_of w) wish
+      go None f g = cc
+      go (Some rec) f g = (rec, f, free rec (name_in wish) f, widened wish e.1)
+
+  whole_after : (entry : Commit) (new : WorldState) → Committed s.catalogue ns whole.view q (has_from_test ns q here) (rest_of w) among members (past_of w) entry new → IsWhole s.catalogue new
   whole_after entry new c = record {
     view = whole.view;
     members = whole.members;
-    joined = λ a b m n. c.joined a b (has_from_test ns a m) (has_from_test ns b n);
+    joined = λ a b m n. c.stand.joined a b (has_from_test ns a m) (has_from_test ns b n);
     sites = λ k m.
         let here = has_from_test ns k m in
         let x = c.rests k here in
@@ -173,16 +187,19 @@ module _ (s : Schedule) (q : ℕ) (h : IsCatalogue s.catalogue) (whole : IsWhole
         (x.0, x.1, record { held = r.held; locks = empty_from x.0.locks (λ l there. has_none l (r.locks l there)); refresh = r.refresh; live = r.live; parts = r.parts; doubts = r.doubts });
   }
 
-  pub served : (x : SiteState) (wishes : List Wish) → site_of w q ≡ Some x → x.seq < 2 ^ 32 - 1 → FitATransaction wishes → AllByRecursion (λ wish. is_some (find_record s.catalogue (name_in wish)) ≡ true) wishes → IsServed s ns q wishes (IsWhole s.catalogue)
-  served x wishes up left fits named =
-      let c = serves_all s.catalogue ns whole.view q (has_from_test ns q here) (rest_of w) among members w.journal wishes w resting x up left fits (all_each _ _ grantable wishes named) in
-      let is = world_goes_on s c.events (passing_flows_not s.catalogue (serves q ns) (λ w count. refl) c.events w c.passing) in
+  pub served : (x : SiteState) (wishes : List Wish) → site_of w q ≡ Some x → x.seq < 2 ^ 32 - 1 → FitATransaction wishes → AllByRecursion (λ wish. is_some (find_record s.catalogue (name_in wish)) ≡ true) wishes → AllByRecursion (MayGive s.catalogue ns) wishes → IsServed s ns q wishes (IsWhole s.catalogue)
+  served x wishes up left fits named gives =
+      let c = serves_all s.catalogue ns whole.view q (has_from_test ns q here) (rest_of w) among members (past_of w) wishes w resting x up left fits (all_each _ _ grantable wishes (all_both _ _ wishes named gives)) in
+      let is = world_goes_on s c.events (passing_flows_not s.catalogue (serves_since (length w.sent) q ns) (λ w count. refl) c.events w c.passing) in
       record {
         more = c.events;
-        serving = c.passing;
+        serving = pass_by s.catalogue (serves_since (length w.sent) q ns) (serves q ns) (since_serves (length w.sent) q ns) c.events w c.passing;
+        fresh = each_fresh s.catalogue (serves_since (length w.sent) q ns) (length w.sent) (since_fresh (length w.sent) q ns) c.events w c.passing;
         entry = c.so.entry;
         own = c.so.own;
+        deeds = c.so.deeds;
         fulfilled = c.so.fulfilled;
+        ops = c.so.ops;
         tables = c.so.tables;
         journal = ap (λ (w : WorldState). w.journal) is ∙ c.so.committed.same;
         after = subst (IsWhole s.catalogue) (sym is) (whole_after c.so.entry _ c.so.committed);

@@ -1,5 +1,5 @@
 -- The worlds in which a transaction goes on among the sites of one view, and how one step at its site or at another one carries it on.
-use Rattle.std.proofs.Common.{◌≡◌, ◌≢◌, ◌⊎◌, ◌∙◌, ap, sym, subst, ℕ, false, List, [], ◌++◌, refl, arith, ⊎_elim, inl, inr, append-nil}
+use Rattle.std.proofs.Common.{◌≡◌, ◌≢◌, ◌⊎◌, ◌∙◌, ap, sym, subst, ℕ, ◌≤◌, false, List, [], ◌++◌, length, refl, arith, ⊎_elim, inl, inr, append-nil}
 use Rattle.std.specs.Prelude.{Some, None}
 use Rattle.std.specs.List.{list_any}
 use Rattle.vp_model.specs.Types.{TxnId, View, Commit, Sent, Call, Message, Lock, Live}
@@ -17,10 +17,11 @@ use Rattle.vp_laws.proofs.Moves.LocalViews.{letter}
 use Rattle.vp_laws.proofs.Worlds.Scenes.{scene_of}
 use Rattle.vp_laws.proofs.Journal.Changed.{HasChanged}
 use Rattle.vp_laws.proofs.Invariant.Known.{Known}
-use Rattle.vp_progress.specs.Going.{is_regroup, serves}
+use Rattle.vp_progress.specs.Going.{is_regroup}
+use Rattle.vp_progress.proofs.Calm.{serves_since}
 use Rattle.vp_progress.proofs.Can.{Can, can_now}
-use Rattle.vp_progress.proofs.Acts.{Did, by_call, by_delivery}
-use Rattle.vp_progress.proofs.Started.{AreJoined}
+use Rattle.vp_progress.proofs.Acts.{Did, Since, grows_since, stays_since, sends_since, by_call, by_delivery}
+use Rattle.vp_progress.proofs.Started.{AreJoined, Past}
 use Rattle.vp_progress.proofs.Based.{other_as}
 use Rattle.vp_progress.proofs.Serving.Parts.{Takes}
 use Rattle.vp_progress.proofs.Serving.Sites.{Rest, IsResting, Lends, Leads, LeadsOn, leads_on, Gives}
@@ -28,6 +29,11 @@ use Rattle.vp_progress.proofs.Serving.Sites.{Rest, IsResting, Lends, Leads, Lead
 -- the transaction has a part at the site, or is in doubt there
 abbrev pub TakesAt : TxnId → ℕ → WorldState → Type 0
 TakesAt txn k w = (x : SiteState) × (site_of w k ≡ Some x) × Takes txn x
+
+-- no pair of these sites is cut, and at least so many messages are sent
+pub record Stand (told : ℕ) (ns : List ℕ) (w : WorldState) : Type 0 where
+  pub joined : AreJoined ns w
+  pub grown : told ≤ length w.sent
 
 module _ (catalogue : Catalogue) (ns : List ℕ) (v : View) (q : ℕ) (rest : ℕ → Rest) (among : (k : ℕ) → Has v.members k → Has ns k) where
   -- a member holds the record, no bar is on it, and nothing of it rests at a site
@@ -45,10 +51,10 @@ module _ (catalogue : Catalogue) (ns : List ℕ) (v : View) (q : ℕ) (rest : �
     pub part : Has t.parts k → Has missing k ⊎ Takes t.txn at
     pub rests : (Has t.parts k → ⊥) → IsResting v (rest k) at
 
-  pub record Serving (journal : List Commit) (t : Live) (missing : List ℕ) (w : WorldState) : Type 0 where
+  pub record Serving (past : Past) (t : Live) (missing : List ℕ) (w : WorldState) : Type 0 where
     pub known : Known catalogue (scene_of w)
-    pub joined : AreJoined ns w
-    pub same : w.journal ≡ journal
+    pub stand : Stand past.told ns w
+    pub same : w.journal ≡ past.entries
     pub at : SiteState
     pub up : site_of w q ≡ Some at
     pub leads : Leads v (rest q) t at
@@ -58,22 +64,22 @@ module _ (catalogue : Catalogue) (ns : List ℕ) (v : View) (q : ℕ) (rest : �
 
   -- ---- events
 
-  module _ (Q : WorldState → Type 0) (w : WorldState) (known : Known catalogue (scene_of w)) where
-    pub calls : (x : SiteState) → site_of w q ≡ Some x → (words : Call) → is_regroup words ≡ false → ((new : WorldState) → Known catalogue (scene_of new) → Did w new q x (step catalogue x (input.Call 0 words)) → Can catalogue (serves q ns) new Q) → Can catalogue (serves q ns) w Q
-    calls x up words e f = by_call catalogue (serves q ns) Q w q x known up words (rw (eq_self q, e) refl) f
+  module _ (told : ℕ) (Q : WorldState → Type 0) (w : WorldState) (known : Known catalogue (scene_of w)) where
+    pub calls : (x : SiteState) → site_of w q ≡ Some x → (words : Call) → is_regroup words ≡ false → ((new : WorldState) → Known catalogue (scene_of new) → Did w new q x (step catalogue x (input.Call 0 words)) → Can catalogue (serves_since told q ns) new Q) → Can catalogue (serves_since told q ns) w Q
+    calls x up words e f = by_call catalogue (serves_since told q ns) Q w q x known up words (rw (eq_self q, e) refl) f
 
-    pub comes : (k : ℕ) (x : SiteState) → Has ns k → site_of w k ≡ Some x → (from : ℕ) (words : Message) → Has w.sent (letter from k words) → Has ns from → AreJoined ns w → ((new : WorldState) → Known catalogue (scene_of new) → Did w new k x (step catalogue x (input.Message from words)) → Can catalogue (serves q ns) new Q) → Can catalogue (serves q ns) w Q
-    comes k x here up from words sent there joined f = by_delivery catalogue (serves q ns) Q w k x known up from words sent (joined from k there here) (λ n e. rw (e, has_test ns from there, has_test ns k here) refl) f
+    pub comes : (k : ℕ) (x : SiteState) → Has ns k → site_of w k ≡ Some x → (from : ℕ) (words : Message) → Since told w (letter from k words) → Has ns from → Stand told ns w → ((new : WorldState) → Known catalogue (scene_of new) → Did w new k x (step catalogue x (input.Message from words)) → Can catalogue (serves_since told q ns) new Q) → Can catalogue (serves_since told q ns) w Q
+    comes k x here up from words sent there stand f = by_delivery catalogue (serves_since told q ns) Q w k x known up told from words sent (stand.joined from k there here) (λ n l e. rw (l, e, has_test ns from there, has_test ns k here) refl) f
 
-  pub still_joined : (w new : WorldState) (s : ℕ) (x : SiteState) (o : Stepped) → AreJoined ns w → Did w new s x o → AreJoined ns new
-  still_joined w new s x o joined d a b p r = ap (list_any (same_pair a b)) d.cuts ∙ joined a b p r
+  pub still_stand : (told : ℕ) (w new : WorldState) (s : ℕ) (x : SiteState) (o : Stepped) → Stand told ns w → Did w new s x o → Stand told ns new
+  still_stand told w new s x o stand d = record { joined = λ a b p r. ap (list_any (same_pair a b)) d.cuts ∙ stand.joined a b p r; grown = grows_since told stand.grown d }
 
   pub same_journal : (w new : WorldState) (s : ℕ) (x : SiteState) (o : Stepped) (journal more : List Commit) → w.journal ≡ journal → Did w new s x o → o.effects.commits ≡ more → new.journal ≡ journal ++ more
   same_journal w new s x o journal more same d e = d.acted.journal ∙ ap (λ (cs : List Commit). cs ++ o.effects.commits) same ∙ ap (λ (cs : List Commit). journal ++ cs) e
 
-  module _ (journal : List Commit) where
+  module _ (past : Past) where
     abbrev pub Goes : Live → List ℕ → WorldState → Type 0
-    Goes t missing w = Serving journal t missing w
+    Goes t missing w = Serving past t missing w
 
     -- it is of the view, and its parts are at other sites of the view
     pub led_in : (t : Live) (missing : List ℕ) (w : WorldState) → Goes t missing w → (t.view ≡ v.id) × ((k : ℕ) → Has t.parts k → Has ns k × (k ≢ q))
@@ -87,8 +93,8 @@ module _ (catalogue : Catalogue) (ns : List ℕ) (v : View) (q : ℕ) (rest : �
     pub own_moves : (t now : Live) (missing left : List ℕ) (w new : WorldState) (f : Goes t missing w) (l : Lent) → Known catalogue (scene_of new) → Did w new q f.at (put_back (begin_step f.at) l) → LeadsOn (rest q) now l → now.txn ≡ t.txn → ((rec : ℕ) → HasChanged now rec → IsUnused rec) → ((k : ℕ) → Has t.parts k → Has now.parts k) → ((k : ℕ) → Has now.parts k → Has left k ⊎ TakesAt t.txn k w) → Goes now left new
     own_moves t now missing left w new f l known d g named free grows part = record {
       known = known;
-      joined = still_joined w new q f.at _ f.joined d;
-      same = same_journal w new q f.at _ journal [] f.same d g.commits ∙ append-nil journal;
+      stand = still_stand past.told w new q f.at _ f.stand d;
+      same = same_journal w new q f.at _ past.entries [] f.same d g.commits ∙ append-nil past.entries;
       at = (put_back (begin_step f.at) l).site;
       up = d.acted.now;
       leads = leads_on v (rest q) t now f.at l f.leads g;
@@ -111,8 +117,8 @@ module _ (catalogue : Catalogue) (ns : List ℕ) (v : View) (q : ℕ) (rest : �
     pub part_moves : (t : Live) (missing : List ℕ) (w new : WorldState) (k : ℕ) (x : SiteState) (o : Stepped) → Goes t missing w → Known catalogue (scene_of new) → k ≢ q → Did w new k x o → o.effects.commits ≡ [] → Has t.parts k → Lends v (rest k) t.txn o.site → Takes t.txn o.site → Goes t missing new
     part_moves t missing w new k x o f known n d e part lends takes = record {
       known = known;
-      joined = still_joined w new k x o f.joined d;
-      same = same_journal w new k x o journal [] f.same d e ∙ append-nil journal;
+      stand = still_stand past.told w new k x o f.stand d;
+      same = same_journal w new k x o past.entries [] f.same d e ∙ append-nil past.entries;
       at = f.at;
       up = other_as d q (λ same. n (sym same)) ∙ f.up;
       leads = f.leads;
@@ -127,18 +133,18 @@ module _ (catalogue : Catalogue) (ns : List ℕ) (v : View) (q : ℕ) (rest : �
     pub record Exchanged (t : Live) (missing : List ℕ) (k : ℕ) (answer : Message) (w new : WorldState) : Type 0 where
       pub serving : Goes t missing new
       pub takes : TakesAt t.txn k new
-      pub answered : Has new.sent (letter k q answer)
-      pub sent : (m : Sent) → Has w.sent m → Has new.sent m
+      pub answered : Since past.told new (letter k q answer)
+      pub sent : (m : Sent) → Since past.told w m → Since past.told new m
 
     -- a message to a part comes, and leaves the part there with an answer
-    pub exchanges : (lead : Has ns q) (t : Live) (missing : List ℕ) (w : WorldState) (k : ℕ) (here : Has ns k) (n : k ≢ q) (f : Goes t missing w) → Has t.parts k → (words answer : Message) → Has w.sent (letter q k words)
-        → Gives v (rest k) t.txn (f.others k here n).at (f.others k here n).lends q answer (step catalogue (f.others k here n).at (input.Message q words)) → Can catalogue (serves q ns) w (Exchanged t missing k answer w)
+    pub exchanges : (lead : Has ns q) (t : Live) (missing : List ℕ) (w : WorldState) (k : ℕ) (here : Has ns k) (n : k ≢ q) (f : Goes t missing w) → Has t.parts k → (words answer : Message) → Since past.told w (letter q k words)
+        → Gives v (rest k) t.txn (f.others k here n).at (f.others k here n).lends q answer (step catalogue (f.others k here n).at (input.Message q words)) → Can catalogue (serves_since past.told q ns) w (Exchanged t missing k answer w)
     exchanges lead t missing w k here n f part words answer sent row =
         let g = f.others k here n in
-        comes (Exchanged t missing k answer w) w f.known k g.at here g.up q words sent lead f.joined
-        λ new known d. can_now catalogue (serves q ns) _ new (record {
+        comes past.told (Exchanged t missing k answer w) w f.known k g.at here g.up q words sent lead f.stand
+        λ new known d. can_now catalogue (serves_since past.told q ns) _ new (record {
           serving = part_moves t missing w new k g.at _ f known n d row.commits part row.lends row.takes;
           takes = (_, d.acted.now, row.takes);
-          answered = d.acted.sends _ (subst (λ (s : ℕ). Has (step catalogue g.at (input.Message q words)).effects.messages (letter s q answer)) (f.known.views.site k g.at g.up).id row.says);
-          sent = d.acted.moved.sent;
+          answered = sends_since past.told f.stand.grown d _ (subst (λ (s : ℕ). Has (step catalogue g.at (input.Message q words)).effects.messages (letter s q answer)) (f.known.views.site k g.at g.up).id row.says);
+          sent = stays_since past.told d;
         })
