@@ -106,7 +106,7 @@ def without_worked_schedules(copy):
     crate = copy / "crates/vp_model"
     (crate / "src/lib.rt").write_text((crate / "src/lib.rt").read_text().replace("pub mod worked;", ""))
     lib = crate / "proofs/Lib.antt"
-    kept = [line for line in lib.read_text().splitlines() if any(it in line for it in ("RunGrows", "SameTxn", "PlayedInParts")) or not line.startswith("pub mod")]
+    kept = [line for line in lib.read_text().splitlines() if any(it in line for it in ("RunGrows", "CountedSteps", "SameTxn", "PlayedInParts")) or not line.startswith("pub mod")]
     lib.write_text("\n".join(kept) + "\n")
     for name in ("worked", "Computed"):
         shutil.rmtree(crate / "proofs" / name)
@@ -150,11 +150,11 @@ def without_shapes(copy):
         replaced(crate / f"proofs/Table/{name}.antt", "Rattle.vp_records.proofs.Held", "Rattle.vp_laws.proofs.Lists.Held")
     crates = copy / "crates.txt"
     kept = [line for line in crates.read_text().splitlines() if line.split(":")[0] in CRATES]
-    crates.write_text("\n".join(re.sub(" vp_(wire|records|bytes)", "", line) for line in kept) + "\n")
+    crates.write_text("\n".join(re.sub(" vp_(wire|records|contents|bytes)", "", line) for line in kept) + "\n")
 
 
 def without_catalogues(copy):
-    """Leaves of the crate of catalogues the law of majorities alone, and takes out the one law that stands on more of it."""
+    """Leaves of the crate of catalogues the law of majorities alone, and takes out the laws that are on more of it."""
     crate = copy / "crates/vp_catalog"
     kept = {"src": ["lib", "entry", "fault", "majority", "placed"], "proofs": ["Lib", "Majorities", "majority", "Onward", "placed"]}
     for part, names in kept.items():
@@ -166,7 +166,8 @@ def without_catalogues(copy):
         lib.write_text("".join(line + "\n" for line in lib.read_text().splitlines() if not gone.match(line)))
     shutil.rmtree(crate / "must-fail", ignore_errors=True)
     laws = copy / "crates/vp_laws"
-    without_claim(laws / "src/claims.rt", "sites_are_apart")
+    for name in ("sites_are_apart", "catalogues_are_whole"):
+        without_claim(laws / "src/claims.rt", name)
     (laws / "proofs/Lists/Catalogues.antt").unlink()
     replaced(laws / "proofs/Lists.antt", "pub mod Catalogues\n", "")
 
