@@ -5,7 +5,7 @@ use Rattle.vp_model.specs.Types.{TxnId, ViewId, View, Answer, Reply, Commit, Inp
 use Rattle.vp_base.specs.declared.site.Ending.TheVariants.{Committed, Aborted, LockHeld, ViewChanged, TimedOut, Inaccessible}
 use Rattle.vp_model.specs.Types.answer
 use Rattle.vp_model.specs.Catalogue.{Catalogue}
-use Rattle.vp_model.specs.Headline.{begun_in}
+use Rattle.vp_model.specs.Headline.{view_begun}
 use Rattle.vp_model.specs.Site.{CoordinatorState, SiteState}
 use Rattle.vp_model.specs.Transactions.{answer_of, deed_answer, put_live, with_finished}
 use Rattle.vp_model.specs.Calls.{begun}
@@ -30,9 +30,9 @@ NoneBegun rs = (r : Reply) → Has rs r → begun_by r.answer ≡ None
 
 -- the views that the replies tell a transaction as it begins
 abbrev pub begun_among : TxnId → List Reply → List ViewId
-begun_among u rs = filter_map (begun_in u) (map (λ (r : Reply). r.answer) rs)
+begun_among u rs = filter_map (view_begun u) (map (λ (r : Reply). r.answer) rs)
 
-unbegun : (u : TxnId) (a : Answer) → begun_by a ≡ None → begun_in u a ≡ None
+unbegun : (u : TxnId) (a : Answer) → begun_by a ≡ None → view_begun u a ≡ None
 unbegun u (answer.Begun txn view) e = absurd cc
 unbegun u _ e = refl
 
@@ -64,8 +64,8 @@ end_none txn number (Inaccessible name inside total) = refl
 
 -- a step begins no transaction, or the next one
 pub data Begins (x : SiteState) (c : CoordinatorState) (rs : List Reply) : Type 0 where
-  none : c.seq ≡ x.seq → NoneBegun rs → Begins x c rs
-  one : (port : ℕ) (view : ViewId) (more : List Reply) → c.seq ≡ x.seq + 1 → rs ≡ told_to port (answer.Begun (next_name x) view) ∷ more → NoneBegun more → Begins x c rs
+  none_now : c.seq ≡ x.seq → NoneBegun rs → Begins x c rs
+  next_now : (port : ℕ) (view : ViewId) (more : List Reply) → c.seq ≡ x.seq + 1 → rs ≡ told_to port (answer.Begun (next_name x) view) ∷ more → NoneBegun more → Begins x c rs
 
 -- a live transaction was there before, in its view, or begins in it
 pub data LiveBegun (x : SiteState) (rs : List Reply) (t : Live) : Type 0 where
@@ -108,8 +108,12 @@ module _ (catalogue : Catalogue) (x : SiteState) (given : Input) (after : SiteSt
 
   -- more replies, none of which tells it, and fewer live transactions
   replies_more : (c now : CoordinatorState) (rs more : List Reply) → now.seq ≡ c.seq → NoneBegun more → Begins x c rs → Begins x now (rs ++ more)
-  replies_more c now rs more same quiet (Begins.none seq none) = Begins.none (same ∙ seq) (both rs more none quiet)
-  replies_more c now rs more same quiet (Begins.one port view rest seq is none) = Begins.one port view (rest ++ more) (same ∙ seq) (ap (λ (l : List Reply). l ++ more) is) (both rest more none quiet)
+  replies_more c now rs more same quiet (Begins.none_now seq none) = Begins.none_now (same ∙ seq) (both rs more none quiet)
+  replies_more c now rs more same quiet (Begins.next_now port view rest seq is none) = Begins.next_now port view (rest ++ more) (same ∙ seq) (ap (λ (l : List Reply). l ++ more) is) (both rest more none quiet)
+
+  replies_same : (c now : CoordinatorState) (rs : List Reply) → now.seq ≡ c.seq → Begins x c rs → Begins x now rs
+  replies_same c now rs same (Begins.none_now seq none) = Begins.none_now (same ∙ seq) none
+  replies_same c now rs same (Begins.next_now port view rest seq is none) = Begins.next_now port view rest (same ∙ seq) is none
 
   live_more : (rs more : List Reply) (t : Live) → NoneBegun more → LiveBegun x rs t → LiveBegun x (rs ++ more) t
   live_more rs more t quiet (LiveBegun.was u h a b) = LiveBegun.was u h a b
@@ -120,11 +124,11 @@ module _ (catalogue : Catalogue) (x : SiteState) (given : Input) (after : SiteSt
 
   -- no transaction begins
   stays : (c : CoordinatorState) (rs : List Reply) → c.seq ≡ x.seq → ((t : Live) → Has c.live t → Has x.live t) → NoneBegun rs → BegunNow x c rs
-  stays c rs same fewer quiet = record { replies = Begins.none same quiet; live = λ t h. LiveBegun.was t (fewer t h) refl refl }
+  stays c rs same fewer quiet = record { replies = Begins.none_now same quiet; live = λ t h. LiveBegun.was t (fewer t h) refl refl }
 
   moves : (t u : Live) (rs : List Reply) → Has x.live t → t.txn ≡ u.txn → t.view ≡ u.view → NoneBegun rs → BegunNow x (put_live u x.coordinator) rs
   moves t u rs there named viewed quiet = record {
-    replies = Begins.none refl quiet;
+    replies = Begins.none_now refl quiet;
     live = λ a h. ⊎_elim
         (λ (is : a ≡ u). LiveBegun.was t there (named ∙ ap (λ (t : Live). t.txn) (sym is)) (viewed ∙ ap (λ (t : Live). t.view) (sym is)))
         (λ old. LiveBegun.was a old.0 refl refl)
@@ -145,7 +149,7 @@ module _ (catalogue : Catalogue) (x : SiteState) (given : Input) (after : SiteSt
     begin = λ port view held c.
         let t = begun (next_name x) view.id in
         record {
-          replies = Begins.one port view.id [] refl refl nothing;
+          replies = Begins.next_now port view.id [] refl refl nothing;
           live = λ a h. ⊎_elim
               (λ old. LiveBegun.was a old refl refl)
               (λ (new : Has (t ∷ []) a). subst (LiveBegun x (told_to port (answer.Begun (next_name x) view.id) ∷ [])) (has_one_is t a new) (LiveBegun.begins port [] refl refl nothing))
@@ -158,7 +162,7 @@ module _ (catalogue : Catalogue) (x : SiteState) (given : Input) (after : SiteSt
     decide = λ t c n d w v f s. stays (with_finished t Committed c) (last_reply t Committed) s (λ a h. rw (← v) (without_first_has (named t.txn) c.live a h)) (last_none t Committed);
     close = λ t why c rs n w g. goes_on c (with_finished t why c) rs (last_reply t why) refl (λ a h. without_first_has (named t.txn) c.live a h) (last_none t why) g;
     marks = λ c rs g. record {
-      replies = g.replies;
+      replies = replies_same c (record c { live = map mark c.live }) rs refl g.replies;
       live = λ a h. let r = map_has mark c.live a h in subst (LiveBegun x rs) r.2 (marked rs r.0 (g.live r.0 r.1));
     };
     acknowledge = λ txn from. stays _ [] refl (λ a h. h) nothing;
@@ -171,8 +175,8 @@ begun-step catalogue x given kept apart =
 
 -- a reply tells it of the next name alone
 pub begins_next : (x : SiteState) (c : CoordinatorState) (rs : List Reply) → Begins x c rs → (r : Reply) (txn : TxnId) → Has rs r → begun_by r.answer ≡ Some txn → next_name x ≡ txn
-begins_next x c rs (Begins.none same none) r txn h b = absurd (let z = none r h in cc)
-begins_next x c rs (Begins.one port view more same is none) r txn h b = ⊎_elim
+begins_next x c rs (Begins.none_now same none) r txn h b = absurd (let z = none r h in cc)
+begins_next x c rs (Begins.next_now port view more same is none) r txn h b = ⊎_elim
     (λ (one : told_to port (answer.Begun (next_name x) view) ≡ r). let z = ap (λ (r : Reply). begun_by r.answer) one ∙ b in cc)
     (λ later. absurd (let z = none r later in cc))
     (has_cons (told_to port (answer.Begun (next_name x) view)) more r (subst (λ (l : List Reply). Has l r) is h))

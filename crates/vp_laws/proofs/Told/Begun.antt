@@ -6,7 +6,7 @@ use Rattle.std.proofs.lemmas.List.Elements.{All-from_recursion, filter_map-appen
 use Rattle.vp_model.specs.Types.{TxnId, ViewId, View, Answer, Commit, Event, Input, Line, Reply, Live}
 use Rattle.vp_model.specs.Catalogue.{Catalogue}
 use Rattle.vp_model.specs.Durable.{DurableState}
-use Rattle.vp_model.specs.Headline.{begun_in, views_told, is_of, is_in_its_view, commits_in, ViewsAreTrue}
+use Rattle.vp_model.specs.Headline.{view_begun, views_told, is_of, is_in_its_view, commits_in, ViewsAreTrue}
 use Rattle.vp_model.specs.Site.{SiteState, Stepped}
 use Rattle.vp_model.specs.Step.{step}
 use Rattle.vp_model.specs.Told.{is_step, answers_in, replies_in}
@@ -34,8 +34,8 @@ use Rattle.vp_laws.proofs.Keeping.NewEntries.{Entering, entering, entering_agree
 pub next_not_entered : (catalogue : Catalogue) (w : Scene) (s : ℕ) (x : SiteState) → Known catalogue w → plain_at w s ≡ Some x → (c : Commit) → Has w.journal c → c.txn ≢ next_name x
 next_not_entered catalogue w s x k up c h = fresh w s x up (k.views.site s x up).id c.txn (k.names.entry c h).0
 
-told_last : (lines : List Line) (l : Line) (u : TxnId) → views_told (lines ++ l ∷ []) u ≡ views_told lines u ++ filter_map (begun_in u) (answers_in l)
-told_last lines l u = ap (filter_map (begun_in u)) (flat_last answers_in lines l) ∙ filter_map-append (begun_in u) (flat_map answers_in lines) (answers_in l)
+told_last : (lines : List Line) (l : Line) (u : TxnId) → views_told (lines ++ l ∷ []) u ≡ views_told lines u ++ filter_map (view_begun u) (answers_in l)
+told_last lines l u = ap (filter_map (view_begun u)) (flat_last answers_in lines l) ∙ filter_map-append (view_begun u) (flat_map answers_in lines) (answers_in l)
 
 pub record ViewsAt (w : Scene) (lines : List Line) : Type 0 where
   -- of each live transaction its client was told one view, and it is in that
@@ -71,8 +71,8 @@ module _ (catalogue : Catalogue) (w : Scene) (lines : List Line) (l : Line) (s :
   others u n = same_told u (go b.replies)
     where
       go : Begins x o.site.coordinator o.effects.replies → begun_among u o.effects.replies ≡ []
-      go (Begins.none same none) = none_among u o.effects.replies none
-      go (Begins.one port view rest same is none) = ap (begun_among u) is ∙ others_among u (next_name x) view port rest n none
+      go (Begins.none_now same none) = none_among u o.effects.replies none
+      go (Begins.next_now port view rest same is none) = ap (begun_among u) is ∙ others_among u (next_name x) view port rest n none
 
   named_not : (t : Live) → Has x.live t → next_name x ≢ t.txn
   named_not t there e = fresh w s x up d.here.id t.txn (own_used w s x up d.here.id (ap (λ (d : DurableState). d.life) (sym d.here.kept)) d.led t there) (sym e)
@@ -108,8 +108,8 @@ module _ (catalogue : Catalogue) (w : Scene) (lines : List Line) (l : Line) (s :
   fresh_told u unused = go b.replies ∙ h.fresh u (λ used. unused (used_now u used))
     where
       go : Begins x o.site.coordinator o.effects.replies → views_told more u ≡ views_told lines u
-      go (Begins.none same none) = same_told u (none_among u o.effects.replies none)
-      go (Begins.one port view rest same is none) = others u (λ (e : next_name x ≡ u). unused (subst (UsedTxn new) e begins_used))
+      go (Begins.none_now same none) = same_told u (none_among u o.effects.replies none)
+      go (Begins.next_now port view rest same is none) = others u (λ (e : next_name x ≡ u). unused (subst (UsedTxn new) e begins_used))
         where
           life_now : x.life ≤ (kept_at new x.id).life
           life_now = subst (λ (j : ℕ). x.life ≤ (kept_at new j).life) (sym d.here.id) (subst (λ (n : ℕ). n ≤ (kept_at new s).life) (ap (λ (d : DurableState). d.life) (sym d.here.kept)) d.grows.life)
@@ -118,7 +118,7 @@ module _ (catalogue : Catalogue) (w : Scene) (lines : List Line) (l : Line) (s :
           rises = omega (arith, same)
 
           given_now : (y : SiteState) → plain_at new x.id ≡ Some y → x.seq + 1 ≤ y.seq
-          given_now y at = let there : plain_at new s ≡ Some y = rw (← d.here.id) at in let now = d.st.now in let is : o.site ≡ y = cc in subst (λ (y : SiteState). x.seq + 1 ≤ y.seq) is rises
+          given_now y at = let there : plain_at new s ≡ Some y = subst (λ (j : ℕ). plain_at new j ≡ Some y) d.here.id at in let now = d.st.now in let is : o.site ≡ y = cc in subst (λ (y : SiteState). x.seq + 1 ≤ y.seq) is rises
 
           begins_used : UsedTxn new (next_name x)
           begins_used = record { life = life_now; seq = λ y at lives. given_now y at }
@@ -168,18 +168,18 @@ occurred catalogue lines number e w m h (Occurs.restarts s place at down id same
 occurred catalogue lines number e w m h (Occurs.acts s x given v same up arrives gives is) =
     subst (λ (m : Moved). KnownViews catalogue (scene_of m.world) (lines ++ (moment number w e m).line ∷ [])) (sym is) (stepped catalogue lines number e w v s x given same up arrives h)
 
-views_last : (catalogue : Catalogue) → RunLasts catalogue (λ run. KnownViews catalogue (scene_of run.world) (lines_in run.moments))
-views_last catalogue = record { starts = (known_starts catalogue, nothing); steps = on }
-  where
-    nothing : ViewsAt (scene_of (start_world catalogue)) []
-    nothing = record { live = λ s x t up there. absurd (started_idle catalogue s x t up there); entries = λ e there. absurd (start_entered catalogue e there); fresh = λ u unused. refl }
+one_step-views : (catalogue : Catalogue) (number : ℕ) (e : Event) (run : Run) → KnownViews catalogue (scene_of run.world) (lines_in run.moments) → KnownViews catalogue (scene_of (one_step catalogue number e run).world) (lines_in (one_step catalogue number e run).moments)
+unfolding one_step
+one_step-views catalogue number e run h =
+    let moved = next catalogue e run.world in
+    let m0 = moment number run.world e moved in
+    subst (KnownViews catalogue (scene_of moved.world)) (sym (lines_last run.moments m0)) (occurred catalogue (lines_in run.moments) number e run.world moved h (occurs catalogue e run.world))
 
-    on : (number : ℕ) (e : Event) (run : Run) → KnownViews catalogue (scene_of run.world) (lines_in run.moments) → KnownViews catalogue (scene_of (one_step catalogue number e run).world) (lines_in (one_step catalogue number e run).moments)
-    unfolding one_step
-    on number e run h =
-        let moved = next catalogue e run.world in
-        let m0 = moment number run.world e moved in
-        subst (KnownViews catalogue (scene_of moved.world)) (sym (lines_last run.moments m0)) (occurred catalogue (lines_in run.moments) number e run.world moved h (occurs catalogue e run.world))
+start_views : (catalogue : Catalogue) → ViewsAt (scene_of (start_world catalogue)) []
+start_views catalogue = record { live = λ s x t up there. absurd (started_idle catalogue s x t up there); entries = λ e there. absurd (start_entered catalogue e there); fresh = λ u unused. refl }
+
+views_last : (catalogue : Catalogue) → RunLasts catalogue (λ run. KnownViews catalogue (scene_of run.world) (lines_in run.moments))
+views_last catalogue = record { starts = (known_starts catalogue, start_views catalogue); steps = λ number e run h. one_step-views catalogue number e run h }
 
 -- the coordinator of a new entry holds its view, and that is agreed
 held_at : (s : Schedule) (m : Moment) → Has (moments_of s) m → (e : Commit) → Has (commits_in m.line.shown) e → is_in_its_view m.before e ≡ true
