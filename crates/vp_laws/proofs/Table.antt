@@ -34,3 +34,4 @@ pub mod Unlisted
 pub mod Told
 pub mod Covered
 pub mod Reports
+pub mod Begun

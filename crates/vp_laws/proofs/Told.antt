@@ -5,6 +5,7 @@ pub mod Moves
 pub mod Runs
 pub mod Untold
 pub mod FairTold
+pub mod Begun
 pub mod OneCopy
 pub mod InOpening
 pub mod ReportsFit

@@ -31,6 +31,7 @@ pub mod OwnTable
 pub mod Chain
 pub mod BadTable
 pub mod Absent
+pub mod MovedEntry
 use Rattle.vp_model.specs.Durable.{apply}
 use Rattle.vp_model.specs.Transactions.{finish, close, keep_writes, decided, decide, complete}
 use Rattle.vp_model.specs.Refresh.{take_newer, unlist, end_refresh, settle_one, settle, start_refresh}

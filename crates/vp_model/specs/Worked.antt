@@ -32,6 +32,7 @@ pub mod OwnTable
 pub mod Chain
 pub mod BadTable
 pub mod Absent
+pub mod MovedEntry
 use Rattle.std.specs.Prelude.{ℕ, List, [], None}
 use Rattle.vp_model.specs.Types.puts
 use Rattle.vp_model.specs.Types.{ViewId, TxnId, Change, Op, Commit, Message, Sent, Answer, Reply, Event, Shown, Line}

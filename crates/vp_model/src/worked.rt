@@ -1,7 +1,7 @@
 //! Worked schedules: the lines of each are exactly the ones given. Of an answer it is also said whether it is justified, and why a
 //! false one isn't.
 
-ghost use Rattle.std.specs.Prelude.{◌≡◌, flat_map, true, false, [], ◌++◌, Some, None, codes, drop, take, map};
+ghost use Rattle.std.specs.Prelude.{◌≡◌, flat_map, true, false, [], ◌∷◌, ◌++◌, Some, None, IsSome, codes, drop, take, map};
 ghost use Rattle.vp_model.specs.Types.answer;
 ghost use Rattle.vp_model.specs.Types.call;
 ghost use Rattle.vp_model.specs.Types.counted;
@@ -9,9 +9,10 @@ ghost use Rattle.vp_model.specs.Types.event;
 ghost use Rattle.vp_model.specs.Types.input;
 ghost use Rattle.vp_model.specs.Types.shown;
 ghost use Rattle.vp_model.specs.Step.{step};
-ghost use Rattle.vp_model.specs.World.{numbered_lines, journal_of, lines_of, next};
+ghost use Rattle.vp_model.specs.World.{numbered_lines, journal_of, lines_of, next, run_of};
+ghost use Rattle.vp_model.specs.Catalogue.{start_values};
 ghost use Rattle.vp_model.specs.Told.{told, answers_in};
-ghost use Rattle.vp_model.specs.OneCopy.{order};
+ghost use Rattle.vp_model.specs.OneCopy.{serial, order};
 ghost use Rattle.vp_model.specs.Worked.FirstRun as first_run;
 ghost use Rattle.vp_model.specs.Worked.TwoOfThree as two_of_three;
 ghost use Rattle.vp_model.specs.Worked.ExactlyHalf as exactly_half;
@@ -45,12 +46,13 @@ ghost use Rattle.vp_model.specs.Worked.BadTable as bad_table;
 ghost use Rattle.vp_model.specs.Worked.OwnTable as own_table;
 ghost use Rattle.vp_model.specs.Worked.Weighed as weighed;
 ghost use Rattle.vp_model.specs.Worked.Chain as chain;
+ghost use Rattle.vp_model.specs.Worked.MovedEntry as moved_entry;
 ghost use Rattle.vp_model.specs.Texts.Trace.{trace_text, printed_lines};
 ghost use Rattle.vp_model.specs.Texts.History.{history_text};
 ghost use Rattle.vp_model.specs.Limits.{limit_reached, lines_within};
 ghost use Rattle.vp_model.specs.Generated.{made, made_within, limit_made};
 ghost use Rattle.vp_model.specs.Worked.{txn};
-ghost use Rattle.vp_model.specs.Headline.{IsSerial, CopiesAreTrue, EndsAreTrue, RefusalsAreJustified};
+ghost use Rattle.vp_model.specs.Headline.{IsSerial, CopiesAreTrue, EndsAreTrue, RefusalsAreJustified, views_told, is_in_its_view};
 
 /// Two transactions of one site, one after the other: the second reads what the first wrote.
 pub fn first_run()
@@ -404,4 +406,13 @@ pub fn barred()
     ensures answers { flat_map answers_in (lines_of barred.schedule) ≡ barred.answers }
     ensures refusals { RefusalsAreJustified barred.schedule }
     ensures ends { EndsAreTrue barred.schedule }
+{}
+
+/// An entry in another view than its client was told and its site held is serial, but not in its view.
+pub fn moved_entry()
+    ensures journal { journal_of moved_entry.schedule ≡ moved_entry.entry ∷ [] }
+    ensures serial { IsSome (serial (start_values moved_entry.schedule.catalogue) (order (moved_entry.moved ∷ []))) }
+    ensures told { views_told (lines_of moved_entry.schedule) (txn 1 1 1) ≡ moved_entry.entry.view ∷ [] }
+    ensures held { is_in_its_view (run_of moved_entry.uncommitted).world moved_entry.entry ≡ true }
+    ensures another { is_in_its_view (run_of moved_entry.uncommitted).world moved_entry.moved ≡ false }
 {}

@@ -9,11 +9,11 @@ use Rattle.vp_runs.specs.Keeping.{durable_in}
 use Rattle.vp_laws.specs.Catalogues.{IsWhole}
 use Rattle.vp_laws.proofs.Lists.Catalogues.{whole_catalogue}
 use Rattle.vp_laws.proofs.Lists.Members.{Has, has_none, has_first, has_more, has_of}
-use Rattle.vp_laws.proofs.Told.OneCopy.{one_copy_told}
+use Rattle.vp_timely.proofs.Sound.{all_sound}
 use Rattle.vp_runs.proofs.Through.{starts_at}
 use Rattle.vp_network.specs.Cluster.{Process, ClusterState, new_process, new_cluster, process_of, cluster}
 use Rattle.vp_network.specs.Schedules.{IsAt, IsScheduleOf}
-use Rattle.vp_network.specs.Laws.{ClustersAreSchedules, ClustersAreOneCopy}
+use Rattle.vp_network.specs.Laws.{ClustersAreSchedules, ClustersAreSound}
 use Rattle.vp_network.proofs.Extending.{run_over}
 use Rattle.vp_network.proofs.Linked.{process-id, Matches, AllPlaced}
 use Rattle.vp_network.proofs.Held.{Held, world_is}
@@ -78,7 +78,7 @@ clusters_are_schedules catalogue happenings k may =
     let h = all_happen catalogue k happenings (new_cluster catalogue) (begins catalogue) may in
     (record { catalogue = catalogue; events = h.events }, held_is catalogue k (cluster catalogue happenings) h)
 
-pub clusters_are_one_copy : ClustersAreOneCopy
-clusters_are_one_copy catalogue happenings k may =
+pub clusters_are_sound : ClustersAreSound
+clusters_are_sound catalogue happenings k may =
     let s = clusters_are_schedules catalogue happenings k may in
-    (s.0, s.1, one_copy_told s.0 (subst IsWhole (sym s.1.over) (whole_catalogue catalogue k.so_far)))
+    (s.0, s.1, all_sound s.0 (subst IsWhole (sym s.1.over) (whole_catalogue catalogue k.so_far)))

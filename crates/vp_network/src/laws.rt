@@ -1,6 +1,6 @@
 //! The laws of clusters, as the contracts of functions that do nothing.
 
-ghost use Rattle.vp_network.specs.Laws.{ClustersAreSchedules, ClustersAreOneCopy};
+ghost use Rattle.vp_network.specs.Laws.{ClustersAreSchedules, ClustersAreSound};
 ghost use Rattle.vp_network.specs.Nodes.{ProcessesAreNodes};
 ghost use Rattle.vp_network.specs.Lives.{RunsHappen};
 ghost use Rattle.vp_network.specs.Ends.{LivesFollow, RunsBreak, RunsEnd};
@@ -15,9 +15,10 @@ pub fn clusters_are_schedules()
     ensures { ClustersAreSchedules }
 {}
 
-/// So the processes of a cluster are one copy (Bernstein, Hadzilacos and Goodman 1987, chapter 8).
-pub fn clusters_are_one_copy()
-    ensures { ClustersAreOneCopy }
+/// So the processes of a cluster are one copy (Bernstein, Hadzilacos and Goodman 1987, chapter 8), also where transactions change weights; its
+/// sites agree, and its commits come in time.
+pub fn clusters_are_sound()
+    ensures { ClustersAreSound }
 {}
 
 /// The commits of the processes are a serial run on one copy, each transaction once, and the ends in the answers to clients are true.

@@ -6,7 +6,7 @@ mod laws;
 mod worked;
 
 pub use laws::{
-    clusters_are_one_copy, clusters_are_schedules, clusters_are_serial, clusters_come_in_time,
+    clusters_are_schedules, clusters_are_serial, clusters_are_sound, clusters_come_in_time,
     handed_replies_answer, lives_follow, processes_are_apart, processes_are_nodes,
     processes_make_clusters, replies_answer_calls, runs_break, runs_end, runs_happen,
 };

@@ -34,7 +34,8 @@ use Rattle.vp_progress.proofs.Going.{world_goes_on, passing_flows_not}
 use Rattle.vp_progress.proofs.Meetings.{meet}
 use Rattle.vp_progress.proofs.Doubts.{doubts_kept}
 use Rattle.vp_progress.proofs.Returned.{left_after}
-use Rattle.vp_progress.proofs.Short.{InvShort, short_last, table_of_all, all_sites, majority_stands}
+use Rattle.vp_laws.proofs.Order.Short.{InvShort, short_last}
+use Rattle.vp_progress.proofs.Short.{table_of_all, all_sites, majority_stands}
 use Rattle.vp_progress.proofs.Serving.Served.{table_grows}
 use Rattle.vp_progress.proofs.Serving.Among.{served_among}
 

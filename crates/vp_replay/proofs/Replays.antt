@@ -8,13 +8,9 @@ use Rattle.vp_model.specs.World.{Schedule}
 use Rattle.vp_model.specs.Texts.Trace.{trace_text}
 use Rattle.vp_model.specs.Texts.History.{history_lines}
 use Rattle.vp_schedule.specs.Document.{IsSchedule}
-use Rattle.vp_laws.proofs.Told.OneCopy.{one_copy_told}
 use Rattle.vp_laws.specs.Catalogues.{IsWhole}
 use Rattle.vp_laws.proofs.Lists.Catalogues.{whole_catalogue}
-use Rattle.vp_laws.proofs.Words.Views.{each, onward}
-use Rattle.vp_laws.proofs.Words.Decisions.{decisions_agreed}
-use Rattle.vp_laws.proofs.Words.Weighed.{schedule_weighed}
-use Rattle.vp_timely.proofs.AllTimely.{all_timely}
+use Rattle.vp_timely.proofs.Sound.{all_sound}
 use Rattle.vp_cluster.specs.Ran.{Runs}
 use Rattle.vp_cluster.specs.declared.cluster.Ran.{Ran}
 use Rattle.vp_replay.specs.Replayed.{IsDone}
@@ -27,10 +23,7 @@ pub replay_is_done : (s : Schedule) (ran : Ran) (mid text : List ℕ) → IsSche
 replay_is_done s ran mid text schedule runs e = record {
   whole = runs.0;
   printed = e ∙ ap (λ t. t ++ ended s.catalogue ran.commits) runs.1 ∙ ap (λ journal. trace_text s ++ ended s.catalogue journal) runs.2;
-  one_copy = one_copy_told s whole_is;
-  weighed = schedule_weighed s whole_is;
-  sites_agree = record { views = each s; onward = onward s; decisions = decisions_agreed s whole_is };
-  timely = all_timely s whole_is;
+  sound = all_sound s whole_is;
 }
   where
     whole_is : IsWhole s.catalogue

@@ -1,15 +1,11 @@
 -- What the replay of a schedule prints.
 use Rattle.std.specs.Prelude.{◌≡◌, ℕ, List, ◌++◌, Some, None}
-use Rattle.std.specs.List.{Contains}
 use Rattle.vp_model.specs.Types.{Counted}
-use Rattle.vp_model.specs.World.{Schedule, Moment, run_of, moments_of, journal_of}
-use Rattle.vp_model.specs.Headline.{IsOneCopy, IsWeighed}
+use Rattle.vp_model.specs.World.{Schedule}
 use Rattle.vp_model.specs.Limits.{world_limits, limit_reached, trace_text_within}
 use Rattle.vp_model.specs.Texts.Trace.{trace_text}
 use Rattle.vp_model.specs.Texts.History.{history_text}
-use Rattle.vp_laws.specs.Agreement.{ViewsAgree, ViewsGoOn}
-use Rattle.vp_laws.specs.Decisions.{DecisionsAgree}
-use Rattle.vp_timely.specs.Timely.{IsTimely}
+use Rattle.vp_timely.specs.Sound.{IsSound}
 pub use Rattle.vp_refusals.specs.PlayAnswers.{IsPlayed, Tells, IsRefused, IsPlayAnswer}
 use Rattle.vp_status.specs.Refused.{limit_text}
 use Rattle.vp_status.specs.declared.status.Status.{Status}
@@ -18,24 +14,11 @@ use Rattle.vp_world.specs.declared.end.WorldEnd.{WorldEnd}
 use Rattle.vp_world.specs.declared.end.WorldEnd.TheVariants as ends
 pub use Rattle.vp_world.specs.Limits.{limit_of}
 
--- This holds at each moment of the schedule.
-pub record SitesAgree (s : Schedule) : Type 0 where
-  -- the views agree before the step and after it
-  pub views : (m : Moment) → Contains (moments_of s) m → ViewsAgree m.before × ViewsAgree m.after
-  -- none of them goes back, in the step and from there to the end
-  pub onward : (m : Moment) → Contains (moments_of s) m → ViewsGoOn m.before m.after × ViewsGoOn m.after (run_of s).world
-  -- whatever comes next to a site, it ends its doubts as the journal says
-  pub decisions : (m : Moment) → Contains (moments_of s) m → DecisionsAgree s.catalogue (journal_of s) m.before
-
--- No limit is reached, what is printed is the schedule's trace and then its history, the schedule is one copy, also where its transactions
--- change weights, its sites agree, and its commits come in time.
+-- No limit is reached, what is printed is the schedule's trace and then its history, and the schedule is sound.
 pub record IsDone (s : Schedule) (text : List ℕ) : Type 0 where
   pub whole : limit_reached world_limits s ≡ None
   pub printed : text ≡ trace_text s ++ history_text s
-  pub one_copy : IsOneCopy s
-  pub weighed : IsWeighed s
-  pub sites_agree : SitesAgree s
-  pub timely : IsTimely s
+  pub sound : IsSound s
 
 -- A limit of the world ends the schedule: what is printed is the trace of the steps before, and the limit.
 pub record IsLimited (s : Schedule) (text : List ℕ) : Type 0 where

@@ -31,6 +31,7 @@ agree catalogue w inv = record {
   members = λ a b x y u v p q h k e. ap (λ (z : View). z.members) (inv.unique u v ((inv.site a x p).held u h) ((inv.site b y q).held v k) e);
   self = λ a x v p h. let ok = inv.site a x p in contains v.members a (rw ok.id at (ok.tidy.held v h).3);
   held = λ a x v p h. contains w.agreed v ((inv.site a x p).held v h);
+  unique = λ u v h k e. ap (λ (z : View). z.members) (inv.unique u v (has_of w.agreed u h) (has_of w.agreed v k) e);
   promised = λ v a h c. rw promise_same (not_before _ v.id ((inv.view v (has_of w.agreed v h)).members a (has_of v.members a c)));
   below = λ v u a x h c p held.
       let ok = inv.site a x p in
