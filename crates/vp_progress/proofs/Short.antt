@@ -1,8 +1,7 @@
 -- A majority by the table that all entries leave: no bar stands in its view.
-use Rattle.std.proofs.Common.{◌≡◌, ◌≢◌, ◌⊎◌, ◌∙◌, sym, subst, ℕ, Bool, true, false, List, [], ◌∷◌, refl, ⊎_elim, inr}
-use Rattle.std.specs.Prelude.{◌&&◌}
+use Rattle.std.proofs.Common.{◌≡◌, ◌∙◌, sym, subst, ℕ, Bool, true, false, List, [], ◌∷◌, refl, ⊎_elim, inr}
 use Rattle.vp_model.specs.Types.{ViewId, View, Commit}
-use Rattle.vp_model.specs.Words.{keys, has, view_before}
+use Rattle.vp_model.specs.Words.{keys, view_before}
 use Rattle.vp_model.specs.Catalogue.{Catalogue, holders, weights_of}
 use Rattle.vp_model.specs.OneCopy.{order}
 use Rattle.vp_laws.proofs.Lists.Members.{Has, has_first, has_more, filter_has}

@@ -1,7 +1,7 @@
 -- Which replies tell that a transaction begins: one reply of a call that begins the next one, with its view.
 use Rattle.std.proofs.Common.{◌≡◌, ◌≢◌, ◌∙◌, ap, sym, subst, ℕ, ◌+◌, true, List, [], ◌∷◌, ◌++◌, map, refl, ⊎_elim}
 use Rattle.std.specs.Prelude.{Option, Some, None, filter_map, option_map, option_to_list}
-use Rattle.vp_model.specs.Types.{TxnId, ViewId, View, Answer, Reply, Commit, Input, Pending, Live, Ending}
+use Rattle.vp_model.specs.Types.{TxnId, ViewId, Answer, Reply, Commit, Input, Pending, Live, Ending}
 use Rattle.vp_base.specs.declared.site.Ending.TheVariants.{Committed, Aborted, LockHeld, ViewChanged, TimedOut, Inaccessible}
 use Rattle.vp_model.specs.Types.answer
 use Rattle.vp_model.specs.Catalogue.{Catalogue}

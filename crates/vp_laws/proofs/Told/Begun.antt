@@ -1,16 +1,16 @@
 -- Each committed transaction is of the view that its client was told as it began, and that its coordinator held.
-use Rattle.std.proofs.Common.{◌≡◌, ◌≢◌, ◌⊎◌, ◌∙◌, ◌≤◌, ◌+◌, ap, sym, subst, ℕ, Bool, true, false, List, [], ◌∷◌, ◌++◌, map, refl, arith, ⊎_elim, append-nil}
-use Rattle.std.specs.Prelude.{Some, All, filter_map, flat_map}
+use Rattle.std.proofs.Common.{◌≡◌, ◌≢◌, ◌⊎◌, ◌∙◌, ◌≤◌, ◌+◌, ap, sym, subst, ℕ, true, false, List, [], ◌∷◌, ◌++◌, refl, arith, ⊎_elim, append-nil}
+use Rattle.std.specs.Prelude.{Some, filter_map, flat_map}
 use Rattle.std.specs.List.{list_all}
 use Rattle.std.proofs.lemmas.List.Elements.{All-from_recursion, filter_map-append}
-use Rattle.vp_model.specs.Types.{TxnId, ViewId, View, Answer, Commit, Event, Input, Line, Reply, Live}
+use Rattle.vp_model.specs.Types.{TxnId, ViewId, Commit, Event, Input, Line, Reply, Live}
 use Rattle.vp_model.specs.Catalogue.{Catalogue}
 use Rattle.vp_model.specs.Durable.{DurableState}
 use Rattle.vp_model.specs.Headline.{view_begun, views_told, is_of, is_in_its_view, commits_in, ViewsAreTrue}
 use Rattle.vp_model.specs.Site.{SiteState, Stepped}
 use Rattle.vp_model.specs.Step.{step}
 use Rattle.vp_model.specs.Told.{is_step, answers_in, replies_in}
-use Rattle.vp_model.specs.World.{WorldState, Moved, Moment, Run, Schedule, moment, next, one_step, site_step, start_world, site_of, run_of, lines_of, moments_of, journal_of}
+use Rattle.vp_model.specs.World.{WorldState, Moved, Moment, Run, Schedule, moment, next, one_step, site_step, start_world, site_of, lines_of, moments_of, journal_of}
 use Rattle.vp_laws.proofs.Lists.Members.{Has, has_none, all_of, any_of}
 use Rattle.vp_laws.proofs.Lists.Changes.{all_from}
 use Rattle.vp_laws.proofs.Lists.Views.{same_from}
@@ -28,7 +28,7 @@ use Rattle.vp_laws.proofs.Keeping.Does.{Does, does}
 use Rattle.vp_laws.proofs.Keeping.Endings.{fresh}
 use Rattle.vp_laws.proofs.Keeping.Known.{known_last, known_starts, known_acts}
 use Rattle.vp_laws.proofs.Keeping.Names.{used_lasts, own_used, quiet_grows}
-use Rattle.vp_laws.proofs.Keeping.NewEntries.{Entering, entering, entering_agreed}
+use Rattle.vp_laws.proofs.Keeping.NewEntries.{entering, entering_agreed}
 
 -- the next name has no entry
 pub next_not_entered : (catalogue : Catalogue) (w : Scene) (s : ℕ) (x : SiteState) → Known catalogue w → plain_at w s ≡ Some x → (c : Commit) → Has w.journal c → c.txn ≢ next_name x

@@ -1,6 +1,6 @@
 -- When a site bars a record, in the words of the contract.
 use Rattle.std.proofs.Common.{◌≡◌, sym, subst, ℕ, Bool, true, false, refl}
-use Rattle.std.specs.Prelude.{Option, Some, None, not, is_some}
+use Rattle.std.specs.Prelude.{Option, Some, None}
 use Rattle.std.specs.List.{Contains}
 use Rattle.vp_model.specs.Types.{View, Stored}
 use Rattle.vp_model.specs.Words.{value_at}
