@@ -4,12 +4,14 @@
 //! be in order, or its keys to be distinct.
 #![tactic(auto)]
 
+mod ascending;
 mod by_rec;
 mod by_txn;
 mod copies;
 mod keyed;
 mod order;
 
+pub use ascending::{OfRec, place_among, put_among, remove_among};
 pub use by_rec::{change_at, change_copy, replace_at, value_at, write_copies};
 pub use by_txn::{OfTxn, find_txn, take_txn};
 pub use copies::copy_all;

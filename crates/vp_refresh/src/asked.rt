@@ -1,8 +1,7 @@
 //! A copy under refresh, with the copies that have come for it.
 
-ghost use Rattle.std.specs.Prelude.{◌≡◌, ◌==◌, [], OnOk, IfOk, option_copied};
-ghost use Rattle.vp_model.specs.Words.{has, keys};
-ghost use Rattle.vp_model.specs.Messages.{with_answer};
+ghost use Rattle.std.specs.Prelude.{◌≡◌, [], OnOk, IfOk, option_copied};
+ghost use Rattle.vp_model.specs.Words.{has, keys, put_at};
 ghost use Rattle.vp_refresh.specs.Asking.{missing_of};
 ghost use Rattle.vp_refresh.specs.Done.{done_of};
 ghost use Rattle.vp_refresh.specs.Newest.{IsNewest};
@@ -14,7 +13,7 @@ use std::marker::Model;
 use std::mem;
 use vp_base::{CopyOf, NoMemory, RecId, Refreshing, Seq, SiteId, Sites, Stored, View};
 use vp_catalog::Catalog;
-use vp_lists::{HasKey, put_in};
+use vp_lists::{OfRec, put_in};
 
 /// A copy under refresh, with the copies that other sites have sent, ascending by site.
 #[derive(Drop)]
@@ -41,19 +40,11 @@ impl CopyOf for RefreshEntry {
     }
 }
 
-impl HasKey for RefreshEntry {
-    ghost use Rattle.std.specs.Prelude.{nat_eq, nat_lt};
+impl OfRec for RefreshEntry {
+    ghost rec = { λ a. a.rec };
 
-    ghost same = { λ a b. nat_eq a.rec b.rec };
-
-    ghost before = { λ a b. nat_lt a.rec b.rec };
-
-    fn is_same(&self, other: &RefreshEntry) -> bool {
-        self.refreshing.is_same(&other.refreshing)
-    }
-
-    fn comes_before(&self, other: &RefreshEntry) -> bool {
-        self.refreshing.comes_before(&other.refreshing)
+    fn rec_of(&self) -> RecId {
+        self.refreshing.rec
     }
 }
 
@@ -75,12 +66,6 @@ impl RefreshEntry {
         ensures { result ≡ self.now.rec }
     {
         self.refreshing.rec
-    }
-
-    pub(crate) fn is_of(&self, rec: RecId) -> bool
-        ensures { result ≡ (self.now.rec == rec) }
-    {
-        self.refreshing.rec == rec
     }
 
     fn has_answer(&self, site: SiteId) -> bool
@@ -114,17 +99,17 @@ impl RefreshEntry {
         Ok(Sites::from_vec(sites))
     }
 
-    /// Keeps the copy of the site, where the record is this one. After want of memory the copies that had come may be lost.
-    pub(crate) fn keep(&mut self, from: SiteId, rec: RecId, stored: &Stored) -> Result<(), NoMemory>
-        ensures { OnOk result (self.new ≡ with_answer rec from stored.now self.old) }
+    /// Keeps the copy of the site. After want of memory the copies that had come may be lost.
+    pub(crate) fn keep(&mut self, from: SiteId, stored: &Stored) -> Result<(), NoMemory>
+        ensures kept { OnOk result
+            (self.new ≡ record self.old { answers = put_at from stored.now self.old.answers }) }
+        ensures rec { self.new.rec ≡ self.old.rec }
     {
-        if self.refreshing.rec == rec {
-            let stored = stored.copy_of()?;
-            let none = Seq::new(self.refreshing.answers.allocator());
-            let mut answers = mem::replace(&mut self.refreshing.answers, none);
-            put_in(&mut answers, (from, stored))?;
-            self.refreshing.answers = answers;
-        }
+        let stored = stored.copy_of()?;
+        let none = Seq::new(self.refreshing.answers.allocator());
+        let mut answers = mem::replace(&mut self.refreshing.answers, none);
+        put_in(&mut answers, (from, stored))?;
+        self.refreshing.answers = answers;
         Ok(())
     }
 

@@ -14,9 +14,9 @@ use std::alloc::Global;
 use std::marker::Model;
 use vp_base::{CopyOf, NoMemory, RecId, SiteId, Sites, Stored, View};
 use vp_catalog::Catalog;
-use vp_lists::{copy_all, put};
+use vp_lists::{copy_all, place_among, put_among, remove_among};
 
-/// The copies of a site that are under refresh, ascending by record.
+/// The copies of a site that are under refresh. They ascend by record, and one is found by halving.
 pub struct Refresh {
     listed: Vec<RefreshEntry>,
 }
@@ -28,12 +28,15 @@ impl Drop for Refresh {
 }
 
 impl Model for Refresh {
-    ghost use Rattle.std.specs.Prelude.{List};
+    ghost use Rattle.std.specs.Prelude.{List, map};
+    ghost use Rattle.std.specs.List.Sorted.{IsStrictlyIncreasing};
     ghost use Rattle.vp_model.specs.Types.{Refreshing};
 
     ghost Value = { List Refreshing };
 
     ghost view = { λ r. r.listed.items };
+
+    ghost invariant = { λ r. IsStrictlyIncreasing (map (λ asked. asked.rec) r.listed.items) };
 }
 
 impl CopyOf for Refresh {
@@ -62,7 +65,7 @@ impl Refresh {
         ensures err { OnErr result (self.new ≡ self.old) }
     {
         let alloc = *self.listed.allocator();
-        put(&mut self.listed, RefreshEntry::new(alloc, rec))
+        put_among(&mut self.listed, RefreshEntry::new(alloc, rec))
     }
 
     /// The copies under refresh, ascending by record.
@@ -75,7 +78,10 @@ impl Refresh {
     fn find(&self, rec: RecId) -> Option<&RefreshEntry>
         ensures { option_copied result ≡ refreshing_of rec self.now }
     {
-        self.listed.iter().find(|asked| asked.is_of(rec))
+        match place_among(&self.listed, rec) {
+            None => None,
+            Some(place) => Some(&self.listed[place]),
+        }
     }
 
     /// The other holders in the view that have not answered for the record, ascending; `None` where its copy is not under refresh.
@@ -100,7 +106,10 @@ impl Refresh {
     pub fn on_answer(&mut self, from: SiteId, rec: RecId, stored: &Stored) -> Result<(), NoMemory>
         ensures { OnOk result (self.new ≡ map (with_answer rec from stored.now) self.old) }
     {
-        keep(&mut self.listed, from, rec, stored)
+        match place_among(&self.listed, rec) {
+            None => Ok(()),
+            Some(place) => self.listed[place].keep(from, stored),
+        }
     }
 
     /// The newest of the own copy and those that have come for the record, with the weights by its table; `None` where its copy is
@@ -133,21 +142,6 @@ impl Refresh {
     pub fn unlist(&mut self, rec: RecId)
         ensures { self.new ≡ filter (λ r. not (r.rec == rec)) self.old }
     {
-        self.listed.retain(|asked| !asked.is_of(rec));
+        remove_among(&mut self.listed, rec);
     }
-}
-
-/// Keeps the copy of the site with each item of the record.
-fn keep(
-    listed: &mut [RefreshEntry],
-    from: SiteId,
-    rec: RecId,
-    stored: &Stored,
-) -> Result<(), NoMemory>
-    ensures { OnOk result (listed.new ≡ map (with_answer rec from stored.now) listed.old) }
-{
-    for asked in listed.iter_mut() {
-        asked.keep(from, rec, stored)?;
-    }
-    Ok(())
 }
