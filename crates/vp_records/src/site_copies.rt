@@ -11,7 +11,7 @@ use std::alloc::Global;
 use std::marker::Model;
 use std::mem;
 use vp_base::{Change, Copies, CopyOf, NoMemory, Put, RecId, Stored, Table, Value, ViewId};
-use vp_lists::{copy_all, replace_at, write_copies};
+use vp_lists::{copy_all, place_among, replace_at, write_copies};
 
 /// Writes that need no more memory to be done: the changes, or all copies as they are after them.
 #[derive(Drop)]
@@ -213,14 +213,4 @@ fn ascends(copies: &[(RecId, Stored)]) -> bool
     ensures { IsTrue result → IsStrictlyIncreasing (keys copies.now) }
 {
     copies.is_sorted_by(|a, b| a.0.get() < b.0.get())
-}
-
-/// The place of the record's copy among those that ascend.
-fn place_among(copies: &[(RecId, Stored)], rec: RecId) -> Option<usize>
-    requires { IsStrictlyIncreasing (keys copies.now) }
-    ensures { result ≡ position (λ copy. copy.0 == rec) copies.now }
-{
-    copies
-        .binary_search_by_key(&rec.get(), |copy| copy.0.get())
-        .ok()
 }
