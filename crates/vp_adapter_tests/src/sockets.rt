@@ -70,3 +70,25 @@ fn a_datagram_from_another_address_comes_from_port_0(rt: HostRuntime) {
     let received = from_elsewhere(&rt, &mut Socket::new(&rt), port);
     assert!(rt; received.expect(&rt, "a datagram") == (0, 3));
 }
+
+/// How many bytes the first datagram has that comes to the link at the port, of two that are sent there: 1 byte to 127.0.0.2, then 2 bytes to
+/// 127.0.0.1.
+fn first_to_arrive<L: Link>(rt: &HostRuntime, link: &mut L, port: u16) -> io::Result<usize>
+    requires { (L.state link.old).asked ≡ None }
+{
+    let mut buf = [0; MOST_GIVEN];
+    let sender = UdpSocket::bind(rt, (Ipv4Addr::LOCALHOST, 0))?;
+    if link.bind(port).is_err() {
+        return Err(io::Error::from(io::ErrorKind::AddrInUse));
+    }
+    let _ = sender.send_to(b"a", (Ipv4Addr::new(127, 0, 0, 2), port));
+    sender.send_to(b"bc", (Ipv4Addr::LOCALHOST, port))?;
+    Ok(link.receive(&mut buf).map_or(0, |received| received.1))
+}
+
+#[test]
+fn what_is_sent_to_another_address_reaches_no_socket(rt: HostRuntime) {
+    let port = free_port(&rt).expect(&rt, "a port");
+    let arrived = first_to_arrive(&rt, &mut Socket::new(&rt), port);
+    assert!(rt; arrived.expect(&rt, "a datagram") == 2);
+}

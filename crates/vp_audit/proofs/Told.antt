@@ -1,15 +1,15 @@
 -- A report on stopped sites is true of every schedule that left them like this.
-use Rattle.std.proofs.Common.{◌≡◌, ◌∙◌, ap, sym, subst, ℕ, ◌*◌, Bool, true, false, cond, List, [], ◌∷◌, refl, arith}
+use Rattle.std.proofs.Common.{◌≡◌, ◌∙◌, ap, sym, subst, ℕ, ◌*◌, Bool, true, false, cond, List, [], ◌∷◌, refl, arith, ⊎_elim}
 use Rattle.std.specs.Prelude.{Option, Some, None, option_and_then, filter, map, nat_le, nat_lt, length, option_to_list, slice_get, ◌||◌}
 use Rattle.std.specs.List.{Contains, list_any, range_with_len}
 use Rattle.std.proofs.lemmas.Bool.Decides.{nat_tests}
 use Rattle.vp_model.specs.Types.{Stored, Doubt}
 use Rattle.vp_model.specs.Words.{first_some, keys, value_at, view_before}
 use Rattle.vp_model.specs.Catalogue.{Catalogue, table_or, holders, accessible_by, weight_inside, weight_total, start_values}
-use Rattle.vp_model.specs.Durable.{DurableState}
+use Rattle.vp_model.specs.Durable.{DurableState, apply}
 use Rattle.vp_model.specs.Headline.{has_value}
 use Rattle.vp_model.specs.OneCopy.{serial, order}
-use Rattle.vp_model.specs.World.{Place, WorldState, Moment, Schedule, place_of, moments_of}
+use Rattle.vp_model.specs.World.{Place, WorldState, Moment, Schedule, start_place, place_of, moments_of}
 use Rattle.vp_laws.specs.Audits.{HoldersHaveCopies, MajoritiesTell}
 use Rattle.vp_laws.specs.Catalogues.{IsWhole}
 use Rattle.vp_laws.specs.Entries.{doubts_in, doubts_of}
@@ -21,7 +21,7 @@ use Rattle.vp_laws.proofs.Journal.Order.{flat_has, has_flat}
 use Rattle.vp_laws.proofs.Keeping.Stopping.{in_force_holder}
 use Rattle.vp_audit.specs.Audited.{Parts, audit_of, can_of, copies_on, finding_of, newest_of, rows_on, settled_at, settled_copy, settled_on, table_on, waits, writes_to}
 use Rattle.vp_audit.specs.declared.found.DoubtAt.{DoubtAt}
-use Rattle.vp_audit.specs.True.{AreDown, IsTrueReport}
+use Rattle.vp_audit.specs.True.{IsDown, HasNotStarted, AreLeft, IsTrueIn, IsTrueReport}
 use Rattle.vp_audit.specs.declared.found.Can.TheVariants as can
 use Rattle.vp_audit.specs.declared.found.Found.{Found}
 use Rattle.vp_audit.proofs.Newest.{IsTop, newest_there}
@@ -73,7 +73,7 @@ copy_from rec parts a h =
 
 -- ---- the report
 
-module _ (catalogue : Catalogue) (parts : Parts) (w : WorldState) (down : AreDown w parts) (law : MajoritiesTell catalogue w) (held : HoldersHaveCopies catalogue w) (rec : ℕ) (sure : (finding_of catalogue parts rec).can ≡ can.Yes) where
+module _ (catalogue : Catalogue) (parts : Parts) (w : WorldState) (left : AreLeft catalogue w parts) (law : MajoritiesTell catalogue w) (held : HoldersHaveCopies catalogue w) (rec : ℕ) (sure : (finding_of catalogue parts rec).can ≡ can.Yes) where
   said : (accessible_by (table_on catalogue rec parts) (keys parts) ≡ true) × (rows_on rec parts ≡ [])
   said = let t = table_on catalogue rec parts in yes_says (weight_inside (keys parts) t) (weight_total t) (rows_on rec parts) sure
 
@@ -83,12 +83,36 @@ module _ (catalogue : Catalogue) (parts : Parts) (w : WorldState) (down : AreDow
   all_settled : (p : ℕ × DurableState) → Has parts p → settled_copy rec p.1 ≡ value_at rec p.1.copies
   all_settled p h = certain_copy rec p.1 (certain p h)
 
-  -- the part of a named site, which is its place
-  part_of : (s : ℕ) → Has (keys parts) s → (d : DurableState) × Has parts (s, d) × (place_of s w.places ≡ Some (record { id = s; durable = d; up = None }))
+  -- the place of a site that is left with this part has its copies and its doubts
+  record HasPart (site : ℕ) (d : DurableState) : Type 0 where
+    place : Place
+    at : place_of site w.places ≡ Some place
+    copies : place.durable.copies ≡ d.copies
+    doubts : place.durable.doubts ≡ d.doubts
+
+  placed : (p : ℕ × DurableState) → Has parts p → HasPart p.0 p.1
+  unfolding apply
+  placed p h =
+      ⊎_elim
+      (λ (down : IsDown w p). record { place = record { id = p.0; durable = p.1; up = None }; at = down; copies = refl; doubts = refl })
+      (λ (new : HasNotStarted catalogue w p). record {
+        place = start_place catalogue p.0;
+        at = new.place;
+        copies = ap (λ (d : DurableState). d.copies) (sym new.empty);
+        doubts = ap (λ (d : DurableState). d.doubts) (sym new.empty);
+      })
+      (left p (contains parts p h))
+
+  -- the part of a named site, and its place
+  part_of : (s : ℕ) → Has (keys parts) s → (d : DurableState) × Has parts (s, d) × HasPart s d
   part_of s h =
       let p = map_has (λ (p : ℕ × DurableState). p.0) parts s h in
-      subst (λ (n : ℕ). (d : DurableState) × Has parts (n, d) × (place_of n w.places ≡ Some (record { id = n; durable = d; up = None }))) p.2
-      (p.0.1, p.1, down p.0 (contains parts p.0 p.1))
+      subst (λ (n : ℕ). (d : DurableState) × Has parts (n, d) × HasPart n d) p.2
+      (p.0.1, p.1, placed p.0 p.1)
+
+  -- a copy of the part is one of the site
+  copy_of : (s : ℕ) (d : DurableState) → HasPart s d → (c : Stored) → value_at rec (copies_in (place_of s w.places)) ≡ Some c → value_at rec d.copies ≡ Some c
+  copy_of s d h c is = ap (value_at rec) (sym h.copies) ∙ subst (λ (o : Option Place). value_at rec (copies_in o) ≡ Some c) h.at is
 
   -- with no settled copy there is none, and the table is the catalogue's
   judging : (best : Option Stored) → newest_of (settled_on rec parts) ≡ best → newest_of (copies_on rec parts) ≡ best → accessible_by (table_or catalogue rec (option_and_then (λ (copy : Stored). copy.table) best)) (keys parts) ≡ true
@@ -105,8 +129,8 @@ module _ (catalogue : Catalogue) (parts : Parts) (w : WorldState) (down : AreDow
   some_copy none =
       let q = in_force_holder catalogue rec (keys parts) (judged None (ap newest_of none)) in
       let p = part_of q.0 q.2 in
-      let c = held q.0 rec (record { id = q.0; durable = p.0; up = None }) p.2 (contains (holders catalogue rec) q.0 q.1) in
-      ((q.0, c.0), copy_there rec parts (q.0, p.0) c.0 p.1 (all_settled (q.0, p.0) p.1 ∙ c.1))
+      let c = held q.0 rec p.2.place p.2.at (contains (holders catalogue rec) q.0 q.1) in
+      ((q.0, c.0), copy_there rec parts (q.0, p.0) c.0 p.1 (all_settled (q.0, p.0) p.1 ∙ ap (value_at rec) (sym p.2.copies) ∙ c.1))
 
   newest : (n : Stored) × (newest_of (settled_on rec parts) ≡ Some n) × IsTop (settled_on rec parts) n
   newest = go (settled_on rec parts) refl
@@ -121,25 +145,35 @@ module _ (catalogue : Catalogue) (parts : Parts) (w : WorldState) (down : AreDow
       let from = copy_from rec parts (top.site, newest.0) top.there in
       let named : Has (keys parts) top.site = subst (Has (keys parts)) from.2 (mapped_has (λ (p : ℕ × DurableState). p.0) parts from.0 from.1) in
       law (keys parts) rec top.site newest.0 (judged (Some newest.0) newest.1) no_doubt (contains (keys parts) top.site named)
-      (let p = down from.0 (contains parts from.0 from.1) in rw (← from.2, p) (sym (all_settled from.0 from.1) ∙ from.3))
+      (let p = placed from.0 from.1 in rw (← from.2, p.at) (ap (value_at rec) p.copies ∙ sym (all_settled from.0 from.1) ∙ from.3))
       none_newer
     where
       no_doubt : (s : ℕ) (u : Doubt) → Contains (keys parts) s → Contains (doubts_of w s) u → Contains (keys u.writes) rec → ⊥
       no_doubt s u named there on =
           let p = part_of s (has_of (keys parts) s named) in
-          let doubted : Has p.0.doubts u = has_of p.0.doubts u (subst (λ (o : Option Place). Contains (doubts_in o) u) p.2 there) in
+          let doubted : Has p.0.doubts u = subst (λ (us : List Doubt). Has us u) p.2.doubts (has_of p.2.place.durable.doubts u (subst (λ (o : Option Place). Contains (doubts_in o) u) p.2.at there)) in
           has_none u (subst (λ (us : List Doubt). Has us u) (certain (s, p.0) p.1) (filter_keeps (writes_to rec) p.0.doubts u doubted (has_test (keys u.writes) rec (has_of (keys u.writes) rec on))))
 
       none_newer : (s : ℕ) (c : Stored) → Contains (keys parts) s → value_at rec (copies_in (place_of s w.places)) ≡ Some c → view_before newest.0.date c.date ≡ false
       none_newer s c named is =
           let p = part_of s (has_of (keys parts) s named) in
-          not_before newest.0.date c.date (newest.2.top (s, c) (copy_there rec parts (s, p.0) c p.1 (all_settled (s, p.0) p.1 ∙ subst (λ (o : Option Place). value_at rec (copies_in o) ≡ Some c) p.2 is)))
+          not_before newest.0.date c.date (newest.2.top (s, c) (copy_there rec parts (s, p.0) c p.1 (all_settled (s, p.0) p.1 ∙ copy_of s p.0 p.2 c is)))
 
   pub told : (copy : Stored) × ((finding_of catalogue parts rec).newest ≡ Some copy) × (has_value (serial (start_values catalogue) (order w.journal)) rec copy.value ≡ true)
   told = (newest.0, newest.1, true_there)
 
-pub report_told : ((s : Schedule) → IsWhole s.catalogue → (m : Moment) → Contains (moments_of s) m → MajoritiesTell s.catalogue m.before × MajoritiesTell s.catalogue m.after) → ((s : Schedule) (m : Moment) → Contains (moments_of s) m → HoldersHaveCopies s.catalogue m.before × HoldersHaveCopies s.catalogue m.after) → (catalogue : Catalogue) → IsWhole catalogue → (parts : Parts) → IsTrueReport catalogue parts (audit_of catalogue parts)
-report_told law held catalogue whole parts s m same h down f there sure =
+true_in : (catalogue : Catalogue) (parts : Parts) (w : WorldState) → MajoritiesTell catalogue w → HoldersHaveCopies catalogue w → IsTrueIn catalogue w parts (audit_of catalogue parts)
+true_in catalogue parts w law held left f there sure =
     let r = map_has (finding_of catalogue parts) (range_with_len 0 (length catalogue.records)) f (has_of (audit_of catalogue parts) f there) in
-    subst (λ (f : Found). (copy : Stored) × (f.newest ≡ Some copy) × (has_value (serial (start_values catalogue) (order m.after.journal)) f.rec copy.value ≡ true)) r.2
-    (told catalogue parts m.after down (subst (λ (c : Catalogue). MajoritiesTell c m.after) same (law s (subst IsWhole (sym same) whole) m h).1) (subst (λ (c : Catalogue). HoldersHaveCopies c m.after) same (held s m h).1) r.0 (subst (λ (f : Found). f.can ≡ can.Yes) (sym r.2) sure))
+    subst (λ (f : Found). (copy : Stored) × (f.newest ≡ Some copy) × (has_value (serial (start_values catalogue) (order w.journal)) f.rec copy.value ≡ true)) r.2
+    (told catalogue parts w left law held r.0 (subst (λ (f : Found). f.can ≡ can.Yes) (sym r.2) sure))
+
+pub report_told : ((s : Schedule) → IsWhole s.catalogue → (m : Moment) → Contains (moments_of s) m → MajoritiesTell s.catalogue m.before × MajoritiesTell s.catalogue m.after)
+    → ((s : Schedule) (m : Moment) → Contains (moments_of s) m → HoldersHaveCopies s.catalogue m.before × HoldersHaveCopies s.catalogue m.after)
+    → (catalogue : Catalogue) → IsWhole catalogue → (parts : Parts) → IsTrueReport catalogue parts (audit_of catalogue parts)
+report_told law held catalogue whole parts s m same h =
+    let tells = law s (subst IsWhole (sym same) whole) m h in
+    let holds = held s m h in (
+      true_in catalogue parts m.before (subst (λ (c : Catalogue). MajoritiesTell c m.before) same tells.0) (subst (λ (c : Catalogue). HoldersHaveCopies c m.before) same holds.0),
+      true_in catalogue parts m.after (subst (λ (c : Catalogue). MajoritiesTell c m.after) same tells.1) (subst (λ (c : Catalogue). HoldersHaveCopies c m.after) same holds.1),
+    )

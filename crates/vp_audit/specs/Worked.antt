@@ -34,3 +34,7 @@ applied_site = applied (value (codes "11"))
 -- one that has applied a deletion
 abbrev pub deleted_site : ℕ × DurableState
 deleted_site = applied (record { put = puts.Absent; table = None })
+
+-- one that has applied a transaction in the first view
+abbrev pub committed_site : ℕ × DurableState
+committed_site = site 2 (log_record.Start 1 ∷ yes opening (value (codes "11")) ∷ log_record.Outcome (txn 1 1 1) true ∷ [])

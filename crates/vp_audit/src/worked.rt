@@ -36,3 +36,11 @@ pub fn a_deleted_record()
     ensures { report_text worked.both (audit_of worked.both (worked.blank_site 1 ∷ worked.deleted_site ∷ [])) ≡
         codes "absent x 1@1 at 2\ncan x yes\n" }
 {}
+
+/// The log of a site is missing that has applied a write in the first view, as the other one has. It counts as a site that has not started:
+/// both copies have the date of that view, and the one of the lesser site is named. The report is true of schedules in which site 1 has done
+/// nothing.
+pub fn a_log_that_is_missing()
+    ensures { report_text worked.both (audit_of worked.both (worked.blank_site 1 ∷ worked.committed_site ∷ [])) ≡
+        codes "newest x 10 0@0 at 1,2\ncan x yes\n" }
+{}
