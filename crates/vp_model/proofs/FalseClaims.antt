@@ -4,7 +4,7 @@ use Rattle.std.specs.Prelude.{codes}
 use Rattle.vp_model.specs.Types.call
 use Rattle.vp_model.specs.Headline.{RefusalsAreJustified}
 use Rattle.vp_model.specs.Worked.{txn}
-use Rattle.vp_model.specs.Worked.FalseClaims.{is_justified_after, closed_and_left, closed_by_lock, closed_by_leaving, granted_after_all, next_is_done, next_is_refused, closed_idle, IsToldApart, aborted, never_begun, out_of_turn, refused_by_two, timed_out_before, written_after_all, told_before_leaving, waiting_write, left_view, refused_again, refused_first, forgotten, called_elsewhere, unknown_without_weight, told_the_weights, bar_of_another_view, bar_by_a_lost_table, bar_after_leaving}
+use Rattle.vp_model.specs.Worked.FalseClaims.{is_justified_after, closed_and_left, closed_by_lock, closed_by_leaving, granted_after_all, next_is_done, next_is_refused, closed_idle, IsToldApart, aborted, never_begun, out_of_turn, refused_by_two, timed_out_before, written_after_all, told_before_leaving, waiting_write, left_view, refused_again, refused_first, forgotten, called_elsewhere, unknown_without_weight, told_the_weights, bar_of_another_view, bar_by_a_lost_table, bar_after_leaving, weighed_before_leaving, held_by_another, barred_and_skipped, barred_and_told, barred_and_busy, barred_by_a_bad_table, barred_by_its_own_table, IsFitApart, told_without_a_call, written_for_a_delete, deleted_for_a_write, weighed_for_a_write, content_for_a_weigh}
 use Rattle.vp_model.proofs.Computed.{computes}
 
 pub closed-given : is_justified_after closed_and_left 1 (call.Read (txn 1 1 2) 2 (codes "x")) closed_by_lock ≡ true
@@ -98,3 +98,51 @@ bar_by_a_lost_table-apart = record { given = refl; justified = refl; another = r
 pub bar_after_leaving-apart : IsToldApart bar_after_leaving
 unfolding computes
 bar_after_leaving-apart = record { given = refl; justified = refl; another = refl }
+
+pub weighed_before_leaving-apart : IsToldApart weighed_before_leaving
+unfolding computes
+weighed_before_leaving-apart = record { given = refl; justified = refl; another = refl }
+
+pub held_by_another-apart : IsToldApart held_by_another
+unfolding computes
+held_by_another-apart = record { given = refl; justified = refl; another = refl }
+
+pub barred_and_skipped-apart : IsToldApart barred_and_skipped
+unfolding computes
+barred_and_skipped-apart = record { given = refl; justified = refl; another = refl }
+
+pub barred_and_told-apart : IsToldApart barred_and_told
+unfolding computes
+barred_and_told-apart = record { given = refl; justified = refl; another = refl }
+
+pub barred_and_busy-apart : IsToldApart barred_and_busy
+unfolding computes
+barred_and_busy-apart = record { given = refl; justified = refl; another = refl }
+
+pub barred_by_a_bad_table-apart : IsToldApart barred_by_a_bad_table
+unfolding computes
+barred_by_a_bad_table-apart = record { given = refl; justified = refl; another = refl }
+
+pub barred_by_its_own_table-apart : IsToldApart barred_by_its_own_table
+unfolding computes
+barred_by_its_own_table-apart = record { given = refl; justified = refl; another = refl }
+
+pub told_without_a_call-apart : IsFitApart told_without_a_call
+unfolding computes
+told_without_a_call-apart = record { given = refl; fits = refl; another = refl }
+
+pub written_for_a_delete-apart : IsFitApart written_for_a_delete
+unfolding computes
+written_for_a_delete-apart = record { given = refl; fits = refl; another = refl }
+
+pub deleted_for_a_write-apart : IsFitApart deleted_for_a_write
+unfolding computes
+deleted_for_a_write-apart = record { given = refl; fits = refl; another = refl }
+
+pub weighed_for_a_write-apart : IsFitApart weighed_for_a_write
+unfolding computes
+weighed_for_a_write-apart = record { given = refl; fits = refl; another = refl }
+
+pub content_for_a_weigh-apart : IsFitApart content_for_a_weigh
+unfolding computes
+content_for_a_weigh-apart = record { given = refl; fits = refl; another = refl }

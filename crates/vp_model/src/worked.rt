@@ -224,6 +224,16 @@ pub fn told_before_leaving()
     ensures { claims.IsToldApart claims.told_before_leaving }
 {}
 
+/// Nor is a weigh that was answered before then.
+pub fn weighed_before_leaving()
+    ensures { claims.IsToldApart claims.weighed_before_leaving }
+{}
+
+/// Of two owners that have the lock the least is named.
+pub fn held_by_the_least()
+    ensures { claims.IsToldApart claims.held_by_another }
+{}
+
 /// A transaction that was refused answers its end with the number of the call, and not with a higher one.
 pub fn refused_under_its_number()
     ensures { claims.IsToldApart claims.refused_again }
@@ -258,6 +268,24 @@ pub fn unknown_without_weight()
 /// That a record is not accessible is answered with the number of the call.
 pub fn told_the_weights()
     ensures { claims.IsToldApart claims.told_the_weights }
+{}
+
+/// It is answered to the next call of a transaction with none pending, and to one that nothing else refuses first.
+pub fn told_the_next_call()
+    ensures skipped { claims.IsToldApart claims.barred_and_skipped }
+    ensures told { claims.IsToldApart claims.barred_and_told }
+    ensures busy { claims.IsToldApart claims.barred_and_busy }
+    ensures bad_table { claims.IsToldApart claims.barred_by_a_bad_table }
+    ensures own_table { claims.IsToldApart claims.barred_by_its_own_table }
+{}
+
+/// Of each call its own kind is reported, and nothing under a number that was not called.
+pub fn reports_of_other_calls()
+    ensures uncalled { claims.IsFitApart claims.told_without_a_call }
+    ensures deleted { claims.IsFitApart claims.written_for_a_delete }
+    ensures written { claims.IsFitApart claims.deleted_for_a_write }
+    ensures changed { claims.IsFitApart claims.weighed_for_a_write }
+    ensures weighed { claims.IsFitApart claims.content_for_a_weigh }
 {}
 
 /// A bar's weights are those of the view that is held,

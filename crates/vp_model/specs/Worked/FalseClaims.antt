@@ -1,5 +1,5 @@
 -- Schedules that end with a call, and what its answer might claim: the answer that is given is justified, and false ones are not.
-use Rattle.std.specs.Prelude.{◌≡◌, ℕ, Bool, true, false, List, [], ◌∷◌, ◌++◌, None, codes}
+use Rattle.std.specs.Prelude.{◌≡◌, ℕ, Bool, true, false, List, [], ◌∷◌, ◌++◌, map, None, codes}
 use Rattle.vp_model.specs.Types.{TxnId, Call, Answer, Event}
 use Rattle.vp_model.specs.Types.answer
 use Rattle.vp_model.specs.Types.call
@@ -8,7 +8,7 @@ use Rattle.vp_model.specs.Types.owner
 use Rattle.vp_model.specs.Types.shown
 use Rattle.vp_model.specs.Catalogue.{Catalogue}
 use Rattle.vp_model.specs.World.{Moment, Schedule, next, run_of, moments_of}
-use Rattle.vp_model.specs.Told.{answers_in}
+use Rattle.vp_model.specs.Told.{answers_in, all_fit}
 use Rattle.vp_model.specs.Justified.{all_justified}
 use Rattle.vp_model.specs.Worked.{view, txn, reply, stored}
 
@@ -101,6 +101,10 @@ waiting_write = record {
 abbrev pub left_view : ℕ → Answer
 left_view number = answer.ViewChanged (txn 1 1 1) number 1 (view 0 0) None
 
+-- the reports of the schedule fit their calls, and so does this answer to a call after it
+abbrev pub fits_after : Schedule → ℕ → Call → Answer → Bool
+fits_after s site words claimed = all_fit s.catalogue (map (λ (m : Moment). m.line) (moments_of s ++ claim s site words claimed ∷ []))
+
 -- a schedule, a call after it, the answer that it gets, and a false one
 pub record FalseClaim : Type 0 where
   pub schedule : Schedule
@@ -118,6 +122,12 @@ pub record IsToldApart (c : FalseClaim) : Type 0 where
   pub given : answers_after c.schedule c.site c.words ≡ c.given ∷ []
   pub justified : is_justified_after c.schedule c.site c.words c.given ≡ true
   pub another : is_justified_after c.schedule c.site c.words c.claimed ≡ false
+
+-- the one is given and fits its call, and the other does not
+pub record IsFitApart (c : FalseClaim) : Type 0 where
+  pub given : answers_after c.schedule c.site c.words ≡ c.given ∷ []
+  pub fits : fits_after c.schedule c.site c.words c.given ≡ true
+  pub another : fits_after c.schedule c.site c.words c.claimed ≡ false
 
 abbrev one_site : Catalogue
 one_site = record { sites = ((1, 7001) ∷ []); records = (stored (codes "x") (codes "10") ((1, 1) ∷ []) ∷ []) }
@@ -231,6 +241,38 @@ told_before_leaving = record {
   claimed = answer.ViewChanged (txn 1 1 1) 1 1 (view 0 0) None;
 }
 
+-- 1.1.1 has weighed x before its site left the view, and calls that weigh again
+abbrev weigh_x : List (ℕ × ℕ) → Call
+weigh_x table = call.Weigh (txn 1 1 1) 1 (codes "x") table
+
+abbrev pub weighed_before_leaving : FalseClaim
+weighed_before_leaving = record {
+  schedule = record { catalogue = one_site; events = event.Call 1 call.Begin ∷ event.Call 1 (weigh_x ((1, 3) ∷ [])) ∷ event.Call 1 call.Regroup ∷ [] };
+  site = 1;
+  words = weigh_x ((1, 3) ∷ []);
+  given = answer.Weighed (txn 1 1 1) 1;
+  claimed = answer.ViewChanged (txn 1 1 1) 1 1 (view 0 0) None;
+}
+
+-- 1.1.1 and 1.1.2 have read x, which 1.1.3 would write
+abbrev pub held_by_another : FalseClaim
+held_by_another = record {
+  schedule = record {
+    catalogue = one_site;
+    events =
+        event.Call 1 call.Begin
+        ∷ event.Call 1 (read_x (txn 1 1 1) 1)
+        ∷ event.Call 1 call.Begin
+        ∷ event.Call 1 (read_x (txn 1 1 2) 1)
+        ∷ event.Call 1 call.Begin
+        ∷ [];
+  };
+  site = 1;
+  words = call.Write (txn 1 1 3) 1 (codes "x") (codes "11");
+  given = held_at 1 (txn 1 1 3) 1;
+  claimed = answer.LockHeld (txn 1 1 3) 1 (codes "x") 1 (owner.Txn (txn 1 1 2));
+}
+
 -- 1.1.2 was closed because of the lock
 abbrev pub refused_again : FalseClaim
 refused_again = record {
@@ -296,6 +338,100 @@ heavy_third = record {
 
 abbrev alone : List Event
 alone = event.Call 1 call.Regroup ∷ event.Tick 1 ∷ event.Call 1 call.Begin ∷ []
+
+-- there x is barred, which only the next call of an idle transaction is told
+abbrev barred_x : ℕ → Answer
+barred_x number = answer.Inaccessible (txn 1 1 1) number (codes "x") 1 5
+
+-- a call out of turn
+abbrev pub barred_and_skipped : FalseClaim
+barred_and_skipped = record {
+  schedule = record { catalogue = heavy_third; events = alone };
+  site = 1;
+  words = read_x (txn 1 1 1) 5;
+  given = answer.Skipped (txn 1 1 1) 1;
+  claimed = barred_x 5;
+}
+
+-- y, which site 1 alone holds, was read under that number
+abbrev pub barred_and_told : FalseClaim
+barred_and_told = record {
+  schedule = record {
+    catalogue = record heavy_third { records = heavy_third.records ++ stored (codes "y") (codes "5") ((1, 1) ∷ []) ∷ [] };
+    events = alone ++ event.Call 1 (call.Read (txn 1 1 1) 1 (codes "y")) ∷ [];
+  };
+  site = 1;
+  words = read_x (txn 1 1 1) 1;
+  given = answer.Value (txn 1 1 1) 1 (codes "5");
+  claimed = barred_x 1;
+}
+
+-- y is read at site 2, which holds the view too, and no answer has come
+abbrev pub barred_and_busy : FalseClaim
+barred_and_busy = record {
+  schedule = record {
+    catalogue = record heavy_third { records = heavy_third.records ++ stored (codes "y") (codes "5") ((2, 1) ∷ []) ∷ [] };
+    events =
+        event.Cut 1 3
+        ∷ event.Call 1 call.Regroup
+        ∷ event.Deliver 1
+        ∷ event.Deliver 3
+        ∷ event.Tick 1
+        ∷ event.Deliver 4
+        ∷ event.Deliver 5
+        ∷ event.Deliver 6
+        ∷ event.Deliver 7
+        ∷ event.Call 1 call.Begin
+        ∷ event.Call 1 (call.Read (txn 1 1 1) 1 (codes "y"))
+        ∷ [];
+  };
+  site = 1;
+  words = read_x (txn 1 1 1) 1;
+  given = answer.Busy (txn 1 1 1) 1;
+  claimed = answer.Inaccessible (txn 1 1 1) 1 (codes "x") 2 5;
+}
+
+-- the table that is asked for lacks a holder
+abbrev pub barred_by_a_bad_table : FalseClaim
+barred_by_a_bad_table = record {
+  schedule = record { catalogue = heavy_third; events = alone };
+  site = 1;
+  words = weigh_x ((2, 1) ∷ (3, 9) ∷ []);
+  given = answer.BadTable (txn 1 1 1) 1;
+  claimed = answer.Inaccessible (txn 1 1 1) 1 (codes "x") 0 10;
+}
+
+-- the table that is asked for leaves no majority, which is tested before the bar
+abbrev pub barred_by_its_own_table : FalseClaim
+barred_by_its_own_table = record {
+  schedule = record { catalogue = heavy_third; events = alone };
+  site = 1;
+  words = weigh_x ((1, 1) ∷ (2, 1) ∷ (3, 1) ∷ []);
+  given = answer.Inaccessible (txn 1 1 1) 1 (codes "x") 1 3;
+  claimed = barred_x 1;
+}
+
+-- 1.1.1 has begun and calls for the first time, and this is not reported of its call
+abbrev first_call : Call → Answer → Answer → FalseClaim
+first_call words given claimed =
+    record { schedule = record { catalogue = one_site; events = event.Call 1 call.Begin ∷ [] }; site = 1; words = words; given = given; claimed = claimed }
+
+-- a content under a number that was never called
+abbrev pub told_without_a_call : FalseClaim
+told_without_a_call = first_call (read_x (txn 1 1 1) 1) (answer.Value (txn 1 1 1) 1 (codes "10")) (answer.Value (txn 1 1 1) 9 (codes "77"))
+
+-- of a delete what is answered of a write, of a write what is answered of a delete or of a weigh, and of a weigh a content
+abbrev pub written_for_a_delete : FalseClaim
+written_for_a_delete = first_call (call.Delete (txn 1 1 1) 1 (codes "x")) (answer.Deleted (txn 1 1 1) 1) (answer.Written (txn 1 1 1) 1)
+
+abbrev pub deleted_for_a_write : FalseClaim
+deleted_for_a_write = first_call (call.Write (txn 1 1 1) 1 (codes "x") (codes "11")) (answer.Written (txn 1 1 1) 1) (answer.Deleted (txn 1 1 1) 1)
+
+abbrev pub weighed_for_a_write : FalseClaim
+weighed_for_a_write = first_call (call.Write (txn 1 1 1) 1 (codes "x") (codes "11")) (answer.Written (txn 1 1 1) 1) (answer.Weighed (txn 1 1 1) 1)
+
+abbrev pub content_for_a_weigh : FalseClaim
+content_for_a_weigh = first_call (weigh_x ((1, 3) ∷ [])) (answer.Weighed (txn 1 1 1) 1) (answer.Value (txn 1 1 1) 1 (codes "77"))
 
 -- the sums over the members of another view
 abbrev pub bar_of_another_view : FalseClaim
