@@ -27,7 +27,7 @@ use Rattle.vp_laws.specs.Votes.{is_commit}
 use Rattle.vp_laws.proofs.Lists.Members.{Has, filter_has, has_first, has_more, find_has, find_true}
 use Rattle.vp_laws.proofs.Moves.Frames.{close-commits, decided-ends, decided-commits, decide-cases}
 use Rattle.vp_model.proofs.SameTxn.{same_txn-is}
-use Rattle.vp_laws.proofs.Moves.Coordinator.{live_of-has, live_of-is, next_number, nor, open_here}
+use Rattle.vp_laws.proofs.Moves.Coordinator.{live_of-has, live_of-is, next_number, neither, nor, open_here}
 use Rattle.vp_laws.proofs.Moves.Table.{Comes, Handled, Reads, Changes, May, Tries, record_of, remaining, IsLast, Locked, Completes, Decides, lent_at}
 use Rattle.vp_laws.proofs.Moves.Reasons.{Called, IsCallOf, Operates, Takes, Awaits, Why, is_plain, Tells, last_reply, IsDone, IsDecided, Goes, Front}
 use Rattle.vp_laws.proofs.Moves.Numbered.{Numbers, fits, turned, turned_txn}
@@ -155,7 +155,7 @@ module _ (catalogue : Catalogue) (x : SiteState) (given : Input) (after : SiteSt
     with_record-front name exclusive op asked use_record tries used = by_option Q _ _ _
         (λ rec e. by_test Q (is_bad_table catalogue (asked rec)) _ _ (λ bad. numbered t p at.called _ refl (turned t.txn p.number))
         (λ table. by_test Q (nat_le 64 (length t.answers) || is_too_large t (asked rec)) _ _ (λ many. numbered t p at.called _ refl (turned t.txn p.number))
-        (λ fits. by_option Q _ (short catalogue x.held x.bars rec (asked rec)) _ (λ weights s. told _ _ (Tells.inaccessible t p name rec exclusive (asked rec) weights at op e (tries rec) s))
+        (λ fits. by_option Q _ (short catalogue x.held x.bars rec (asked rec)) _ (λ weights s. told _ _ (Tells.inaccessible t p name rec exclusive (asked rec) weights at op e (tries rec) (record { table = table; few = neither (nat_le 64 (length t.answers)) _ fits; fits = nor (nat_le 64 (length t.answers)) _ fits; by = s })))
         (λ enough. used rec e (record { table = table; fits = nor (nat_le 64 (length t.answers)) _ fits; enough = enough; usable = open_here catalogue x rec (asked rec) enough })))))
         (λ none. numbered t p at.called _ refl (turned t.txn p.number))
 

@@ -13,7 +13,7 @@ use Rattle.vp_model.specs.Catalogue.{Catalogue, Table as Weights, find_record}
 use Rattle.vp_model.specs.Locks.{conflict}
 use Rattle.vp_model.specs.Site.{CoordinatorState, SiteState, Lent}
 use Rattle.vp_model.specs.Transactions.{Deed, deed_answer, entry_of, answer_of, put_live, with_finished}
-use Rattle.vp_model.specs.Calls.{short, begun, with_begun, handling, kept_answer}
+use Rattle.vp_model.specs.Calls.{short, is_bad_table, is_too_large, begun, with_begun, handling, kept_answer}
 use Rattle.vp_model.specs.Answers.{with_acknowledged}
 use Rattle.vp_model.specs.Step.{mark}
 use Rattle.vp_model.specs.Told.{is_call}
@@ -76,10 +76,17 @@ is_plain (answer.Spent number) = true
 is_plain answer.TooManyLive = true
 is_plain _ = false
 
+-- why a call that nothing else refuses may not use its record: its weights
+pub record Unable (catalogue : Catalogue) (x : SiteState) (t : Live) (rec : ℕ) (deed : Deed) (weights : ℕ × ℕ) : Type 0 where
+  pub table : is_bad_table catalogue deed ≡ false
+  pub few : nat_le 64 (length t.answers) ≡ false
+  pub fits : is_too_large t deed ≡ false
+  pub by : short catalogue x.held x.bars rec deed ≡ Some weights
+
 -- what the call from this port is told that changes nothing
 pub data Tells (catalogue : Catalogue) (x : SiteState) (given : Input) : ℕ → Answer → Type 0 where
   plain : (words : Answer) → is_plain words ≡ true → (port : ℕ) (called : Call) → given ≡ input.Call port called → answers called words ≡ true → Tells catalogue x given port words
-  inaccessible : (t : Live) (p : Pending) (name : List ℕ) (rec : ℕ) (exclusive : Bool) (deed : Deed) (weights : ℕ × ℕ) → Takes x given t p → Operates p.call name exclusive → find_record catalogue name ≡ Some rec → Tries p.call rec deed → short catalogue x.held x.bars rec deed ≡ Some weights → Tells catalogue x given p.port (answer.Inaccessible t.txn p.number name weights.0 weights.1)
+  inaccessible : (t : Live) (p : Pending) (name : List ℕ) (rec : ℕ) (exclusive : Bool) (deed : Deed) (weights : ℕ × ℕ) → Takes x given t p → Operates p.call name exclusive → find_record catalogue name ≡ Some rec → Tries p.call rec deed → Unable catalogue x t rec deed weights → Tells catalogue x given p.port (answer.Inaccessible t.txn p.number name weights.0 weights.1)
   again : (t : Live) (number : ℕ) (words : Answer) → Has x.live t → kept_answer number t.answers ≡ Some words → (c : IsCallOf given t.txn number) → Tells catalogue x given c.port words
   finished_again : (f : Finished) (number : ℕ) (words : Answer) → Has x.finished f → kept_answer number f.answers ≡ Some words → (c : IsCallOf given f.txn number) → Tells catalogue x given c.port words
   ended : (f : Finished) (number : ℕ) → Has x.finished f → nat_le number (length f.answers) ≡ false → (c : IsCallOf given f.txn number) → Tells catalogue x given c.port (answer_of f.txn number f.ending)

@@ -115,13 +115,13 @@ any_once past test o = any_of test past o.moment o.has o.passes
 pub begun_is : (past : List Moment) (txn : TxnId) (view : ViewId) → WasBegun past txn view → begun_in past txn view ≡ true
 begun_is past txn view o = any_of (λ (m : Moment). list_any (is_begun txn view) (answers_in m.line)) past o.moment o.has o.told
 
-eq_same : (a b : ℕ) → a ≡ b → (a == b) ≡ true
+pub eq_same : (a b : ℕ) → a ≡ b → (a == b) ≡ true
 eq_same a b e = grind (arith, nat_tests, e)
 
-first_of : (b p q : Bool) → b ≡ true → p ≡ true → cond b p q ≡ true
+pub first_of : (b p q : Bool) → b ≡ true → p ≡ true → cond b p q ≡ true
 first_of b p q e h = rw e h
 
-second_of : (b p q : Bool) → b ≡ false → q ≡ true → cond b p q ≡ true
+pub second_of : (b p q : Bool) → b ≡ false → q ≡ true → cond b p q ≡ true
 second_of b p q e h = rw e h
 
 lock_passes : (catalogue : Catalogue) (past : List Moment) (txn : TxnId) (name : List ℕ) (at : ℕ) (holder : Owner) (n : ℕ) → ByLock catalogue past txn name at holder n → closed_by_lock catalogue past txn name at holder n ≡ true

@@ -1,15 +1,17 @@
 -- After one step what is refused is still justified, and so are the step's own answers.
 use Rattle.std.proofs.Common.{◌≡◌, ◌≢◌, ◌∙◌, ◌⊎◌, inl, inr, append-nil, ap, sym, subst, ℕ, zero, suc, ◌+◌, ◌-◌, ◌≤◌, ◌*◌, Bool, true, false, cond, List, [], ◌∷◌, ◌++◌, map, refl, arith, ⊎_elim, length}
-use Rattle.std.specs.Prelude.{slice_get, Option, Some, None, is_some, filter, option_map, option_to_list, nat_le, nat_lt, ◌&&◌, ◌||◌}
+use Rattle.std.specs.Prelude.{slice_get, Option, Some, None, is_some, filter, option_map, option_to_list, nat_le, nat_lt, not, ◌==◌, ◌&&◌, ◌||◌}
 use Rattle.std.proofs.lemmas.Bool.Decides.{nat_tests}
 use Rattle.std.proofs.Math.ListN.{length-append}
 use Rattle.std.specs.List.{list_any}
 use Rattle.std.proofs.lemmas.List.Elements.{filter-append}
-use Rattle.vp_model.specs.Calls.{short_by, short_of_holders, short, change_asked}
+use Rattle.vp_model.specs.Calls.{short_by, short_of_holders, short, change_asked, is_bad_table, is_too_large}
 use Rattle.vp_model.specs.Types.op
-use Rattle.vp_model.specs.Types.{TxnId, ViewId, View, Owner, Obstacle, Answer, Reply, Message, Input, Pending, Live, Ending, Finished}
+use Rattle.vp_model.specs.Types.{TxnId, ViewId, View, Owner, Obstacle, Call, Answer, Reply, Message, Input, Pending, Live, Ending, Finished}
 use Rattle.vp_base.specs.declared.site.Ending.TheVariants.{Committed, Aborted, LockHeld, ViewChanged, TimedOut, Inaccessible}
 use Rattle.vp_model.specs.Types.answer
+use Rattle.vp_model.specs.Types.call
+use Rattle.vp_model.specs.Types.event
 use Rattle.vp_model.specs.Types.input
 use Rattle.vp_model.specs.Types.message
 use Rattle.vp_model.specs.Types.obstacle
@@ -22,9 +24,9 @@ use Rattle.vp_model.specs.Locks.{conflict}
 use Rattle.vp_model.specs.Transactions.{Deed, answer_of, answers_after}
 use Rattle.vp_model.specs.Refresh.{members, members_in}
 use Rattle.vp_model.specs.Step.{step}
-use Rattle.vp_model.specs.Told.{answers_in}
+use Rattle.vp_model.specs.Told.{answers_in, call_in}
 use Rattle.vp_model.specs.World.{WorldState, Moment}
-use Rattle.vp_model.specs.Justified.{justified, was_blocked, held_other, is_held_by, is_other_view, left_then, closed_then, takes_refusal, is_step_of, tested_before, answers_call, keeps_end, tells_end, Request, handles, is_named, is_begun, table_in, tables_below, sums_are, weighs, bars, held_by_none, was_barred, is_barred_by, is_delivery, site_named, refused_number, refused_in, barred_number, barred_in}
+use Rattle.vp_model.specs.Justified.{justified, was_blocked, held_other, is_held_by, is_other_view, left_then, closed_then, takes_refusal, is_step_of, tested_before, answers_call, keeps_end, tells_end, Request, handles, is_named, is_begun, table_in, tables_below, sums_are, weighs_first, weighs, can_change, is_next, bars, held_by_none, was_barred, is_barred_by, is_delivery, site_named, refused_number, refused_in, barred_number, barred_in}
 use Rattle.vp_laws.proofs.Keeping.Settled.{holding}
 use Rattle.vp_laws.proofs.Replies.RefusedCalls.{first_in, first_last, none_first, first_told, refused_of, barred_of}
 use Rattle.vp_laws.proofs.Lists.Members.{Has, filter_has, has_none, has_one, has_left, has_right, has_cases, has_one_is, map_has, any_true, any_of}
@@ -39,11 +41,11 @@ use Rattle.vp_model.proofs.SameTxn.{same_txn-self, same_txn-is}
 use Rattle.vp_laws.proofs.Lists.Names.{apart_unique}
 use Rattle.vp_laws.proofs.Replies.EndsTrue.{EndedAt, ended_step, ended_quiet, said_refused, said_barred}
 use Rattle.vp_laws.proofs.Worlds.Sites.{NowIs, now_is, Quiet, quiet_is, live_still, finished_still}
-use Rattle.vp_laws.proofs.Moves.Reasons.{IsCallOf, Operates, Takes, Awaits, Why, told_to}
+use Rattle.vp_laws.proofs.Moves.Reasons.{IsCallOf, Operates, Takes, Awaits, Unable, Why, told_to}
 use Rattle.vp_laws.proofs.Table.Refusals.{Refused, RefuseSays, refusals-step}
 use Rattle.vp_laws.proofs.Table.Fair.{is_free, finished_as, LiveFrom, FinishedFrom, ReplyFrom, Causes, causes-step}
-use Rattle.vp_laws.proofs.Replies.Fair.{is_site, WasBegun, Once, ByLock, OtherView, Fair, Untold, TellsEnd, closes, begun_more, fair_more, fair_justified}
-use Rattle.vp_laws.proofs.Replies.FairStep.{IsStep, named_site, delivers, delivered_uncalled, barred_there, table_called, step_here, handles_now, operation_asks, named_here, tested_x, replied, blocked_here, blocked_there, other_there, left_now, closed_now, called_now, called_first, pending_now, took_refusal, same_now, same_view-self}
+use Rattle.vp_laws.proofs.Replies.Fair.{is_site, WasBegun, Once, ByLock, OtherView, Fair, Untold, TellsEnd, closes, begun_more, eq_same, fair_more, fair_justified, first_of, second_of}
+use Rattle.vp_laws.proofs.Replies.FairStep.{IsStep, named_site, delivers, delivered_uncalled, barred_there, called_event, step_here, handles_now, operation_asks, named_here, tested_x, replied, blocked_here, blocked_there, other_there, left_now, closed_now, called_now, called_first, pending_now, took_refusal, same_now, same_view-self}
 use Rattle.vp_laws.proofs.Replies.FairAt.{named_number, IsAsked, RefuseFair, RefuseOk, FairEnd, FairAt, refuse_on, end_more, free_justified, report_fair}
 use Rattle.vp_laws.proofs.Table.Kept.{is_report, kept_has}
 use Rattle.vp_laws.proofs.Moves.Coordinator.{slice_has}
@@ -115,6 +117,34 @@ last_place [] y zero a e = inr (refl, cc)
 last_place [] y (suc i) a e = cc
 last_place (x ∷ xs) y zero a e = inl e
 last_place (x ∷ xs) y (suc i) a e = ⊎_elim (λ old. inl old) (λ new. inr (ap suc new.0, new.1)) (last_place xs y i a e)
+
+up_to_64 : (number answered : ℕ) → number ≡ answered + 1 → nat_le 64 answered ≡ false → nat_le number 64 ≡ true
+up_to_64 number answered e few = grind (arith, nat_tests, e, few)
+
+-- a change that a call asks for is the one that it tries
+asked_unrefused : (catalogue : Catalogue) (words : Call) (name : List ℕ) (exclusive : Bool) (rec : ℕ) (deed : Deed) (refuses : Deed → Bool) → Operates words name exclusive → Tries words rec deed → find_record catalogue name ≡ Some rec → refuses deed ≡ false → option_map_or refuses (change_asked catalogue words) false ≡ false
+asked_unrefused catalogue words name _ rec deed refuses (Operates.reads txn n e) tries found none = rw e refl
+asked_unrefused catalogue words name _ rec deed refuses (Operates.writes txn n value e) tries found none = rw (e, found) (subst (λ (d : Deed). refuses d ≡ false) (sym (is deed tries)) none)
+  where
+    is : (deed : Deed) → Tries words rec deed → Deed.operates (op.Write rec (Some value)) ≡ deed
+    is _ (Tries.writes t k called written f) = let z = sym e ∙ f in let same : value ≡ written = cc in rw same refl
+    is _ (Tries.reads t k called f) = let z = sym e ∙ f in cc
+    is _ (Tries.deletes t k called f) = let z = sym e ∙ f in cc
+    is _ (Tries.weighs t k called table f) = let z = sym e ∙ f in cc
+asked_unrefused catalogue words name _ rec deed refuses (Operates.deletes txn n e) tries found none = rw (e, found) (subst (λ (d : Deed). refuses d ≡ false) (sym (is deed tries)) none)
+  where
+    is : (deed : Deed) → Tries words rec deed → Deed.operates (op.Write rec None) ≡ deed
+    is _ (Tries.deletes t k called f) = refl
+    is _ (Tries.reads t k called f) = let z = sym e ∙ f in cc
+    is _ (Tries.writes t k called written f) = let z = sym e ∙ f in cc
+    is _ (Tries.weighs t k called table f) = let z = sym e ∙ f in cc
+asked_unrefused catalogue words name _ rec deed refuses (Operates.weighs txn n table e) tries found none = rw (e, found) (subst (λ (d : Deed). refuses d ≡ false) (sym (is deed tries)) none)
+  where
+    is : (deed : Deed) → Tries words rec deed → Deed.weighs rec table ≡ deed
+    is _ (Tries.weighs t k called given f) = let z = sym e ∙ f in let same : table ≡ given = cc in rw same refl
+    is _ (Tries.reads t k called f) = let z = sym e ∙ f in cc
+    is _ (Tries.writes t k called written f) = let z = sym e ∙ f in cc
+    is _ (Tries.deletes t k called f) = let z = sym e ∙ f in cc
 
 -- a number and the place of its answer
 place_number : (number n : ℕ) → n ≡ number - 1 + 1 → (n ≡ number) ⊎ ((number ≡ 0) × (n ≡ 1))
@@ -422,17 +452,8 @@ module _ (catalogue : Catalogue) (world : WorldState) (past : List Moment) (m0 :
   told_of t why told p e = replied catalogue m0 world s x given o is p.port (answer_of t.txn p.number why) (told p e)
 
   -- the weights that an answer names: by the call's own table, by a bar, or none since no member holds the record
-  weighs_when : (name : List ℕ) (rec : ℕ) (v : View) (i n : ℕ) → x.held ≡ Some v → nat_le (2 * i) n ≡ true → find_record catalogue name ≡ Some rec → (option_map_or (sums_are i n (members x)) (table_in m0.line.event) false || bars catalogue m0.before.journal rec i n x || held_by_none catalogue rec i n x) ≡ true → weighs catalogue m0 name i n x ≡ true
-  weighs_when name rec v i n held up_to found sums = let some : is_some x.held ≡ true = rw held refl in rw (some, found) (all_of_two (nat_le (2 * i) n) _ up_to sums)
-
-  one_of_three : (a b c : Bool) → ((a ≡ true) ⊎ ((b ≡ true) ⊎ (c ≡ true))) → (a || b || c) ≡ true
-  one_of_three true b c h = refl
-  one_of_three false true c h = refl
-  one_of_three false false true h = refl
-  one_of_three false false false h = ⊎_elim (λ a. let z = a in cc) (λ q. ⊎_elim (λ b. let z = b in cc) (λ c. let z = c in cc) q) h
-
-  weighs_one : (name : List ℕ) (rec : ℕ) (v : View) (i n : ℕ) → x.held ≡ Some v → nat_le (2 * i) n ≡ true → find_record catalogue name ≡ Some rec → ((option_map_or (sums_are i n (members x)) (table_in m0.line.event) false ≡ true) ⊎ ((bars catalogue m0.before.journal rec i n x ≡ true) ⊎ (held_by_none catalogue rec i n x ≡ true))) → weighs catalogue m0 name i n x ≡ true
-  weighs_one name rec v i n held up_to found h = weighs_when name rec v i n held up_to found (one_of_three (option_map_or (sums_are i n (members x)) (table_in m0.line.event) false) (bars catalogue m0.before.journal rec i n x) (held_by_none catalogue rec i n x) h)
+  weighs_by : (name : List ℕ) (rec : ℕ) (v : View) (i n : ℕ) → x.held ≡ Some v → nat_le (2 * i) n ≡ true → find_record catalogue name ≡ Some rec → weighs_first catalogue m0 i n x rec ≡ true → weighs catalogue m0 name i n x ≡ true
+  weighs_by name rec v i n held up_to found first = let some : is_some x.held ≡ true = rw held refl in rw (some, found) (all_of_two (nat_le (2 * i) n) _ up_to first)
 
   none_half : (n : ℕ) → nat_le (2 * 0) n ≡ true
   none_half n = grind (arith, nat_tests)
@@ -451,43 +472,80 @@ module _ (catalogue : Catalogue) (world : WorldState) (past : List Moment) (m0 :
       let any : list_any (sums_are bar.0 bar.1 v.members) (tables_below catalogue w.journal rec v.id) ≡ true = any_of (sums_are bar.0 bar.1 v.members) (tables_below catalogue w.journal rec v.id) b.table b.given sums in
       (rw (held, e, eq_self bar.0, eq_self bar.1, up_to) any, up_to)
 
+  -- whether the call's own table leaves a majority
+  own_short : (table : Weights) (b : Bool) → table_in m0.line.event ≡ Some table → not (accessible_by table (members x)) ≡ b → option_map_or (λ table. not (accessible_by table (members x))) (table_in m0.line.event) false ≡ b
+  own_short table b own e = rw own e
+
+  weighs_else : (name : List ℕ) (rec : ℕ) (v : View) (weights : ℕ × ℕ) → x.held ≡ Some v → find_record catalogue name ≡ Some rec → option_map_or (λ table. not (accessible_by table (members x))) (table_in m0.line.event) false ≡ false → first_some (value_at rec x.bars) (short_of_holders catalogue rec (members_in x.held)) ≡ Some weights → weighs catalogue m0 name weights.0 weights.1 x ≡ true
+  weighs_else name rec v weights held found own e = by_bar (value_at rec x.bars) refl e
+    where
+      first : (i n : ℕ) (b : Bool) → is_some (value_at rec x.bars) ≡ b → cond b (bars catalogue m0.before.journal rec i n x) (held_by_none catalogue rec i n x) ≡ true → weighs_first catalogue m0 i n x rec ≡ true
+      first i n b is h = second_of _ _ _ own (subst (λ (b : Bool). cond b (bars catalogue m0.before.journal rec i n x) (held_by_none catalogue rec i n x) ≡ true) (sym is) h)
+
+      by_none : value_at rec x.bars ≡ None → (b : Bool) → list_any (has (members_in x.held)) (holders catalogue rec) ≡ b → cond b None (Some (0, total catalogue rec)) ≡ Some weights → weighs catalogue m0 name weights.0 weights.1 x ≡ true
+      by_none none_here true f e = cc
+      by_none none_here false f e =
+          let is : (0, total catalogue rec) ≡ weights = cc in
+          let none : held_by_none catalogue rec 0 (total catalogue rec) x ≡ true = rw (f, eq_self (total catalogue rec)) refl in
+          subst (λ (q : ℕ × ℕ). weighs catalogue m0 name q.0 q.1 x ≡ true) is
+          (weighs_by name rec v 0 (total catalogue rec) held (none_half (total catalogue rec)) found (first 0 (total catalogue rec) false (ap is_some none_here) none))
+
+      by_bar : (bar : Option (ℕ × ℕ)) → value_at rec x.bars ≡ bar → first_some bar (short_of_holders catalogue rec (members_in x.held)) ≡ Some weights → weighs catalogue m0 name weights.0 weights.1 x ≡ true
+      by_bar None f e = by_none f (list_any (has (members_in x.held)) (holders catalogue rec)) refl e
+      by_bar (Some bar) f e =
+          let same : bar ≡ weights = cc in
+          let b = bar_holds rec v bar held f in
+          let barred : bars catalogue m0.before.journal rec bar.0 bar.1 x ≡ true = subst (λ (w : WorldState). bars catalogue w.journal rec bar.0 bar.1 x ≡ true) (sym is.before) b.0 in
+          subst (λ (q : ℕ × ℕ). weighs catalogue m0 name q.0 q.1 x ≡ true) same (weighs_by name rec v bar.0 bar.1 held b.1 found (first bar.0 bar.1 true (ap is_some f) barred))
+
   weighs_x : (t : Live) (p : Pending) (name : List ℕ) (rec : ℕ) (deed : Deed) (weights : ℕ × ℕ) → Takes x given t p → find_record catalogue name ≡ Some rec → Tries p.call rec deed → short catalogue x.held x.bars rec deed ≡ Some weights → weighs catalogue m0 name weights.0 weights.1 x ≡ true
-  weighs_x t p name rec deed weights at found tries e = go deed tries (short_by deed (members_in x.held)) refl e
+  weighs_x t p name rec deed weights at found tries e = go deed tries e
     where
       v : (v : View) × (x.held ≡ Some v)
       v = let q = d.led.live t at.live in (q.0, q.1)
 
-      of_table : (table : Weights) (b : Bool) → accessible_by table (members_in x.held) ≡ b → cond b None (Some (weight_inside (members_in x.held) table, weight_total table)) ≡ Some weights → table_in m0.line.event ≡ Some table → weighs catalogue m0 name weights.0 weights.1 x ≡ true
-      of_table table true f e own = cc
-      of_table table false f e own =
+      event_is : (words : Call) → p.call ≡ words → m0.line.event ≡ event.Call s words
+      event_is words same = called_event m0.line.event world s given is.gives p.port words (at.called.comes ∙ ap (input.Call p.port) same)
+
+      no_table : (words : Call) → p.call ≡ words → table_in (event.Call s words) ≡ None → option_map_or (λ table. not (accessible_by table (members x))) (table_in m0.line.event) false ≡ false
+      no_table words same none = let own : table_in m0.line.event ≡ None = ap table_in (event_is words same) ∙ none in rw own refl
+
+      of_table : (table : Weights) (b : Bool) → accessible_by table (members_in x.held) ≡ b → table_in m0.line.event ≡ Some table → first_some (cond b None (Some (weight_inside (members_in x.held) table, weight_total table))) (first_some (value_at rec x.bars) (short_of_holders catalogue rec (members_in x.held))) ≡ Some weights → weighs catalogue m0 name weights.0 weights.1 x ≡ true
+      of_table table true f own e = weighs_else name rec v.0 weights v.1 found (own_short table false own (ap not f)) e
+      of_table table false f own e =
           let is : (weight_inside (members_in x.held) table, weight_total table) ≡ weights = cc in
           let sums : option_map_or (sums_are (weight_inside (members_in x.held) table) (weight_total table) (members x)) (table_in m0.line.event) false ≡ true = rw own (sums_self table (members_in x.held)) in
           subst (λ (q : ℕ × ℕ). weighs catalogue m0 name q.0 q.1 x ≡ true) is
-          (weighs_one name rec v.0 (weight_inside (members_in x.held) table) (weight_total table) v.1 (half (weight_inside (members_in x.held) table) (weight_total table) f) found (inl sums))
+          (weighs_by name rec v.0 (weight_inside (members_in x.held) table) (weight_total table) v.1 (half (weight_inside (members_in x.held) table) (weight_total table) f) found (first_of _ _ _ (own_short table true own (ap not f)) sums))
 
-      by_none : (b : Bool) → list_any (has (members_in x.held)) (holders catalogue rec) ≡ b → cond b None (Some (0, total catalogue rec)) ≡ Some weights → weighs catalogue m0 name weights.0 weights.1 x ≡ true
-      by_none true f e = cc
-      by_none false f e =
-          let is : (0, total catalogue rec) ≡ weights = cc in
-          let none : held_by_none catalogue rec 0 (total catalogue rec) x ≡ true = rw (f, eq_self (total catalogue rec)) refl in
-          subst (λ (q : ℕ × ℕ). weighs catalogue m0 name q.0 q.1 x ≡ true) is
-          (weighs_one name rec v.0 0 (total catalogue rec) v.1 (none_half (total catalogue rec)) found (inr (inr none)))
+      go : (a : Deed) → Tries p.call rec a → first_some (short_by a (members_in x.held)) (first_some (value_at rec x.bars) (short_of_holders catalogue rec (members_in x.held))) ≡ Some weights → weighs catalogue m0 name weights.0 weights.1 x ≡ true
+      go _ (Tries.weighs txn number called table words) e = of_table table (accessible_by table (members_in x.held)) refl (ap table_in (event_is (call.Weigh txn number called table) words)) e
+      go _ (Tries.reads txn number called words) e = weighs_else name rec v.0 weights v.1 found (no_table (call.Read txn number called) words refl) e
+      go _ (Tries.writes txn number called value words) e = weighs_else name rec v.0 weights v.1 found (no_table (call.Write txn number called value) words refl) e
+      go _ (Tries.deletes txn number called words) e = weighs_else name rec v.0 weights v.1 found (no_table (call.Delete txn number called) words refl) e
 
-      by_bar : (bar : Option (ℕ × ℕ)) → value_at rec x.bars ≡ bar → first_some bar (short_of_holders catalogue rec (members_in x.held)) ≡ Some weights → weighs catalogue m0 name weights.0 weights.1 x ≡ true
-      by_bar None f e = by_none (list_any (has (members_in x.held)) (holders catalogue rec)) refl e
-      by_bar (Some bar) f e =
-          let same : bar ≡ weights = cc in
-          let b = bar_holds rec v.0 bar v.1 f in
-          let barred : bars catalogue m0.before.journal rec bar.0 bar.1 x ≡ true = subst (λ (v : WorldState). bars catalogue v.journal rec bar.0 bar.1 x ≡ true) (sym is.before) b.0 in
-          subst (λ (q : ℕ × ℕ). weighs catalogue m0 name q.0 q.1 x ≡ true) same (weighs_one name rec v.0 bar.0 bar.1 v.1 b.1 found (inr (inl barred)))
+  -- the call is the next one, and nothing else refuses it
+  next_here : (t : Live) (p : Pending) (name : List ℕ) (rec : ℕ) (exclusive : Bool) (deed : Deed) (weights : ℕ × ℕ) → Takes x given t p → Operates p.call name exclusive → find_record catalogue name ≡ Some rec → Tries p.call rec deed → Unable catalogue x t rec deed weights → list_any (is_next catalogue m0 t.txn p.number) x.live ≡ true
+  next_here t p name rec exclusive deed weights at op found tries u = any_of (is_next catalogue m0 t.txn p.number) x.live t at.live
+      (all_of_two _ (option_map_or (can_change catalogue t) (call_in m0.line.event) false)
+      (all_of_two _ (nat_le p.number 64)
+      (all_of_two _ (p.number == length t.answers + 1)
+      (all_of_two (same_txn t.txn t.txn) (not (is_some t.pending)) (same_txn-self t.txn) (ap not at.next.idle))
+      (eq_same p.number (length t.answers + 1) at.next.number))
+      (up_to_64 p.number (length t.answers) at.next.number u.few))
+      can)
+    where
+      refuses : Deed → Bool
+      refuses deed = is_bad_table catalogue deed || is_too_large t deed
 
-      go : (a : Deed) → Tries p.call rec a → (o : Option (ℕ × ℕ)) → short_by a (members_in x.held) ≡ o → first_some o (first_some (value_at rec x.bars) (short_of_holders catalogue rec (members_in x.held))) ≡ Some weights → weighs catalogue m0 name weights.0 weights.1 x ≡ true
-      go a from None q e = by_bar (value_at rec x.bars) refl e
-      go _ (Tries.weighs txn number called table words) (Some own) q e =
-          of_table table (accessible_by table (members_in x.held)) refl (q ∙ e) (table_called m0.line.event world s given is.gives p.port txn number called table (at.called.comes ∙ ap (input.Call p.port) words))
-      go _ (Tries.reads txn number called words) (Some own) q e = cc
-      go _ (Tries.writes txn number called value words) (Some own) q e = cc
-      go _ (Tries.deletes txn number called words) (Some own) q e = cc
+      none : refuses deed ≡ false
+      none = rw (u.table, u.fits) refl
+
+      asks : option_map_or (λ deed. is_bad_table catalogue deed || is_too_large t deed) (change_asked catalogue p.call) false ≡ false
+      asks = asked_unrefused catalogue p.call name exclusive rec deed (λ deed. is_bad_table catalogue deed || is_too_large t deed) op tries found none
+
+      can : option_map_or (can_change catalogue t) (call_in m0.line.event) false ≡ true
+      can = let calls : call_in m0.line.event ≡ Some p.call = ap call_in (called_event m0.line.event world s given is.gives p.port p.call at.called.comes) in rw calls (ap not asks)
 
   -- the step is of the transaction's own site, which closes it or keeps its end, and answers this call
   tells_here : (txn : TxnId) (n : ℕ) → txn.site ≡ s → (closed_then txn m0 || tested_before s (keeps_end txn) m0) ≡ true → answers_call txn n m0 ≡ true → tells_end txn n m0 ≡ true
@@ -558,13 +616,13 @@ module _ (catalogue : Catalogue) (world : WorldState) (past : List Moment) (m0 :
 
   reply_justified : (a : Answer) → Has (answers_in m0.line) a → Untold (lines_in now) a → ReplyFrom catalogue x given o.site a → justified catalogue now m0 a ≡ true
   reply_justified a h untold (ReplyFrom.free b e) = free_justified catalogue now m0 b e
-  reply_justified a h untold (ReplyFrom.inaccessible t p name rec exclusive deed weights at op found tries e) =
+  reply_justified a h untold (ReplyFrom.inaccessible t p name rec exclusive deed weights at op found tries u) =
       let i = weights.0 in
       let n = weights.1 in
       let r : Request = record { txn = t.txn; number = p.number; lock = Some (rec, exclusive); view = None } in
       let asked : handles catalogue s t.txn p.number (λ request. option_map_or (λ lock. is_named catalogue name lock.0) request.lock false) m0 ≡ true = handles_now catalogue m0 world s x given o is r (λ request. option_map_or (λ lock. is_named catalogue name lock.0) request.lock false) (operation_asks catalogue m0 world s x given o is t p name rec exclusive at.called op found) (named_here catalogue m0 world s x given o is name rec found) in
-      let weighed : tested_before s (λ site. is_live t.txn site.live && weighs catalogue m0 name i n site) m0 ≡ true = tested_x catalogue m0 world s x given o is (λ site. is_live t.txn site.live && weighs catalogue m0 name i n site) (all_of_two (is_live t.txn x.live) (weighs catalogue m0 name i n x) (was_live t at.live) (weighs_x t p name rec deed weights at found tries e)) in
-      or_left _ _ (subst (λ (k : ℕ). (handles catalogue k t.txn p.number (λ request. option_map_or (λ lock. is_named catalogue name lock.0) request.lock false) m0 && tested_before k (λ site. is_live t.txn site.live && weighs catalogue m0 name i n site) m0) ≡ true) (sym (own_site t at.live)) (all_of_two _ _ asked weighed))
+      let weighed : tested_before s (λ site. list_any (is_next catalogue m0 t.txn p.number) site.live && weighs catalogue m0 name i n site) m0 ≡ true = tested_x catalogue m0 world s x given o is (λ site. list_any (is_next catalogue m0 t.txn p.number) site.live && weighs catalogue m0 name i n site) (all_of_two (list_any (is_next catalogue m0 t.txn p.number) x.live) (weighs catalogue m0 name i n x) (next_here t p name rec exclusive deed weights at op found tries u) (weighs_x t p name rec deed weights at found tries u.by)) in
+      or_left _ _ (subst (λ (k : ℕ). (handles catalogue k t.txn p.number (λ request. option_map_or (λ lock. is_named catalogue name lock.0) request.lock false) m0 && tested_before k (λ site. list_any (is_next catalogue m0 t.txn p.number) site.live && weighs catalogue m0 name i n site) m0) ≡ true) (sym (own_site t at.live)) (all_of_two _ _ asked weighed))
   reply_justified a h untold (ReplyFrom.repeated f place b k q c) =
       end_justified b (fair_more catalogue past (m0 ∷ []) b ((fair.finished s x f up k).answers b (kept_has place f.answers b q))) untold (⊎_elim
       (λ r. report_tells m0 b r)

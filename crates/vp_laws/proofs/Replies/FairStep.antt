@@ -9,19 +9,20 @@ use Rattle.std.proofs.lemmas.Slice.Eq.{bytes_eq-Decides}
 use Rattle.vp_model.specs.Types.{TxnId, ViewId, View, Owner, Obstacle, Call, Answer, Reply, Message, Sent, Event, Input, Pending, Live}
 use Rattle.vp_model.specs.Types.answer
 use Rattle.vp_model.specs.Types.call
+use Rattle.vp_model.specs.Types.event
 use Rattle.vp_model.specs.Types.input
 use Rattle.vp_model.specs.Types.message
 use Rattle.vp_model.specs.Types.obstacle
 use Rattle.vp_model.specs.Types.shown
 use Rattle.vp_model.specs.Words.{same_txn, same_view, is_view}
-use Rattle.vp_model.specs.Catalogue.{Catalogue, Table as Weights, find_record}
+use Rattle.vp_model.specs.Catalogue.{Catalogue, find_record}
 use Rattle.vp_model.specs.Locks.{conflict}
 use Rattle.vp_model.specs.Site.{SiteState, Stepped}
 use Rattle.vp_model.specs.World.{WorldState, Moment, site_of}
 use Rattle.vp_model.specs.Answers.{is_live}
 use Rattle.vp_model.specs.Messages.{held_id}
 use Rattle.vp_model.specs.Told.{answers_in, messages_in, is_call, call_in}
-use Rattle.vp_model.specs.Justified.{Request, bars, was_barred, is_barred_by, is_delivery, table_in, call_request, message_request, request_of, site_named, is_step_of, is_request, tested_before, tested_after, blocks, is_named, says_held, gave_held, was_blocked, refuses, is_held_by, is_other_view, is_same_view, handles, held_other, left_then, closed_then, delivered_by, takes_refusal, is_called, is_pending, answers_call}
+use Rattle.vp_model.specs.Justified.{Request, bars, was_barred, is_barred_by, is_delivery, call_request, message_request, request_of, site_named, is_step_of, is_request, tested_before, tested_after, blocks, is_named, says_held, gave_held, was_blocked, refuses, is_held_by, is_other_view, is_same_view, handles, held_other, left_then, closed_then, delivered_by, takes_refusal, is_called, is_pending, answers_call}
 use Rattle.vp_laws.proofs.Lists.Members.{Has, both_true, any_of}
 use Rattle.vp_laws.proofs.Lists.Changes.{mapped_has}
 use Rattle.vp_model.proofs.SameTxn.{same_txn-is, same_txn-self}
@@ -29,7 +30,7 @@ use Rattle.vp_laws.proofs.Moves.Table.{Comes, Requests, Asks}
 use Rattle.vp_laws.proofs.Moves.LocalViews.{letter}
 use Rattle.vp_laws.proofs.Worlds.Occurs.{Gives}
 use Rattle.vp_laws.proofs.Moves.Reasons.{Called, IsCallOf, Operates, told_to}
-use Rattle.vp_laws.proofs.Lists.LockTables.{same_owner-self, least_any}
+use Rattle.vp_laws.proofs.Lists.LockTables.{same_owner-self}
 use Rattle.vp_laws.proofs.Lists.Numbers.{eq_not, eq_self}
 
 -- the moment is a step of the site s, from x to o
@@ -66,18 +67,15 @@ message_asks catalogue e w s given (Gives.came k m is at to) from words c = let 
 message_asks catalogue e w s given (Gives.ticked is) from words c = cc
 message_asks catalogue e w s given (Gives.probed is) from words c = cc
 
-called_in : (e : Event) (w : WorldState) (s : ℕ) (given : Input) → Gives e w s given → (port : ℕ) (words : Call) → given ≡ input.Call port words → call_in e ≡ Some words
-called_in e w s given (Gives.called calls is) port words c = let same : calls ≡ words = cc in rw (is, same) refl
-called_in e w s given (Gives.came k m is at to) port words c = cc
-called_in e w s given (Gives.ticked is) port words c = cc
-called_in e w s given (Gives.probed is) port words c = cc
+-- the call that comes is that of the event
+pub called_event : (e : Event) (w : WorldState) (s : ℕ) (given : Input) → Gives e w s given → (port : ℕ) (words : Call) → given ≡ input.Call port words → e ≡ event.Call s words
+called_event e w s given (Gives.called calls is) port words c = let same : calls ≡ words = cc in rw (is, same) refl
+called_event e w s given (Gives.came k m is at to) port words c = cc
+called_event e w s given (Gives.ticked is) port words c = cc
+called_event e w s given (Gives.probed is) port words c = cc
 
--- the table of the call that comes
-pub table_called : (e : Event) (w : WorldState) (s : ℕ) (given : Input) → Gives e w s given → (port : ℕ) (txn : TxnId) (number : ℕ) (name : List ℕ) (table : Weights) → given ≡ input.Call port (call.Weigh txn number name table) → table_in e ≡ Some table
-table_called e w s given (Gives.called calls is) port txn number name table c = let same : calls ≡ call.Weigh txn number name table = cc in rw (is, same) refl
-table_called e w s given (Gives.came k m is at to) port txn number name table c = cc
-table_called e w s given (Gives.ticked is) port txn number name table c = cc
-table_called e w s given (Gives.probed is) port txn number name table c = cc
+called_in : (e : Event) (w : WorldState) (s : ℕ) (given : Input) → Gives e w s given → (port : ℕ) (words : Call) → given ≡ input.Call port words → call_in e ≡ Some words
+called_in e w s given gives port words c = ap call_in (called_event e w s given gives port words c)
 
 sent_is : (m : Sent) (from to : ℕ) (words : Message) → m.from ≡ from → m.to ≡ to → m.message ≡ words → m ≡ letter from to words
 sent_is m from to words p q r = rw (← p, ← q, ← r) refl
@@ -134,7 +132,7 @@ module _ (catalogue : Catalogue) (m : Moment) (w : WorldState) (s : ℕ) (x : Si
       (subst (λ (k : ℕ). tested_before k (λ site. list_any (is_pending t.txn p.number) site.live) m ≡ true) (sym at) (tested_x (λ site. list_any (is_pending t.txn p.number) site.live) waits))
 
   pub blocks_x : (txn : TxnId) (holder : Owner) (rec : ℕ) (exclusive : Bool) → conflict rec exclusive txn x.locks ≡ Some holder → tested_before s (blocks txn holder (rec, exclusive)) m ≡ true
-  blocks_x txn holder rec exclusive e = tested_x (blocks txn holder (rec, exclusive)) (least_any holder _ e)
+  blocks_x txn holder rec exclusive e = tested_x (blocks txn holder (rec, exclusive)) (rw e (same_owner-self holder))
 
   -- the request of the step is this one, and passes the test
   pub handles_now : (r : Request) (test : Request → Bool) → request_of catalogue w m.line.event ≡ Some r → test r ≡ true → handles catalogue s r.txn r.number test m ≡ true

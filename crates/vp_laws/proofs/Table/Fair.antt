@@ -7,7 +7,7 @@ use Rattle.vp_model.specs.Types.answer
 use Rattle.vp_model.specs.Catalogue.{Catalogue, find_record, inside, total}
 use Rattle.vp_model.specs.Site.{CoordinatorState, SiteState}
 use Rattle.vp_model.specs.Transactions.{Deed, answer_of, answers_after, put_live, with_finished}
-use Rattle.vp_model.specs.Calls.{short, begun, with_begun, kept_answer}
+use Rattle.vp_model.specs.Calls.{begun, with_begun, kept_answer}
 use Rattle.vp_model.specs.Answers.{with_acknowledged}
 use Rattle.vp_model.specs.Step.{mark, step}
 use Rattle.vp_laws.proofs.Lists.Members.{Has, has_none, has_one, has_left, has_right, has_cases, has_one_is, map_has}
@@ -15,7 +15,7 @@ use Rattle.vp_laws.proofs.Lists.Changes.{without_first_has, change_first_has, at
 use Rattle.vp_laws.proofs.Lists.Names.{named}
 use Rattle.vp_laws.proofs.Moves.Table.{Tries, next_view, next_name, Handled}
 use Rattle.vp_laws.proofs.Table.Kept.{AnswersKept, kept_has, deed_report, is_report}
-use Rattle.vp_laws.proofs.Moves.Reasons.{IsCallOf, Operates, Takes, Why, Tells, is_plain, told_to, last_reply, Goes, Front}
+use Rattle.vp_laws.proofs.Moves.Reasons.{IsCallOf, Operates, Takes, Why, Tells, Unable, is_plain, told_to, last_reply, Goes, Front}
 use Rattle.vp_laws.proofs.Moves.FrontSteps.{step-front}
 use Rattle.vp_laws.proofs.Moves.Calls.{done, waiting, reading, writing}
 
@@ -43,7 +43,7 @@ pub data FinishedFrom (catalogue : Catalogue) (x : SiteState) (given : Input) (a
 -- an answer needs no cause, or has one, or is repeated to a call of its transaction
 pub data ReplyFrom (catalogue : Catalogue) (x : SiteState) (given : Input) (after : SiteState) : Answer → Type 0 where
   free : (a : Answer) → is_free a ≡ true → ReplyFrom catalogue x given after a
-  inaccessible : (t : Live) (p : Pending) (name : List ℕ) (rec : ℕ) (exclusive : Bool) (deed : Deed) (weights : ℕ × ℕ) → Takes x given t p → Operates p.call name exclusive → find_record catalogue name ≡ Some rec → Tries p.call rec deed → short catalogue x.held x.bars rec deed ≡ Some weights → ReplyFrom catalogue x given after (answer.Inaccessible t.txn p.number name weights.0 weights.1)
+  inaccessible : (t : Live) (p : Pending) (name : List ℕ) (rec : ℕ) (exclusive : Bool) (deed : Deed) (weights : ℕ × ℕ) → Takes x given t p → Operates p.call name exclusive → find_record catalogue name ≡ Some rec → Tries p.call rec deed → Unable catalogue x t rec deed weights → ReplyFrom catalogue x given after (answer.Inaccessible t.txn p.number name weights.0 weights.1)
   repeated : (f : Finished) (number : ℕ) (a : Answer) → Has x.finished f → kept_answer number f.answers ≡ Some a → IsCallOf given f.txn number → ReplyFrom catalogue x given after a
   ended : (f : Finished) (number : ℕ) → Has x.finished f → nat_le number (length f.answers) ≡ false → IsCallOf given f.txn number → ReplyFrom catalogue x given after (answer_of f.txn number f.ending)
   closed : (t : Live) (why : Ending) (p : Pending) → Handled x t → Why catalogue x given after t why → t.pending ≡ Some p → ReplyFrom catalogue x given after (answer_of t.txn p.number why)
