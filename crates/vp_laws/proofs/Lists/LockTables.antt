@@ -59,32 +59,6 @@ none_least : (locks : List Lock) → least_owner locks ≡ None → locks ≡ []
 none_least [] e = refl
 none_least (l ∷ ls) e = absurd (some_best l.owner ls e)
 
-best_any : (b h : Owner) (locks : List Lock) → fold (λ best lock. Some (lesser best lock.owner)) (Some b) locks ≡ Some h → (b ≡ h) ⊎ (list_any (λ l. same_owner l.owner h) locks ≡ true)
-best_any b h [] e = inl cc
-best_any b h (l ∷ ls) e = go (owner_before l.owner b) (λ c. best_any c h ls) e
-  where
-    later : list_any (λ (m : Lock). same_owner m.owner h) ls ≡ true → list_any (λ (m : Lock). same_owner m.owner h) (l ∷ ls) ≡ true
-    later q = by_or (same_owner l.owner h)
-      where
-        by_or : (a : Bool) → (a || list_any (λ (m : Lock). same_owner m.owner h) ls) ≡ true
-        by_or true = refl
-        by_or false = q
-
-    now : l.owner ≡ h → list_any (λ (m : Lock). same_owner m.owner h) (l ∷ ls) ≡ true
-    now q = let z : same_owner l.owner h ≡ true = rw q (same_owner-self h) in rw z refl
-
-    go : (a : Bool) → ((c : Owner) → fold (λ best lock. Some (lesser best lock.owner)) (Some c) ls ≡ Some h → (c ≡ h) ⊎ (list_any (λ (m : Lock). same_owner m.owner h) ls ≡ true)) → fold (λ best lock. Some (lesser best lock.owner)) (Some (cond a l.owner b)) ls ≡ Some h → (b ≡ h) ⊎ (list_any (λ (m : Lock). same_owner m.owner h) (l ∷ ls) ≡ true)
-    go true i q = ⊎_elim (λ same. inr (now same)) (λ more. inr (later more)) (i l.owner q)
-    go false i q = ⊎_elim (λ same. inl same) (λ more. inr (later more)) (i b q)
-
-pub least_any : (h : Owner) (locks : List Lock) → least_owner locks ≡ Some h → list_any (λ l. same_owner l.owner h) locks ≡ true
-least_any h [] e = cc
-least_any h (l ∷ ls) e = ⊎_elim (λ (q : l.owner ≡ h). let z : same_owner l.owner h ≡ true = rw q (same_owner-self h) in rw z refl) (λ q. later (same_owner l.owner h) q) (best_any l.owner h ls e)
-  where
-    later : (a : Bool) → list_any (λ (m : Lock). same_owner m.owner h) ls ≡ true → (a || list_any (λ (m : Lock). same_owner m.owner h) ls) ≡ true
-    later true q = refl
-    later false q = q
-
 pub free_from_none : (rec : ℕ) (exclusive : Bool) (txn : TxnId) (locks : List Lock) → conflict rec exclusive txn locks ≡ None → IsFree rec exclusive (owner.Txn txn) locks
 free_from_none rec exclusive txn locks e a h r x =
     let none = none_least (conflicting rec exclusive (owner.Txn txn) locks) e in

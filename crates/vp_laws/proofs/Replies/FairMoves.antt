@@ -483,12 +483,12 @@ module _ (catalogue : Catalogue) (world : WorldState) (past : List Moment) (m0 :
       first i n b is h = second_of _ _ _ own (subst (λ (b : Bool). cond b (bars catalogue m0.before.journal rec i n x) (held_by_none catalogue rec i n x) ≡ true) (sym is) h)
 
       by_none : value_at rec x.bars ≡ None → (b : Bool) → list_any (has (members_in x.held)) (holders catalogue rec) ≡ b → cond b None (Some (0, total catalogue rec)) ≡ Some weights → weighs catalogue m0 name weights.0 weights.1 x ≡ true
-      by_none open true f e = cc
-      by_none open false f e =
+      by_none none_here true f e = cc
+      by_none none_here false f e =
           let is : (0, total catalogue rec) ≡ weights = cc in
           let none : held_by_none catalogue rec 0 (total catalogue rec) x ≡ true = rw (f, eq_self (total catalogue rec)) refl in
           subst (λ (q : ℕ × ℕ). weighs catalogue m0 name q.0 q.1 x ≡ true) is
-          (weighs_by name rec v 0 (total catalogue rec) held (none_half (total catalogue rec)) found (first 0 (total catalogue rec) false (ap is_some open) none))
+          (weighs_by name rec v 0 (total catalogue rec) held (none_half (total catalogue rec)) found (first 0 (total catalogue rec) false (ap is_some none_here) none))
 
       by_bar : (bar : Option (ℕ × ℕ)) → value_at rec x.bars ≡ bar → first_some bar (short_of_holders catalogue rec (members_in x.held)) ≡ Some weights → weighs catalogue m0 name weights.0 weights.1 x ≡ true
       by_bar None f e = by_none f (list_any (has (members_in x.held)) (holders catalogue rec)) refl e
@@ -527,10 +527,13 @@ module _ (catalogue : Catalogue) (world : WorldState) (past : List Moment) (m0 :
   -- the call is the next one, and nothing else refuses it
   next_here : (t : Live) (p : Pending) (name : List ℕ) (rec : ℕ) (exclusive : Bool) (deed : Deed) (weights : ℕ × ℕ) → Takes x given t p → Operates p.call name exclusive → find_record catalogue name ≡ Some rec → Tries p.call rec deed → Unable catalogue x t rec deed weights → list_any (is_next catalogue m0 t.txn p.number) x.live ≡ true
   next_here t p name rec exclusive deed weights at op found tries u = any_of (is_next catalogue m0 t.txn p.number) x.live t at.live
-      (all_of_two (same_txn t.txn t.txn) _ (same_txn-self t.txn)
-      (all_of_two (not (is_some t.pending)) _ (ap not at.next.idle)
-      (all_of_two (p.number == length t.answers + 1) _ (eq_same p.number (length t.answers + 1) at.next.number)
-      (all_of_two (nat_le p.number 64) _ (up_to_64 p.number (length t.answers) at.next.number u.few) can))))
+      (all_of_two _ (option_map_or (can_change catalogue t) (call_in m0.line.event) false)
+      (all_of_two _ (nat_le p.number 64)
+      (all_of_two _ (p.number == length t.answers + 1)
+      (all_of_two (same_txn t.txn t.txn) (not (is_some t.pending)) (same_txn-self t.txn) (ap not at.next.idle))
+      (eq_same p.number (length t.answers + 1) at.next.number))
+      (up_to_64 p.number (length t.answers) at.next.number u.few))
+      can)
     where
       refuses : Deed → Bool
       refuses deed = is_bad_table catalogue deed || is_too_large t deed

@@ -8,7 +8,6 @@ use Rattle.std.proofs.lemmas.Bool.Decides.{nat_tests}
 use Rattle.std.proofs.lemmas.Slice.Eq.{bytes_eq-Decides}
 use Rattle.vp_model.specs.Types.{TxnId, ViewId, View, Owner, Obstacle, Call, Answer, Reply, Message, Sent, Event, Input, Pending, Live}
 use Rattle.vp_model.specs.Types.answer
-use Rattle.vp_model.specs.Types.call
 use Rattle.vp_model.specs.Types.event
 use Rattle.vp_model.specs.Types.input
 use Rattle.vp_model.specs.Types.message

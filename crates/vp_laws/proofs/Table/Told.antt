@@ -18,10 +18,9 @@ use Rattle.vp_model.specs.Transactions.{Deed, deed_answer, answer_of, put_live, 
 use Rattle.vp_model.specs.Calls.{begun, change_asked}
 use Rattle.vp_model.specs.Answers.{with_acknowledged}
 use Rattle.vp_model.specs.Step.{mark, step}
-use Rattle.vp_model.specs.Told.{reported, is_early_refusal, told_by, named_in}
+use Rattle.vp_model.specs.Told.{reported, is_reported, is_early_refusal, told_by}
 use Rattle.vp_laws.proofs.Table.ToldLines.{Report}
 use Rattle.vp_laws.proofs.Table.Heard.{Heard, heard}
-use Rattle.vp_laws.specs.Reports.{is_of_kind}
 use Rattle.vp_laws.proofs.Lists.Members.{Has, has_none, has_first, has_more, has_one_is, has_cases, map_has}
 use Rattle.vp_laws.proofs.Lists.Changes.{without_first_has}
 use Rattle.vp_model.proofs.SameTxn.{same_txn-self, same_txn-other}
@@ -36,12 +35,13 @@ use Rattle.vp_laws.proofs.Moves.Calls.{done, waiting}
 
 -- what is reported of a call that is done: with the call it says the operation, and a new table is no operation
 pub data Reported (catalogue : Catalogue) (txn : TxnId) (p : Pending) : Deed → Type 0 where
-  operated : (operation : Op) (report : Option (Option (List ℕ))) (rec : ℕ) → reported txn (deed_answer txn p.number (Deed.operates operation)) ≡ Some (p.number, report) → told_by catalogue report p.call ≡ Some operation → is_of_kind report p.call ≡ true → named_in catalogue p.call ≡ Some rec → Reported catalogue txn p (Deed.operates operation)
+  operated : (operation : Op) (report : Option (Option (List ℕ))) → reported txn (deed_answer txn p.number (Deed.operates operation)) ≡ Some (p.number, report) → told_by catalogue report p.call ≡ Some operation → Reported catalogue txn p (Deed.operates operation)
   weighed : (rec : ℕ) (table : Weights) → Reported catalogue txn p (Deed.weighs rec table)
 
 -- what a call that is done is told
 pub record SaysDone (catalogue : Catalogue) (txn : TxnId) (p : Pending) (deed : Deed) : Type 0 where
   pub reports : Reported catalogue txn p deed
+  pub fits : is_reported catalogue (deed_answer txn p.number deed) p.call ≡ true
   pub others : (u : TxnId) → txn ≢ u → heard u (deed_answer txn p.number deed) ≡ None
   pub late : is_early_refusal (deed_answer txn p.number deed) ≡ false
 
@@ -83,20 +83,20 @@ deed_late txn number (Deed.operates (op.Write rec (Some value))) = refl
 deed_late txn number (Deed.weighs rec table) = refl
 
 read_reports : (catalogue : Catalogue) (txn : TxnId) (p : Pending) (rec : ℕ) (value : Option (List ℕ)) → Reads catalogue p rec → Reported catalogue txn p (Deed.operates (op.Read rec value))
-read_reports catalogue txn p rec None r = let self = same_txn-self txn in Reported.operated (op.Read rec None) (Some None) rec (rw self refl) (rw (r.words, r.found) refl) (rw r.words refl) (rw r.words r.found)
-read_reports catalogue txn p rec (Some value) r = let self = same_txn-self txn in Reported.operated (op.Read rec (Some value)) (Some (Some value)) rec (rw self refl) (rw (r.words, r.found) refl) (rw r.words refl) (rw r.words r.found)
+read_reports catalogue txn p rec None r = let self = same_txn-self txn in Reported.operated (op.Read rec None) (Some None) (rw self refl) (rw (r.words, r.found) refl)
+read_reports catalogue txn p rec (Some value) r = let self = same_txn-self txn in Reported.operated (op.Read rec (Some value)) (Some (Some value)) (rw self refl) (rw (r.words, r.found) refl)
 
 change_reports : (catalogue : Catalogue) (txn : TxnId) (p : Pending) (deed : Deed) (words : Call) → p.call ≡ words → change_asked catalogue words ≡ Some deed → Reported catalogue txn p deed
 change_reports catalogue txn p deed (call.Write t n name value) e a = go (find_record catalogue name) refl a
   where
     go : (o : Option ℕ) → find_record catalogue name ≡ o → option_map (λ rec. Deed.operates (op.Write rec (Some value))) o ≡ Some deed → Reported catalogue txn p deed
     go None f a = cc
-    go (Some rec) f a = let self = same_txn-self txn in let is : Deed.operates (op.Write rec (Some value)) ≡ deed = cc in subst (Reported catalogue txn p) is (Reported.operated (op.Write rec (Some value)) None rec (rw self refl) (rw (e, f) refl) (rw e refl) (rw e f))
+    go (Some rec) f a = let self = same_txn-self txn in let is : Deed.operates (op.Write rec (Some value)) ≡ deed = cc in subst (Reported catalogue txn p) is (Reported.operated (op.Write rec (Some value)) None (rw self refl) (rw (e, f) refl))
 change_reports catalogue txn p deed (call.Delete t n name) e a = go (find_record catalogue name) refl a
   where
     go : (o : Option ℕ) → find_record catalogue name ≡ o → option_map (λ rec. Deed.operates (op.Write rec None)) o ≡ Some deed → Reported catalogue txn p deed
     go None f a = cc
-    go (Some rec) f a = let self = same_txn-self txn in let is : Deed.operates (op.Write rec None) ≡ deed = cc in subst (Reported catalogue txn p) is (Reported.operated (op.Write rec None) None rec (rw self refl) (rw (e, f) refl) (rw e refl) (rw e f))
+    go (Some rec) f a = let self = same_txn-self txn in let is : Deed.operates (op.Write rec None) ≡ deed = cc in subst (Reported catalogue txn p) is (Reported.operated (op.Write rec None) None (rw self refl) (rw (e, f) refl))
 change_reports catalogue txn p deed (call.Weigh t n name table) e a = go (find_record catalogue name) a
   where
     go : (o : Option ℕ) → option_map (λ rec. Deed.weighs rec table) o ≡ Some deed → Reported catalogue txn p deed
@@ -108,11 +108,38 @@ change_reports catalogue txn p deed (call.Abort t n) e a = cc
 change_reports catalogue txn p deed call.Begin e a = cc
 change_reports catalogue txn p deed call.Regroup e a = cc
 
+-- and it is of the kind of its call
+read_fits : (catalogue : Catalogue) (txn : TxnId) (p : Pending) (rec : ℕ) (value : Option (List ℕ)) → Reads catalogue p rec → is_reported catalogue (deed_answer txn p.number (Deed.operates (op.Read rec value))) p.call ≡ true
+read_fits catalogue txn p rec None r = rw (r.words, r.found) refl
+read_fits catalogue txn p rec (Some value) r = rw (r.words, r.found) refl
+
+change_fits : (catalogue : Catalogue) (txn : TxnId) (number : ℕ) (deed : Deed) (words : Call) → change_asked catalogue words ≡ Some deed → is_reported catalogue (deed_answer txn number deed) words ≡ true
+change_fits catalogue txn number deed (call.Write t n name value) a = go (find_record catalogue name) refl a
+  where
+    go : (o : Option ℕ) → find_record catalogue name ≡ o → option_map (λ rec. Deed.operates (op.Write rec (Some value))) o ≡ Some deed → is_reported catalogue (deed_answer txn number deed) (call.Write t n name value) ≡ true
+    go None f a = cc
+    go (Some rec) f a = let is : Deed.operates (op.Write rec (Some value)) ≡ deed = cc in rw (← is, f) refl
+change_fits catalogue txn number deed (call.Delete t n name) a = go (find_record catalogue name) refl a
+  where
+    go : (o : Option ℕ) → find_record catalogue name ≡ o → option_map (λ rec. Deed.operates (op.Write rec None)) o ≡ Some deed → is_reported catalogue (deed_answer txn number deed) (call.Delete t n name) ≡ true
+    go None f a = cc
+    go (Some rec) f a = let is : Deed.operates (op.Write rec None) ≡ deed = cc in rw (← is, f) refl
+change_fits catalogue txn number deed (call.Weigh t n name table) a = go (find_record catalogue name) refl a
+  where
+    go : (o : Option ℕ) → find_record catalogue name ≡ o → option_map (λ rec. Deed.weighs rec table) o ≡ Some deed → is_reported catalogue (deed_answer txn number deed) (call.Weigh t n name table) ≡ true
+    go None f a = cc
+    go (Some rec) f a = let is : Deed.weighs rec table ≡ deed = cc in rw (← is, f) refl
+change_fits catalogue txn number deed (call.Read t n name) a = cc
+change_fits catalogue txn number deed (call.Commit t n) a = cc
+change_fits catalogue txn number deed (call.Abort t n) a = cc
+change_fits catalogue txn number deed call.Begin a = cc
+change_fits catalogue txn number deed call.Regroup a = cc
+
 read_says : (catalogue : Catalogue) (txn : TxnId) (p : Pending) (rec : ℕ) (value : Option (List ℕ)) (deed : Deed) → Reads catalogue p rec → deed ≡ Deed.operates (op.Read rec value) → SaysDone catalogue txn p deed
-read_says catalogue txn p rec value deed r e = record { reports = subst (Reported catalogue txn p) (sym e) (read_reports catalogue txn p rec value r); others = λ u n. deed_others txn u p.number deed n; late = deed_late txn p.number deed }
+read_says catalogue txn p rec value deed r e = record { reports = subst (Reported catalogue txn p) (sym e) (read_reports catalogue txn p rec value r); fits = rw e (read_fits catalogue txn p rec value r); others = λ u n. deed_others txn u p.number deed n; late = deed_late txn p.number deed }
 
 change_says : (catalogue : Catalogue) (txn : TxnId) (p : Pending) (rec : ℕ) (deed : Deed) → Changes catalogue p rec deed → SaysDone catalogue txn p deed
-change_says catalogue txn p rec deed r = record { reports = change_reports catalogue txn p deed p.call refl r.asked; others = λ u n. deed_others txn u p.number deed n; late = deed_late txn p.number deed }
+change_says catalogue txn p rec deed r = record { reports = change_reports catalogue txn p deed p.call refl r.asked; fits = change_fits catalogue txn p.number deed p.call r.asked; others = λ u n. deed_others txn u p.number deed n; late = deed_late txn p.number deed }
 
 pub completed_says : (catalogue : Catalogue) (x : SiteState) (given : Input) (t : Live) (p : Pending) (deed : Deed) (l : Lent) → Completes catalogue x given t p deed l → SaysDone catalogue t.txn p deed
 completed_says catalogue x given t p deed l (Completes.own_write rec value next r a v e g) = read_says catalogue t.txn p rec value deed r e

@@ -1,5 +1,5 @@
 -- What one more line adds to the tables that the lines tell of a transaction.
-use Rattle.std.proofs.Common.{◌≡◌, ◌∙◌, ap, sym, subst, ℕ, ◌+◌, ◌≤◌, ◌<◌, true, false, List, [], ◌∷◌, ◌++◌, map, refl, arith, ⊎_elim}
+use Rattle.std.proofs.Common.{◌≡◌, ◌∙◌, ap, sym, subst, ℕ, ◌+◌, ◌≤◌, ◌<◌, Bool, true, false, cond, List, [], ◌∷◌, ◌++◌, map, refl, arith, ⊎_elim}
 use Rattle.std.specs.Prelude.{⊤, Option, Some, None, is_some, nat_eq, nat_lt, option_and_then, option_map, filter_map, flat_map}
 use Rattle.std.specs.List.{AllByRecursion, cons_option}
 use Rattle.std.proofs.lemmas.Bool.Decides.{nat_tests}
@@ -13,7 +13,7 @@ use Rattle.vp_model.specs.Catalogue.{Catalogue, Table, find_record}
 use Rattle.vp_model.specs.Site.{SiteState, Lent}
 use Rattle.vp_model.specs.Transactions.{Deed, deed_answer}
 use Rattle.vp_model.specs.Calls.{change_asked}
-use Rattle.vp_model.specs.Told.{answers_in, weighed, table_asked, taken_call, told_tables}
+use Rattle.vp_model.specs.Told.{answers_in, weighed, table_asked, taken_call, weighed_in, told_tables}
 use Rattle.vp_text.proofs.Items.{all_push, all_each}
 use Rattle.vp_laws.proofs.Table.ToldLines.{flat_last, taken_kept}
 use Rattle.vp_laws.proofs.Lists.Members.{Has, has_none, has_first, has_more, has_cons}
@@ -49,25 +49,47 @@ put_new last (m ∷ ns) h =
     let b : nat_lt (last + 1) m ≡ false = grind (arith, nat_tests, low) in
     rw (a, b) (ap (λ (l : List ℕ). m ∷ l) (put_new last ns h.1))
 
-rises_push : (last : ℕ) (ns : List ℕ) → Rises ns → AllByRecursion (λ (n : ℕ). n ≤ last) ns → Rises (ns ++ (last + 1) ∷ [])
-rises_push last [] r h = (tt, tt)
-rises_push last (m ∷ ns) r h = let low = h.0 in (all_push (λ (k : ℕ). m < k) ns (last + 1) r.0 (omega (arith, low)), rises_push last ns r.1 h.1)
+put_above : (m n : ℕ) (ns : List ℕ) → m < n → AllByRecursion (λ (k : ℕ). m < k) ns → AllByRecursion (λ (k : ℕ). m < k) (put_number n ns)
+put_above m n [] less h = (less, tt)
+put_above m n (k ∷ ns) less h = go (nat_eq n k) (nat_lt n k) (put_above m n ns less h.1)
+  where
+    go : (same before : Bool) → AllByRecursion (λ (k : ℕ). m < k) (put_number n ns) → AllByRecursion (λ (k : ℕ). m < k) (cond same (n ∷ ns) (cond before (n ∷ k ∷ ns) (k ∷ put_number n ns)))
+    go true before rest = (less, h.1)
+    go false true rest = (less, h)
+    go false false rest = (h.0, rest)
+
+put_rises : (n : ℕ) (ns : List ℕ) → Rises ns → Rises (put_number n ns)
+put_rises n [] r = (tt, tt)
+put_rises n (m ∷ ns) r = go (nat_eq n m) (nat_lt n m) refl refl (put_rises n ns r.1)
+  where
+    go : (same before : Bool) → nat_eq n m ≡ same → nat_lt n m ≡ before → Rises (put_number n ns) → Rises (cond same (n ∷ ns) (cond before (n ∷ m ∷ ns) (m ∷ put_number n ns)))
+    go true before e f rest = let is : n ≡ m = grind (arith, nat_tests, e) in (all_each (λ (k : ℕ). m < k) (λ (k : ℕ). n < k) (λ k h. omega (arith, is, h)) ns r.0, r.1)
+    go false true e f rest = let less : n < m = grind (arith, nat_tests, f) in ((less, all_each (λ (k : ℕ). m < k) (λ (k : ℕ). n < k) (λ k h. omega (arith, less, h)) ns r.0), r)
+    go false false e f rest = let more : m < n = grind (arith, nat_tests, e, f) in (put_above m n ns more r.0, rest)
+
+all_rise : (ns before : List ℕ) → Rises before → Rises (for_each ns put_number before)
+all_rise [] before r = r
+all_rise (n ∷ ns) before r = all_rise ns (put_number n before) (put_rises n before r)
 
 one_more : (last n : ℕ) → n ≤ last → n ≤ last + 1
 one_more last n h = omega arith
 
--- the numbers under which `weighed` was answered
-abbrev pub numbers : List Line → TxnId → List ℕ
-numbers lines u = for_each (filter_map (weighed u) (flat_map answers_in lines)) put_number []
-
 abbrev pub gathered : TxnId → List Answer → List ℕ → List ℕ
 gathered u answers before = for_each (filter_map (weighed u) answers) put_number before
 
-pub numbers-last : (lines : List Line) (l : Line) (u : TxnId) → numbers (lines ++ l ∷ []) u ≡ gathered u (answers_in l) (numbers lines u)
+pub numbers-last : (lines : List Line) (l : Line) (u : TxnId) → weighed_in (lines ++ l ∷ []) u ≡ gathered u (answers_in l) (weighed_in lines u)
 numbers-last lines l u =
     ap (λ z. for_each (filter_map (weighed u) z) put_number []) (flat_last answers_in lines l)
     ∙ ap (λ z. for_each z put_number []) (filter_map-append (weighed u) (flat_map answers_in lines) (answers_in l))
     ∙ fold-append (λ b item. put_number item b) [] (filter_map (weighed u) (flat_map answers_in lines)) (filter_map (weighed u) (answers_in l))
+
+-- they ascend
+pub numbers_rise : (lines : List Line) (u : TxnId) → Rises (weighed_in lines u)
+numbers_rise lines u = all_rise (filter_map (weighed u) (flat_map answers_in lines)) [] tt
+
+-- a line with no answer
+pub numbers-silent : (lines : List Line) (l : Line) (u : TxnId) → answers_in l ≡ [] → weighed_in (lines ++ l ∷ []) u ≡ weighed_in lines u
+numbers-silent lines l u e = numbers-last lines l u ∙ ap (λ (z : List Answer). gathered u z (weighed_in lines u)) e
 
 -- answers that came before add none
 pub gathered_same : (u : TxnId) (rs : List Reply) (before : List ℕ) → Rises before → ((r : Reply) → Has rs r → (n : ℕ) → weighed u r.answer ≡ Some n → Has before n) → gathered u (map (λ (r : Reply). r.answer) rs) before ≡ before
@@ -87,19 +109,17 @@ put_table t tables = put_at t.0 t.1 tables
 
 -- the lines tell of the transaction just these tables, under numbers up to the last
 pub record TellsTables (catalogue : Catalogue) (lines : List Line) (u : TxnId) (last : ℕ) (tables : List (ℕ × Table)) : Type 0 where
-  pub taken : AllByRecursion (λ (n : ℕ). is_some (taken_call lines u n) ≡ true) (numbers lines u)
-  pub below : AllByRecursion (λ (n : ℕ). n ≤ last) (numbers lines u)
-  pub rises : Rises (numbers lines u)
+  pub taken : AllByRecursion (λ (n : ℕ). is_some (taken_call lines u n) ≡ true) (weighed_in lines u)
+  pub below : AllByRecursion (λ (n : ℕ). n ≤ last) (weighed_in lines u)
   pub tells : told_tables catalogue lines u ≡ tables
 
-pub no_tables : (catalogue : Catalogue) (lines : List Line) (u : TxnId) → numbers lines u ≡ [] → TellsTables catalogue lines u 0 []
-no_tables catalogue lines u e = record { taken = rw e tt; below = rw e tt; rises = rw e tt; tells = rw e refl }
+pub no_tables : (catalogue : Catalogue) (lines : List Line) (u : TxnId) → weighed_in lines u ≡ [] → TellsTables catalogue lines u 0 []
+no_tables catalogue lines u e = record { taken = rw e tt; below = rw e tt; tells = rw e refl }
 
 pub tables_wider : (catalogue : Catalogue) (lines : List Line) (u : TxnId) (last : ℕ) (tables : List (ℕ × Table)) → TellsTables catalogue lines u last tables → TellsTables catalogue lines u (last + 1) tables
 tables_wider catalogue lines u last tables h = record {
   taken = h.taken;
-  below = all_each (λ (n : ℕ). n ≤ last) (λ (n : ℕ). n ≤ last + 1) (λ n k. one_more last n k) (numbers lines u) h.below;
-  rises = h.rises;
+  below = all_each (λ (n : ℕ). n ≤ last) (λ (n : ℕ). n ≤ last + 1) (λ n k. one_more last n k) (weighed_in lines u) h.below;
   tells = h.tells;
 }
 
@@ -117,15 +137,14 @@ module _ (catalogue : Catalogue) (lines : List Line) (l : Line) (u : TxnId) wher
   same_tables (n ∷ ns) h = rw (taken_kept lines l u n h.0, same_tables ns h.1) refl
 
   -- the line adds none
-  pub tables_on : (last : ℕ) (tables : List (ℕ × Table)) → TellsTables catalogue lines u last tables → numbers more u ≡ numbers lines u → TellsTables catalogue more u last tables
+  pub tables_on : (last : ℕ) (tables : List (ℕ × Table)) → TellsTables catalogue lines u last tables → weighed_in more u ≡ weighed_in lines u → TellsTables catalogue more u last tables
   unfolding gives_table
   tables_on last tables h e = record {
-    taken = rw e (all_taken (numbers lines u) h.taken);
+    taken = rw e (all_taken (weighed_in lines u) h.taken);
     below = rw e h.below;
-    rises = rw e h.rises;
     tells =
         ap (λ (ns : List ℕ). for_each (filter_map (gives_table catalogue more u) ns) put_table []) e
-        ∙ ap (λ (ts : List (ℕ × Table)). for_each ts put_table []) (same_tables (numbers lines u) h.taken)
+        ∙ ap (λ (ts : List (ℕ × Table)). for_each ts put_table []) (same_tables (weighed_in lines u) h.taken)
         ∙ h.tells;
   }
 
@@ -133,35 +152,34 @@ module _ (catalogue : Catalogue) (lines : List Line) (l : Line) (u : TxnId) wher
   one_table n rec table e = rw e refl
 
   -- the line adds one, under the next number, which a call has taken by then
-  pub tables_next : (last : ℕ) (tables : List (ℕ × Table)) (words : Call) (rec : ℕ) (table : Table) → TellsTables catalogue lines u last tables → numbers more u ≡ put_number (last + 1) (numbers lines u) → taken_call more u (last + 1) ≡ Some words → table_asked catalogue words ≡ Some (rec, table) → TellsTables catalogue more u (last + 1) (put_at rec table tables)
+  pub tables_next : (last : ℕ) (tables : List (ℕ × Table)) (words : Call) (rec : ℕ) (table : Table) → TellsTables catalogue lines u last tables → weighed_in more u ≡ put_number (last + 1) (weighed_in lines u) → taken_call more u (last + 1) ≡ Some words → table_asked catalogue words ≡ Some (rec, table) → TellsTables catalogue more u (last + 1) (put_at rec table tables)
   unfolding gives_table
   tables_next last tables words rec table h e took asked =
-      let now : numbers more u ≡ numbers lines u ++ (last + 1) ∷ [] = e ∙ put_new last (numbers lines u) h.below in
+      let now : weighed_in more u ≡ weighed_in lines u ++ (last + 1) ∷ [] = e ∙ put_new last (weighed_in lines u) h.below in
       let gives : gives_table catalogue more u (last + 1) ≡ Some (rec, table) = ap (option_and_then (table_asked catalogue)) took ∙ asked in
       record {
-        taken = rw now (all_push (λ (n : ℕ). is_some (taken_call more u n) ≡ true) (numbers lines u) (last + 1) (all_taken (numbers lines u) h.taken) (rw took refl));
-        below = rw now (all_push (λ (n : ℕ). n ≤ last + 1) (numbers lines u) (last + 1) (all_each (λ (n : ℕ). n ≤ last) (λ (n : ℕ). n ≤ last + 1) (λ n k. one_more last n k) (numbers lines u) h.below) (omega arith));
-        rises = rw now (rises_push last (numbers lines u) h.rises h.below);
+        taken = rw now (all_push (λ (n : ℕ). is_some (taken_call more u n) ≡ true) (weighed_in lines u) (last + 1) (all_taken (weighed_in lines u) h.taken) (rw took refl));
+        below = rw now (all_push (λ (n : ℕ). n ≤ last + 1) (weighed_in lines u) (last + 1) (all_each (λ (n : ℕ). n ≤ last) (λ (n : ℕ). n ≤ last + 1) (λ n k. one_more last n k) (weighed_in lines u) h.below) (omega arith));
         tells =
             ap (λ (ns : List ℕ). for_each (filter_map (gives_table catalogue more u) ns) put_table []) now
             ∙ ap (λ (ts : List (ℕ × Table)). for_each ts put_table [])
-            (filter_map-append (gives_table catalogue more u) (numbers lines u) ((last + 1) ∷ [])
-            ∙ ap (λ (ts : List (ℕ × Table)). ts ++ filter_map (gives_table catalogue more u) ((last + 1) ∷ [])) (same_tables (numbers lines u) h.taken)
-            ∙ ap (λ (ts : List (ℕ × Table)). filter_map (gives_table catalogue lines u) (numbers lines u) ++ ts) (one_table (last + 1) rec table gives))
-            ∙ fold-append (λ b item. put_table item b) [] (filter_map (gives_table catalogue lines u) (numbers lines u)) ((rec, table) ∷ [])
+            (filter_map-append (gives_table catalogue more u) (weighed_in lines u) ((last + 1) ∷ [])
+            ∙ ap (λ (ts : List (ℕ × Table)). ts ++ filter_map (gives_table catalogue more u) ((last + 1) ∷ [])) (same_tables (weighed_in lines u) h.taken)
+            ∙ ap (λ (ts : List (ℕ × Table)). filter_map (gives_table catalogue lines u) (weighed_in lines u) ++ ts) (one_table (last + 1) rec table gives))
+            ∙ fold-append (λ b item. put_table item b) [] (filter_map (gives_table catalogue lines u) (weighed_in lines u)) ((rec, table) ∷ [])
             ∙ ap (put_at rec table) h.tells;
       }
 
 -- the answer gives no number that was not given
 abbrev pub IsWeighed : List Line → Answer → Type 0
-IsWeighed lines a = (u : TxnId) (n : ℕ) → weighed u a ≡ Some n → Has (numbers lines u) n
+IsWeighed lines a = (u : TxnId) (n : ℕ) → weighed u a ≡ Some n → Has (weighed_in lines u) n
 
 all_keep : (ns before : List ℕ) (n : ℕ) → Has before n → Has (for_each ns put_number before) n
 all_keep [] before n h = h
 all_keep (m ∷ ns) before n h = all_keep ns (put_number m before) n (put_keeps m before n h)
 
 pub weighed_lasts : (lines : List Line) (l : Line) (a : Answer) → IsWeighed lines a → IsWeighed (lines ++ l ∷ []) a
-weighed_lasts lines l a h u n e = subst (λ (ns : List ℕ). Has ns n) (sym (numbers-last lines l u)) (all_keep (filter_map (weighed u) (answers_in l)) (numbers lines u) n (h u n e))
+weighed_lasts lines l a h u n e = subst (λ (ns : List ℕ). Has ns n) (sym (numbers-last lines l u)) (all_keep (filter_map (weighed u) (answers_in l)) (weighed_in lines u) n (h u n e))
 
 -- what a weigh asks for is the table that is told
 pub asked_table : (catalogue : Catalogue) (words : Call) (rec : ℕ) (table : Table) → change_asked catalogue words ≡ Some (Deed.weighs rec table) → table_asked catalogue words ≡ Some (rec, table)

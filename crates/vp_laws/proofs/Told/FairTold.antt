@@ -27,6 +27,7 @@ use Rattle.vp_laws.specs.Catalogues.{IsWhole}
 use Rattle.vp_laws.proofs.Table.ToldLines.{lines_in, lines_last}
 use Rattle.vp_laws.proofs.Told.At.{ToldAt}
 use Rattle.vp_laws.proofs.Told.Runs.{RunTold, start_told, one_step-told, is_step_of}
+use Rattle.vp_laws.proofs.Told.Tables.{WeighsAt, start_weighs, one_step-weighs}
 use Rattle.vp_laws.proofs.Told.Untold.{UntoldAt, silent_untold, quiet_untold, step_untold, replies_untold}
 
 -- a moment is judged by what came before it
@@ -57,14 +58,14 @@ silent catalogue past m new none untold at = record {
 }
 
 -- the moment of a step
-stepped : (catalogue : Catalogue) (past : List Moment) (number : ℕ) (e : Event) (w v : WorldState) (s : ℕ) (x : SiteState) (given : Input) → scene_of v ≡ scene_of w → site_of w s ≡ Some x → Arrives (scene_of w) s given → Gives e w s given → ToldAt catalogue (scene_of w) (lines_in past) → UntoldAt (scene_of w) (lines_in past) → FairAt catalogue (scene_of w) past → Justifies catalogue past (moment number w e (site_step catalogue s x given v)) (scene_of (site_step catalogue s x given v).world)
+stepped : (catalogue : Catalogue) (past : List Moment) (number : ℕ) (e : Event) (w v : WorldState) (s : ℕ) (x : SiteState) (given : Input) → scene_of v ≡ scene_of w → site_of w s ≡ Some x → Arrives (scene_of w) s given → Gives e w s given → ToldAt catalogue (scene_of w) (lines_in past) → WeighsAt catalogue (scene_of w) (lines_in past) → UntoldAt (scene_of w) (lines_in past) → FairAt catalogue (scene_of w) past → Justifies catalogue past (moment number w e (site_step catalogue s x given v)) (scene_of (site_step catalogue s x given v).world)
 unfolding site_step
-stepped catalogue past number e w v s x given same up arrives gives told untold fair =
+stepped catalogue past number e w v s x given same up arrives gives told weighs untold fair =
     subst (λ (z : Scene). Justifies catalogue past m0 (acted z s x (step catalogue x given))) (sym same) (record {
       at = step_fair catalogue w past m0 s x given up arrives is fair;
-      untold = subst (UntoldAt (acted (scene_of w) s x (step catalogue x given))) (sym (lines_last past m0)) (step_untold catalogue w (lines_in past) m0 s x given up arrives is told untold);
+      untold = subst (UntoldAt (acted (scene_of w) s x (step catalogue x given))) (sym (lines_last past m0)) (step_untold catalogue w (lines_in past) m0 s x given up arrives is told weighs untold);
       answers = replies_justified catalogue w past m0 s x given up arrives is fair
-          (λ a h. subst (λ (lines : List Line). Untold lines a) (sym (lines_last past m0)) (replies_untold catalogue w (lines_in past) m0 s x given up arrives is told untold a h));
+          (λ a h. subst (λ (lines : List Line). Untold lines a) (sym (lines_last past m0)) (replies_untold catalogue w (lines_in past) m0 s x given up arrives is told weighs untold a h));
     })
   where
     m0 : Moment
@@ -73,29 +74,30 @@ stepped catalogue past number e w v s x given same up arrives gives told untold 
     is : IsStep m0 w s x given (step catalogue x given)
     is = is_step_of catalogue (lines_in past) number e w v s x given same up arrives gives told
 
-justifies : (catalogue : Catalogue) (past : List Moment) (number : ℕ) (e : Event) (w : WorldState) (m : Moved) → ToldAt catalogue (scene_of w) (lines_in past) → UntoldAt (scene_of w) (lines_in past) → FairAt catalogue (scene_of w) past → Occurs catalogue e w m → Justifies catalogue past (moment number w e m) (scene_of m.world)
-justifies catalogue past number e w m told untold fair (Occurs.stands same none) =
+justifies : (catalogue : Catalogue) (past : List Moment) (number : ℕ) (e : Event) (w : WorldState) (m : Moved) → ToldAt catalogue (scene_of w) (lines_in past) → WeighsAt catalogue (scene_of w) (lines_in past) → UntoldAt (scene_of w) (lines_in past) → FairAt catalogue (scene_of w) past → Occurs catalogue e w m → Justifies catalogue past (moment number w e m) (scene_of m.world)
+justifies catalogue past number e w m told weighs untold fair (Occurs.stands same none) =
     let m0 = moment number w e m in
     subst (Justifies catalogue past m0) (sym same) (silent catalogue past m0 (scene_of w) none untold (same_fair catalogue (scene_of w) past (m0 ∷ []) (none_in m0 none) fair))
-justifies catalogue past number e w m told untold fair (Occurs.crashes s same none) =
+justifies catalogue past number e w m told weighs untold fair (Occurs.crashes s same none) =
     let m0 = moment number w e m in
     let q = crash_quiet catalogue (scene_of w) s in
     let down = crashed (scene_of w) s in
     subst (Justifies catalogue past m0) (sym same)
     (silent catalogue past m0 down none (quiet_untold catalogue (scene_of w) down (lines_in past) s q untold) (quiet_fair catalogue (scene_of w) down past (m0 ∷ []) s q (invariant_crashes catalogue (scene_of w) s fair.inv) (none_in m0 none) fair))
-justifies catalogue past number e w m told untold fair (Occurs.restarts s place at down id same none) =
+justifies catalogue past number e w m told weighs untold fair (Occurs.restarts s place at down id same none) =
     let m0 = moment number w e m in
     let q = restart_quiet catalogue (scene_of w) s place at id in
     let up = restarted catalogue (scene_of w) s in
     subst (Justifies catalogue past m0) (sym same)
     (silent catalogue past m0 up none (quiet_untold catalogue (scene_of w) up (lines_in past) s q untold) (quiet_fair catalogue (scene_of w) up past (m0 ∷ []) s q (invariant_restarts catalogue (scene_of w) s place at down id fair.inv) (none_in m0 none) fair))
-justifies catalogue past number e w m told untold fair (Occurs.acts s x given v same up arrives gives is) =
-    subst (λ (m : Moved). Justifies catalogue past (moment number w e m) (scene_of m.world)) (sym is) (stepped catalogue past number e w v s x given same up arrives gives told untold fair)
+justifies catalogue past number e w m told weighs untold fair (Occurs.acts s x given v same up arrives gives is) =
+    subst (λ (m : Moved). Justifies catalogue past (moment number w e m) (scene_of m.world)) (sym is) (stepped catalogue past number e w v s x given same up arrives gives told weighs untold fair)
 
 -- of a run so far
 pub record FairHold (catalogue : Catalogue) (run : Run) : Type 0 where
   pub at : FairAt catalogue (scene_of run.world) run.moments
   pub told : RunTold catalogue run
+  pub weighs : WeighsAt catalogue (scene_of run.world) (lines_in run.moments)
   pub untold : UntoldAt (scene_of run.world) (lines_in run.moments)
   pub justified : all_justified catalogue [] run.moments ≡ true
 
@@ -104,10 +106,11 @@ unfolding one_step
 one_step-fair catalogue number e run h =
     let moved = next catalogue e run.world in
     let m0 = moment number run.world e moved in
-    let j = justifies catalogue run.moments number e run.world moved h.told h.untold h.at (occurs catalogue e run.world) in
+    let j = justifies catalogue run.moments number e run.world moved h.told h.weighs h.untold h.at (occurs catalogue e run.world) in
     record {
       at = j.at;
       told = one_step-told catalogue number e run h.told;
+      weighs = one_step-weighs catalogue number e run (h.told, h.weighs);
       untold = j.untold;
       justified = all_justified-last catalogue [] run.moments m0 h.justified (all_from (justified catalogue (run.moments ++ m0 ∷ []) m0) (answers_in m0.line) j.answers);
     }
@@ -130,6 +133,7 @@ refusals_justified s whole = (run-keeps s.catalogue (FairHold s.catalogue) (reco
   starts = record {
     at = start_fair s.catalogue whole;
     told = start_told s.catalogue;
+    weighs = start_weighs s.catalogue;
     untold = start_untold s.catalogue;
     justified = refl;
   };

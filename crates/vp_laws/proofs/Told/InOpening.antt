@@ -21,6 +21,7 @@ use Rattle.vp_laws.proofs.Table.Steps.{EnteredFor}
 use Rattle.vp_laws.proofs.Worlds.Occurs.{Occurs, occurs, RunLasts, run-keeps}
 use Rattle.vp_laws.proofs.Told.Runs.{RunTold, start_told, one_step-told, operations_told}
 use Rattle.vp_laws.proofs.Words.Entries.{committed_once}
+use Rattle.vp_laws.proofs.Told.ReportsFit.{reports_fit}
 use Rattle.vp_laws.proofs.Words.Readable.{serial_played}
 use Rattle.vp_laws.proofs.Keeping.Does.{Does, does}
 use Rattle.vp_laws.proofs.Invariant.Known.{Known}
@@ -96,5 +97,5 @@ plays_as_committed s whole stays =
     let entries = (run-keeps s.catalogue (RunOpening s.catalogue) (opening_lasts s.catalogue) s.events).1 (λ m h site x v up held. stays m site x v (contains _ m h) up held) in
     record {
       serial = subst (λ (es : List Commit). IsSome (serial (start_values s.catalogue) es)) (ordered (journal_of s) entries) (serial_played s whole);
-      told = record { operations = operations_told s; once = committed_once s };
+      told = record { operations = operations_told s; once = committed_once s; fits = reports_fit s };
     }

@@ -243,7 +243,7 @@ module _ (catalogue : Catalogue) (world : WorldState) (lines : List Line) (m0 : 
           within (Some q) j above = omega (arith, above)
 
       next : (d : Deed) → Reported catalogue u.txn p d → told_of u.txn o.effects.replies ≡ told_of u.txn (told_to p.port (deed_answer u.txn p.number d) ∷ []) → TellsCall catalogue more u.txn (length u.answers + 1) None (with_operation d u.ops)
-      next (Deed.operates operation) (Reported.operated _ report rec is tells kind named) one = done_next catalogue lines line u.txn (length u.answers) u.pending u.ops operation (told.live s x u up h) (record {
+      next (Deed.operates operation) (Reported.operated _ report is tells) one = done_next catalogue lines line u.txn (length u.answers) u.pending u.ops operation (told.live s x u up h) (record {
         report = report;
         words = p.call;
         reports = reports_now u.txn ∙ ap (λ (z : List Report). for_each z put_first (reports lines u.txn)) (one ∙ single operation report is);

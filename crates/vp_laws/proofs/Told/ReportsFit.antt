@@ -1,20 +1,25 @@
--- In every schedule each value is replied to a number that was first used by a read, and each `written` to one that was first used
--- by a write.
-use Rattle.std.proofs.Common.{◌≡◌, ◌≢◌, ◌∙◌, ap, sym, subst, ℕ, ◌+◌, true, false, List, [], ◌∷◌, ◌++◌, map, length, ⊎_elim}
-use Rattle.std.specs.Prelude.{Some, None}
+-- In every schedule each report fits the call that took its number.
+use Rattle.std.proofs.Common.{◌≡◌, ◌∙◌, ap, sym, subst, ℕ, ◌+◌, true, false, List, [], ◌∷◌, ◌++◌, map, length, refl, ⊎_elim}
+use Rattle.std.specs.Prelude.{Option, Some, None, if◌then◌else◌}
+use Rattle.std.specs.List.{list_all}
+use Rattle.std.specs.Option.{option_map_or}
 use Rattle.vp_model.specs.Transactions.{deed_answer, Deed}
 use Rattle.vp_model.specs.Types.{TxnId, Call, Answer, Event, Input, Line, Reply, Pending, Live}
+use Rattle.vp_model.specs.Types.answer
+use Rattle.vp_model.specs.Types.op
+use Rattle.vp_model.specs.Words.{same_txn}
+use Rattle.vp_model.specs.Headline.{ReportsFit}
+use Rattle.vp_model.proofs.SameTxn.{same_txn-self}
 use Rattle.vp_model.specs.Catalogue.{Catalogue, start_copies}
 use Rattle.vp_model.specs.Durable.{empty_durable}
 use Rattle.vp_model.specs.Site.{SiteState, Lent}
 use Rattle.vp_model.specs.Step.{step}
-use Rattle.vp_model.specs.Told.{is_step, answers_in, replies_in, reported, taken_call, named_in}
-use Rattle.vp_model.specs.World.{WorldState, Moved, Moment, Run, Schedule, moment, next, one_step, site_step, start_world, moments_of}
-use Rattle.vp_laws.proofs.Table.ToldLines.{Report, lines_in, lines_last, taken_on}
-use Rattle.vp_laws.proofs.Table.Heard.{unheard_report}
-use Rattle.vp_laws.specs.Reports.{is_of_kind, RepliesFitCalls}
-use Rattle.vp_laws.proofs.Lists.Members.{Has, has_of, has_none, has_cases, has_one_is, map_has}
-use Rattle.vp_laws.proofs.Lists.Changes.{mapped_has}
+use Rattle.vp_model.specs.Told.{is_step, answers_in, replies_in, report_of, is_reported, taken_call, fits_call}
+use Rattle.vp_model.specs.World.{WorldState, Moved, Moment, Run, Schedule, moment, next, one_step, site_step, start_world, lines_of}
+use Rattle.vp_laws.proofs.Table.ToldLines.{lines_in, lines_last, taken_on}
+use Rattle.vp_laws.proofs.Table.Heard.{Heard, heard}
+use Rattle.vp_laws.proofs.Lists.Members.{Has, has_none, has_cases, has_one_is, map_has}
+use Rattle.vp_laws.proofs.Lists.Changes.{all_from}
 use Rattle.vp_laws.proofs.Worlds.Scenes.{Scene, scene_of, plain_at, kept_at, acted}
 use Rattle.vp_laws.proofs.Worlds.Events.{Arrives, crashed, restarted}
 use Rattle.vp_laws.proofs.Worlds.Sites.{Quiet, QuietIs, quiet_is, crash_quiet, restart_quiet, NowIs, now_is, started}
@@ -22,22 +27,46 @@ use Rattle.vp_laws.proofs.Worlds.Occurs.{no_replies, Occurs, occurs, RunLasts, r
 use Rattle.vp_laws.proofs.Replies.FairStep.{IsStep}
 use Rattle.vp_laws.proofs.Moves.Reasons.{IsDone}
 use Rattle.vp_laws.proofs.Moves.Table.{Completes}
-use Rattle.vp_laws.proofs.Table.Told.{Reported, SaysDone, completed_says, IsKept, AreLate}
+use Rattle.vp_laws.proofs.Table.Told.{completed_says, IsKept, AreLate}
 use Rattle.vp_laws.proofs.Table.Reports.{Cause, causes-step}
 use Rattle.vp_laws.proofs.Told.At.{ToldAt}
-use Rattle.vp_laws.proofs.Told.Moves.{same_or_not, done_number, done_call, kept_here}
+use Rattle.vp_laws.proofs.Told.Moves.{done_number, done_call, kept_here}
 use Rattle.vp_laws.proofs.Told.Runs.{RunTold, start_told, one_step-told, starts_none, is_step_of}
 use Rattle.vp_laws.proofs.Keeping.Does.{Does, does}
 
--- what the answer reports is of the kind of the call that took the number, which names a record
 abbrev Fits : Catalogue → List Line → Answer → Type 0
-Fits catalogue lines a = (u : TxnId) (r : Report) → reported u a ≡ Some r → (words : Call) × (rec : ℕ) × (taken_call lines u r.0 ≡ Some words) × (named_in catalogue words ≡ Some rec) × (is_of_kind r.1 words ≡ true)
+Fits catalogue lines a = fits_call catalogue lines a ≡ true
 
 fits_on : (catalogue : Catalogue) (lines : List Line) (l : Line) (a : Answer) → Fits catalogue lines a → Fits catalogue (lines ++ l ∷ []) a
-fits_on catalogue lines l a h u r e = let q = h u r e in (q.0, q.1, taken_on lines l u r.0 q.0 q.2, q.3, q.4)
+fits_on catalogue lines l a = go (report_of a)
+  where
+    taken : (u : TxnId) (n : ℕ) (o : Option Call) → taken_call lines u n ≡ o → option_map_or (is_reported catalogue a) o false ≡ true → option_map_or (is_reported catalogue a) (taken_call (lines ++ l ∷ []) u n) false ≡ true
+    taken u n None e h = cc
+    taken u n (Some words) e h = rw (taken_on lines l u n words e) h
 
-silent_fits : (catalogue : Catalogue) (lines : List Line) (a : Answer) → ((u : TxnId) → reported u a ≡ None) → Fits catalogue lines a
-silent_fits catalogue lines a none u r e = let z = none u in cc
+    go : (o : Option (TxnId × ℕ)) → option_map_or (λ (call : TxnId × ℕ). option_map_or (is_reported catalogue a) (taken_call lines call.0 call.1) false) o true ≡ true → option_map_or (λ (call : TxnId × ℕ). option_map_or (is_reported catalogue a) (taken_call (lines ++ l ∷ []) call.0 call.1) false) o true ≡ true
+    go None h = refl
+    go (Some call) h = taken call.0 call.1 (taken_call lines call.0 call.1) refl h
+
+unsaid : (t : TxnId) (h : Heard) → (if same_txn t t then Some h else None) ≡ None → ⊥
+unsaid t h e = let self = same_txn-self t in let z = (rw self at e) in cc
+
+-- whose call a deed's answer reports
+deed_of : (txn : TxnId) (number : ℕ) (deed : Deed) → report_of (deed_answer txn number deed) ≡ Some (txn, number)
+deed_of txn number (Deed.operates (op.Read rec None)) = refl
+deed_of txn number (Deed.operates (op.Read rec (Some value))) = refl
+deed_of txn number (Deed.operates (op.Write rec None)) = refl
+deed_of txn number (Deed.operates (op.Write rec (Some value))) = refl
+deed_of txn number (Deed.weighs rec table) = refl
+
+-- an answer that says of no transaction that a call is done
+silent_fits : (catalogue : Catalogue) (lines : List Line) (a : Answer) → ((u : TxnId) → heard u a ≡ None) → Fits catalogue lines a
+silent_fits catalogue lines (answer.Value t n value) none = absurd (unsaid t (n, Some (Some (Some value))) (none t))
+silent_fits catalogue lines (answer.Absent t n) none = absurd (unsaid t (n, Some (Some None)) (none t))
+silent_fits catalogue lines (answer.Written t n) none = absurd (unsaid t (n, Some None) (none t))
+silent_fits catalogue lines (answer.Deleted t n) none = absurd (unsaid t (n, Some None) (none t))
+silent_fits catalogue lines (answer.Weighed t n) none = absurd (unsaid t (n, None) (none t))
+silent_fits catalogue lines _ none = refl
 
 -- what was answered, and what a site may answer again, fits the call of its number
 record FitsAt (catalogue : Catalogue) (w : Scene) (lines : List Line) : Type 0 where
@@ -81,35 +110,15 @@ module _ (catalogue : Catalogue) (world : WorldState) (lines : List Line) (m0 : 
   old_fits a k = fits_on catalogue lines m0.line a (h.kept s x a up k)
 
   done_fits : (t : Live) (p : Pending) (deed : Deed) (l : Lent) → Has x.live t → IsDone x given t p → Completes catalogue x given t p deed l → AreLate (step catalogue x given).effects.replies → Fits catalogue more (deed_answer t.txn p.number deed)
-  done_fits t p deed l here how c late u r e = ⊎_elim
-      (λ (mine : t.txn ≡ u).
-      let fits = kind deed says.reports r (ap (λ (n : TxnId). reported n (deed_answer t.txn p.number deed)) mine ∙ e) in (
-        p.call,
-        fits.1,
-        ap (λ (n : ℕ). taken_call more u n) (fits.0 ∙ number)
-            ∙ ap (λ (n : TxnId). taken_call more n (length t.answers + 1)) (sym mine)
-            ∙ done_call catalogue world lines m0 s x given up arrives is told t p here how late,
-        fits.2,
-        fits.3,
-      ))
-      (λ (other : t.txn ≢ u). absurd (let z = unheard_report u _ (says.others u other) in cc))
-      (same_or_not t.txn u)
+  done_fits t p deed l here how c late =
+      let took : taken_call more t.txn p.number ≡ Some p.call = ap (taken_call more t.txn) number ∙ done_call catalogue world lines m0 s x given up arrives is told t p here how late in
+      rw (deed_of t.txn p.number deed, took) (completed_says catalogue x given t p deed l c).fits
     where
-      says : SaysDone catalogue t.txn p deed
-      says = completed_says catalogue x given t p deed l c
-
-      kind : (d : Deed) → Reported catalogue t.txn p d → (r : Report) → reported t.txn (deed_answer t.txn p.number d) ≡ Some r → (r.0 ≡ p.number) × (rec : ℕ) × (named_in catalogue p.call ≡ Some rec) × (is_of_kind r.1 p.call ≡ true)
-      kind (Deed.operates operation) (Reported.operated _ report rec is tells fit named) r e =
-          let r_is : Some (p.number, report) ≡ Some r = sym is ∙ e in
-          let same : (p.number, report) ≡ r = cc in
-          (ap (λ (r : Report). r.0) (sym same), rec, named, ap (λ (r : Report). is_of_kind r.1 p.call) (sym same) ∙ fit)
-      kind (Deed.weighs rec table) (Reported.weighed _ _) r e = cc
-
       number : p.number ≡ length t.answers + 1
       number = done_number catalogue world lines m0 s x given up arrives is told t p here how
 
   caused : (a : Answer) → Cause catalogue x given (step catalogue x given).effects.replies a → Fits catalogue more a
-  caused a (Cause.nothing none) = silent_fits catalogue more a (λ u. unheard_report u a (none u))
+  caused a (Cause.nothing none) = silent_fits catalogue more a none
   caused a (Cause.kept k) = old_fits a k
   caused _ (Cause.done t p deed l here how c late) = done_fits t p deed l here how c late
 
@@ -122,7 +131,7 @@ module _ (catalogue : Catalogue) (world : WorldState) (lines : List Line) (m0 : 
   kept_now : (j : ℕ) (y : SiteState) (a : Answer) → IsKept y a → NowIs (scene_of world) s (step catalogue x given).site j y → Fits catalogue more a
   kept_now j y a k (NowIs.other away old) = fits_on catalogue lines m0.line a (h.kept j y a old k)
   kept_now j y a k (NowIs.here here same) =
-      kept_here catalogue world lines m0 s x given up arrives is told (Fits catalogue more) old_fits (λ a none. silent_fits catalogue more a (λ u. unheard_report u a (none u))) (λ t p deed l here how c one late. done_fits t p deed l here how c late) a (subst (λ (y : SiteState). IsKept y a) (sym same) k)
+      kept_here catalogue world lines m0 s x given up arrives is told (Fits catalogue more) old_fits (λ a none. silent_fits catalogue more a none) (λ t p deed l here how c one late. done_fits t p deed l here how c late) a (subst (λ (y : SiteState). IsKept y a) (sym same) k)
 
   step_fits : FitsAt catalogue (acted (scene_of world) s x (step catalogue x given)) more
   step_fits = record {
@@ -157,8 +166,9 @@ start_fits catalogue = record {
   kept = λ s x a up k. absurd (starts_none catalogue s (empty_durable (start_copies catalogue s)) a (subst (λ (x : SiteState). IsKept x a) (sym (started catalogue s x up)) k));
 }
 
-pub replies_fit_calls : (s : Schedule) → RepliesFitCalls s
-replies_fit_calls s m a txn number report there said tells =
+pub reports_fit : (s : Schedule) → ReportsFit s
+reports_fit s =
     let lasts : RunLasts s.catalogue (RunFits s.catalogue) = record { starts = (start_told s.catalogue, start_fits s.catalogue); steps = λ number e run h. (one_step-told s.catalogue number e run h.0, one_step-fits s.catalogue number e run h) } in
     let h = (run-keeps s.catalogue (RunFits s.catalogue) lasts s.events).1 in
-    h.given m.line (mapped_has (λ (m : Moment). m.line) (moments_of s) m (has_of _ m there)) a (has_of _ a said) txn (number, report) tells
+    all_from (λ (line : Line). list_all (fits_call s.catalogue (lines_of s)) (answers_in line)) (lines_of s)
+    (λ line there. all_from (fits_call s.catalogue (lines_of s)) (answers_in line) (h.given line there))

@@ -9,7 +9,7 @@ use Rattle.vp_model.specs.Durable.{DurableState, empty_durable}
 use Rattle.vp_model.specs.Site.{SiteState, Lent, Stepped}
 use Rattle.vp_model.specs.Transactions.{Deed, deed_answer, with_table}
 use Rattle.vp_model.specs.Step.{step}
-use Rattle.vp_model.specs.Told.{is_step, answers_in, weighed, told_tables}
+use Rattle.vp_model.specs.Told.{is_step, answers_in, weighed, weighed_in, told_tables}
 use Rattle.vp_model.specs.World.{WorldState, Moved, Moment, Run, Schedule, moment, next, one_step, site_step, start_world, lines_of, journal_of}
 use Rattle.vp_model.proofs.SameTxn.{same_txn-self}
 use Rattle.vp_laws.proofs.Lists.Members.{Has, all_of}
@@ -21,7 +21,7 @@ use Rattle.vp_laws.proofs.Table.Endings.{NotLive}
 use Rattle.vp_laws.proofs.Table.ToldLines.{lines_in, lines_last}
 use Rattle.vp_laws.proofs.Table.Heard.{unheard_weigh, same_weighs}
 use Rattle.vp_laws.proofs.Table.Told.{SaysDone, completed_says, heard_of, IsKept, Repeats, AreLate, LiveTold, ToldNow, told-step}
-use Rattle.vp_laws.proofs.Table.Weighs.{Rises, numbers, gathered, numbers-last, gathered_same, TellsTables, no_tables, tables_wider, tables_on, tables_next, IsWeighed, weighed_lasts, weigh_asked, no_weigh}
+use Rattle.vp_laws.proofs.Table.Weighs.{gathered, numbers-last, numbers_rise, numbers-silent, gathered_same, TellsTables, no_tables, tables_wider, tables_on, tables_next, IsWeighed, weighed_lasts, weigh_asked, no_weigh}
 use Rattle.vp_laws.proofs.Worlds.Scenes.{Scene, scene_of, plain_at, kept_at, acted}
 use Rattle.vp_laws.proofs.Worlds.Events.{Arrives, crashed, restarted}
 use Rattle.vp_laws.proofs.Worlds.Sites.{Quiet, QuietIs, quiet_is, crash_quiet, restart_quiet, NowIs, now_is, started, start_entered, started_idle, live_still}
@@ -43,7 +43,7 @@ pub record WeighsAt (catalogue : Catalogue) (w : Scene) (lines : List Line) : Ty
   -- and each entry's
   pub entries : (e : Commit) → Has w.journal e → (last : ℕ) × TellsTables catalogue lines e.txn last e.tables
   -- of a transaction whose name was not used they tell none
-  pub fresh : (u : TxnId) → (UsedTxn w u → ⊥) → numbers lines u ≡ []
+  pub fresh : (u : TxnId) → (UsedTxn w u → ⊥) → weighed_in lines u ≡ []
   -- an answer that a site keeps was given
   pub kept : (s : ℕ) (x : SiteState) (a : Answer) → plain_at w s ≡ Some x → IsKept x a → IsWeighed lines a
 
@@ -85,28 +85,28 @@ module _ (catalogue : Catalogue) (world : WorldState) (lines : List Line) (m0 : 
   answered : answers_in m0.line ≡ answers
   answered = rw is.shown refl
 
-  numbers_now : (u : TxnId) → numbers more u ≡ gathered u answers (numbers lines u)
-  numbers_now u = numbers-last lines m0.line u ∙ ap (λ (z : List Answer). gathered u z (numbers lines u)) answered
+  numbers_now : (u : TxnId) → weighed_in more u ≡ gathered u answers (weighed_in lines u)
+  numbers_now u = numbers-last lines m0.line u ∙ ap (λ (z : List Answer). gathered u z (weighed_in lines u)) answered
 
-  same_numbers : (u : TxnId) → Rises (numbers lines u) → Repeats x u o.effects.replies → numbers more u ≡ numbers lines u
-  same_numbers u rises repeats = numbers_now u ∙ gathered_same u o.effects.replies (numbers lines u) rises (λ r there n e. ⊎_elim
+  pub same_numbers : (u : TxnId) → Repeats x u o.effects.replies → weighed_in more u ≡ weighed_in lines u
+  same_numbers u repeats = numbers_now u ∙ gathered_same u o.effects.replies (weighed_in lines u) (numbers_rise lines u) (λ r there n e. ⊎_elim
       (λ none. absurd (let z = unheard_weigh u r.answer none in cc))
       (λ kept. h.kept s x r.answer up kept u n e)
       (repeats r there))
 
   -- what is heard of a call that is done
-  done_numbers : (u : Live) (p : Pending) (deed : Deed) → heard_of u.txn o.effects.replies ≡ heard_of u.txn (told_to p.port (deed_answer u.txn p.number deed) ∷ []) → numbers more u.txn ≡ for_each (filter_map (weighed u.txn) (deed_answer u.txn p.number deed ∷ [])) put_number (numbers lines u.txn)
-  done_numbers u p deed one = numbers_now u.txn ∙ ap (λ (ns : List ℕ). for_each ns put_number (numbers lines u.txn)) (same_weighs u.txn answers (deed_answer u.txn p.number deed ∷ []) one)
+  done_numbers : (u : Live) (p : Pending) (deed : Deed) → heard_of u.txn o.effects.replies ≡ heard_of u.txn (told_to p.port (deed_answer u.txn p.number deed) ∷ []) → weighed_in more u.txn ≡ for_each (filter_map (weighed u.txn) (deed_answer u.txn p.number deed ∷ [])) put_number (weighed_in lines u.txn)
+  done_numbers u p deed one = numbers_now u.txn ∙ ap (λ (ns : List ℕ). for_each ns put_number (weighed_in lines u.txn)) (same_weighs u.txn answers (deed_answer u.txn p.number deed ∷ []) one)
 
   done_tables : (u : Live) (p : Pending) (deed : Deed) (l : Lent) → Has x.live u → IsDone x given u p → Completes catalogue x given u p deed l → heard_of u.txn o.effects.replies ≡ heard_of u.txn (told_to p.port (deed_answer u.txn p.number deed) ∷ []) → AreLate o.effects.replies
       → TellsTables catalogue more u.txn (length u.answers + 1) (with_table deed u.tables)
   done_tables u p (Deed.operates operation) l here how c one late =
       tables_wider catalogue more u.txn (length u.answers) u.tables
       (tables_on catalogue lines m0.line u.txn (length u.answers) u.tables (h.live s x u up here)
-      (done_numbers u p (Deed.operates operation) one ∙ ap (λ (ns : List ℕ). for_each ns put_number (numbers lines u.txn)) (no_weigh u.txn p.number operation)))
+      (done_numbers u p (Deed.operates operation) one ∙ ap (λ (ns : List ℕ). for_each ns put_number (weighed_in lines u.txn)) (no_weigh u.txn p.number operation)))
   done_tables u p (Deed.weighs rec table) l here how c one late =
       tables_next catalogue lines m0.line u.txn (length u.answers) u.tables p.call rec table (h.live s x u up here)
-      (done_numbers u p (Deed.weighs rec table) one ∙ ap (λ (ns : List ℕ). for_each ns put_number (numbers lines u.txn)) its_own)
+      (done_numbers u p (Deed.weighs rec table) one ∙ ap (λ (ns : List ℕ). for_each ns put_number (weighed_in lines u.txn)) its_own)
       (done_call catalogue world lines m0 s x given up arrives is told u p here how late)
       (weigh_asked catalogue x given u p rec table l c)
     where
@@ -120,20 +120,19 @@ module _ (catalogue : Catalogue) (world : WorldState) (lines : List Line) (m0 : 
   live_tables a (LiveTold.was u here named did gave same pending repeats) =
       let r : Repeats x u.txn o.effects.replies = subst (λ (txn : TxnId). Repeats x txn o.effects.replies) (sym named) repeats in
       let was = h.live s x u up here in
-      moved_tells catalogue more u.txn a.txn u.tables a.tables u.answers a.answers named gave same (tables_on catalogue lines m0.line u.txn (length u.answers) u.tables was (same_numbers u.txn was.rises r))
+      moved_tells catalogue more u.txn a.txn u.tables a.tables u.answers a.answers named gave same (tables_on catalogue lines m0.line u.txn (length u.answers) u.tables was (same_numbers u.txn r))
   live_tables a (LiveTold.goes u p q at named did gave same pending alike repeats late) =
       let r : Repeats x u.txn o.effects.replies = subst (λ (txn : TxnId). Repeats x txn o.effects.replies) (sym named) repeats in
       let was = h.live s x u up at.live in
-      moved_tells catalogue more u.txn a.txn u.tables a.tables u.answers a.answers named gave same (tables_on catalogue lines m0.line u.txn (length u.answers) u.tables was (same_numbers u.txn was.rises r))
+      moved_tells catalogue more u.txn a.txn u.tables a.tables u.answers a.answers named gave same (tables_on catalogue lines m0.line u.txn (length u.answers) u.tables was (same_numbers u.txn r))
   live_tables a (LiveTold.completed u p deed l here how c made one late) =
       subst (λ (a : Live). TellsTables catalogue more a.txn (length a.answers) a.tables) made
       (subst (λ (n : ℕ). TellsTables catalogue more u.txn n (with_table deed u.tables)) (sym (length-append u.answers (deed_answer u.txn p.number deed ∷ []))) (done_tables u p deed l here how c one late))
   live_tables a (LiveTold.begins port view c made repeats) =
       let name = next_name x in
-      let none : numbers lines name ≡ [] = h.fresh name (λ used. fresh w s x up ok.id name used refl) in
-      let rises : Rises (numbers lines name) = rw none tt in
+      let none : weighed_in lines name ≡ [] = h.fresh name (λ used. fresh w s x up ok.id name used refl) in
       let r : Repeats x name o.effects.replies = subst (λ (txn : TxnId). Repeats x txn o.effects.replies) (sym (ap (λ (t : Live). t.txn) made)) repeats in
-      subst (λ (a : Live). TellsTables catalogue more a.txn (length a.answers) a.tables) made (no_tables catalogue more name (same_numbers name rises r ∙ none))
+      subst (λ (a : Live). TellsTables catalogue more a.txn (length a.answers) a.tables) made (no_tables catalogue more name (same_numbers name r ∙ none))
 
   own_site : (u : Live) → Has x.live u → u.txn.site ≡ s
   own_site u here = (led.names u here).0 ∙ ok.id
@@ -143,7 +142,7 @@ module _ (catalogue : Catalogue) (world : WorldState) (lines : List Line) (m0 : 
       let site : a.txn.site ≡ j = ((k.led.site j y at).names a here).0 ∙ (k.views.site j y at).id in
       let gone : NotLive x.live a.txn = (λ v q e. away (sym site ∙ ap (λ (t : TxnId). t.site) (sym e) ∙ own_site v q)) in
       let was = h.live j y a at here in
-      tables_on catalogue lines m0.line a.txn (length a.answers) a.tables was (same_numbers a.txn was.rises (t.others a.txn gone))
+      tables_on catalogue lines m0.line a.txn (length a.answers) a.tables was (same_numbers a.txn (t.others a.txn gone))
 
   live_now : (j : ℕ) (y : SiteState) (a : Live) → Has y.live a → NowIs w s o.site j y → TellsTables catalogue more a.txn (length a.answers) a.tables
   live_now j y a here (NowIs.other away old) = elsewhere j y a away old here
@@ -154,14 +153,14 @@ module _ (catalogue : Catalogue) (world : WorldState) (lines : List Line) (m0 : 
       (λ old.
       let gone : NotLive x.live e.txn = (λ v q same. k.ends.entry e old x (rw (ap (λ (t : TxnId). t.site) (sym same) ∙ own_site v q) up) v q same) in
       let was = h.entries e old in
-      (was.0, tables_on catalogue lines m0.line e.txn was.0 e.tables was.1 (same_numbers e.txn was.1.rises (t.others e.txn gone))))
+      (was.0, tables_on catalogue lines m0.line e.txn was.0 e.tables was.1 (same_numbers e.txn (t.others e.txn gone))))
       (λ added.
       let q = d.steps.entered e added in
       let u = q.handled.was in
       let txn : u.txn ≡ e.txn = sym (ap (λ (t : Live). t.txn) q.handled.same) ∙ ap (λ (c : Commit). c.txn) q.is in
       let tables : u.tables ≡ e.tables = sym (ap (λ (t : Live). t.tables) q.handled.same) ∙ ap (λ (c : Commit). c.tables) q.is in
       let was : TellsTables catalogue lines e.txn (length u.answers) e.tables = subst (λ (n : TxnId). TellsTables catalogue lines n (length u.answers) e.tables) txn (subst (λ (ts : List (ℕ × Table)). TellsTables catalogue lines u.txn (length u.answers) ts) tables (h.live s x u up q.handled.live)) in
-      (length u.answers, tables_on catalogue lines m0.line e.txn (length u.answers) e.tables was (same_numbers e.txn was.rises (t.entered e added))))
+      (length u.answers, tables_on catalogue lines m0.line e.txn (length u.answers) e.tables was (same_numbers e.txn (t.entered e added))))
 
   life_was : (kept_at w s).life ≡ x.life
   life_was = ap (λ (d : DurableState). d.life) (sym ok.kept)
@@ -169,24 +168,23 @@ module _ (catalogue : Catalogue) (world : WorldState) (lines : List Line) (m0 : 
   used_now : (u : TxnId) → UsedTxn w u → UsedTxn new u
   used_now u used = used_lasts w new s d.st.moved d.grows u used
 
-  fresh_now : (u : TxnId) → (UsedTxn new u → ⊥) → numbers more u ≡ []
+  fresh_now : (u : TxnId) → (UsedTxn new u → ⊥) → weighed_in more u ≡ []
   fresh_now u unused =
       let gone : NotLive x.live u = (λ v here e. unused (used_now u (subst (UsedTxn w) e (own_used w s x up ok.id life_was led v here)))) in
-      let none : numbers lines u ≡ [] = h.fresh u (λ used. unused (used_now u used)) in
-      let rises : Rises (numbers lines u) = rw none tt in
-      same_numbers u rises (t.others u gone) ∙ none
+      let none : weighed_in lines u ≡ [] = h.fresh u (λ used. unused (used_now u used)) in
+      same_numbers u (t.others u gone) ∙ none
 
   done_weighed : (u : Live) (p : Pending) (deed : Deed) → SaysDone catalogue u.txn p deed → heard_of u.txn o.effects.replies ≡ heard_of u.txn (told_to p.port (deed_answer u.txn p.number deed) ∷ []) → IsWeighed more (deed_answer u.txn p.number deed)
   done_weighed u p deed says one v n e = ⊎_elim
-      (λ (mine : u.txn ≡ v). subst (λ (v : TxnId). Has (numbers more v) n) mine (its_own (ap (λ (v : TxnId). weighed v (deed_answer u.txn p.number deed)) mine ∙ e)))
+      (λ (mine : u.txn ≡ v). subst (λ (v : TxnId). Has (weighed_in more v) n) mine (its_own (ap (λ (v : TxnId). weighed v (deed_answer u.txn p.number deed)) mine ∙ e)))
       (λ (other : u.txn ≢ v). absurd (let z = unheard_weigh v _ (says.others v other) in cc))
       (same_or_not u.txn v)
     where
-      its_own : weighed u.txn (deed_answer u.txn p.number deed) ≡ Some n → Has (numbers more u.txn) n
+      its_own : weighed u.txn (deed_answer u.txn p.number deed) ≡ Some n → Has (weighed_in more u.txn) n
       its_own same =
           let only : filter_map (weighed u.txn) (deed_answer u.txn p.number deed ∷ []) ≡ n ∷ [] = rw same refl in
-          let now : numbers more u.txn ≡ put_number n (numbers lines u.txn) = done_numbers u p deed one ∙ ap (λ (ns : List ℕ). for_each ns put_number (numbers lines u.txn)) only in
-          rw now (put_new nat_eq nat_lt n (numbers lines u.txn))
+          let now : weighed_in more u.txn ≡ put_number n (weighed_in lines u.txn) = done_numbers u p deed one ∙ ap (λ (ns : List ℕ). for_each ns put_number (weighed_in lines u.txn)) only in
+          rw now (put_new nat_eq nat_lt n (weighed_in lines u.txn))
 
   kept_now : (j : ℕ) (y : SiteState) (a : Answer) → IsKept y a → NowIs w s o.site j y → IsWeighed more a
   kept_now j y a keeps (NowIs.other away old) = weighed_lasts lines m0.line a (h.kept j y a old keeps)
@@ -207,8 +205,8 @@ module _ (catalogue : Catalogue) (world : WorldState) (lines : List Line) (m0 : 
 
 -- a line that shows no step
 module _ (catalogue : Catalogue) (w : Scene) (lines : List Line) (l : Line) (none : is_step l.shown ≡ false) (h : WeighsAt catalogue w lines) where
-  silent : (u : TxnId) → numbers (lines ++ l ∷ []) u ≡ numbers lines u
-  silent u = numbers-last lines l u ∙ ap (λ (z : List Answer). gathered u z (numbers lines u)) (ap (map (λ (r : Reply). r.answer)) (no_replies l.shown none))
+  silent : (u : TxnId) → weighed_in (lines ++ l ∷ []) u ≡ weighed_in lines u
+  silent u = numbers-silent lines l u (ap (map (λ (r : Reply). r.answer)) (no_replies l.shown none))
 
   still : (s : ℕ) (x : SiteState) (t : Live) → plain_at w s ≡ Some x → Has x.live t → TellsTables catalogue (lines ++ l ∷ []) t.txn (length t.answers) t.tables
   still s x t up here = tables_on catalogue lines l t.txn (length t.answers) t.tables (h.live s x t up here) (silent t.txn)
@@ -251,14 +249,14 @@ occurred catalogue lines number e w m told h (Occurs.acts s x given v same up ar
 abbrev RunWeighs : Catalogue → Run → Type 0
 RunWeighs catalogue run = RunTold catalogue run × WeighsAt catalogue (scene_of run.world) (lines_in run.moments)
 
-one_step-weighs : (catalogue : Catalogue) (number : ℕ) (e : Event) (run : Run) → RunWeighs catalogue run → WeighsAt catalogue (scene_of (one_step catalogue number e run).world) (lines_in (one_step catalogue number e run).moments)
+pub one_step-weighs : (catalogue : Catalogue) (number : ℕ) (e : Event) (run : Run) → RunWeighs catalogue run → WeighsAt catalogue (scene_of (one_step catalogue number e run).world) (lines_in (one_step catalogue number e run).moments)
 unfolding one_step
 one_step-weighs catalogue number e run h =
     let moved = next catalogue e run.world in
     let m0 = moment number run.world e moved in
     subst (WeighsAt catalogue (scene_of moved.world)) (sym (lines_last run.moments m0)) (occurred catalogue (lines_in run.moments) number e run.world moved h.0 h.1 (occurs catalogue e run.world))
 
-start_weighs : (catalogue : Catalogue) → WeighsAt catalogue (scene_of (start_world catalogue)) []
+pub start_weighs : (catalogue : Catalogue) → WeighsAt catalogue (scene_of (start_world catalogue)) []
 start_weighs catalogue = record {
   live = λ s x t up here. absurd (started_idle catalogue s x t up here);
   entries = λ e here. absurd (start_entered catalogue e here);

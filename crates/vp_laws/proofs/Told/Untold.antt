@@ -1,6 +1,6 @@
 -- No operation of a transaction that another view closed was reported with a number at which that is replied, or with a higher one.
-use Rattle.std.proofs.Common.{◌≡◌, ◌⊎◌, ◌∙◌, ap, sym, subst, ℕ, ◌+◌, ◌<◌, ◌≤◌, true, false, List, [], ◌∷◌, ◌++◌, map, refl, arith, inl, inr, ⊎_elim, length, length-append}
-use Rattle.std.specs.Prelude.{Option, Some, None, option_map, option_to_list, nat_le}
+use Rattle.std.proofs.Common.{◌≡◌, ◌⊎◌, ◌∙◌, ap, sym, subst, ℕ, ◌+◌, ◌<◌, ◌≤◌, Bool, true, false, List, [], ◌∷◌, ◌++◌, map, refl, arith, inl, inr, ⊎_elim, length, length-append}
+use Rattle.std.specs.Prelude.{Option, Some, None, option_map, option_to_list, nat_le, ◌||◌}
 use Rattle.std.specs.List.{AllByRecursion, list_any}
 use Rattle.std.proofs.lemmas.Bool.Decides.{nat_tests}
 use Rattle.vp_model.specs.Types.{TxnId, Obstacle, Call, Answer, Input, Line, Pending, Live, Ending, Finished, Reply}
@@ -15,7 +15,7 @@ use Rattle.vp_model.specs.Transactions.{Deed, answer_of, answers_after}
 use Rattle.vp_model.specs.Calls.{change_asked, on_call}
 use Rattle.vp_model.specs.Messages.{on_message}
 use Rattle.vp_model.specs.Step.{step, on_input}
-use Rattle.vp_model.specs.Told.{answers_in, reports}
+use Rattle.vp_model.specs.Told.{answers_in, reports, weighed_in}
 use Rattle.vp_model.specs.World.{WorldState, Moment}
 use Rattle.vp_model.specs.Justified.{told_from}
 use Rattle.vp_laws.proofs.Table.ToldLines.{Report, reports-silent}
@@ -37,6 +37,8 @@ use Rattle.vp_laws.proofs.Replies.Fair.{Untold}
 use Rattle.vp_laws.proofs.Replies.FairStep.{IsStep}
 use Rattle.vp_laws.proofs.Told.At.{ToldAt}
 use Rattle.vp_laws.proofs.Told.Moves.{repeats_now}
+use Rattle.vp_laws.proofs.Told.Tables.{WeighsAt, same_numbers}
+use Rattle.vp_laws.proofs.Table.Weighs.{numbers-silent}
 use Rattle.vp_laws.proofs.Keeping.Does.{Does, does}
 use Rattle.vp_laws.proofs.Invariant.Known.{Known}
 
@@ -49,15 +51,20 @@ abbrev pub UntoldAt : Scene → List Line → Type 0
 UntoldAt w lines = (s : ℕ) (x : SiteState) (f : Finished) → plain_at w s ≡ Some x → Has x.finished f → UntoldEnd lines f
 
 -- nothing new is reported of the transaction
-untold_same : (lines more : List Line) (txn : TxnId) → reports more txn ≡ reports lines txn → (n : ℕ) (why : Ending) → Untold lines (answer_of txn n why) → Untold more (answer_of txn n why)
+abbrev SameTold : List Line → List Line → TxnId → Type 0
+SameTold lines more txn = (reports more txn ≡ reports lines txn) × (weighed_in more txn ≡ weighed_in lines txn)
+
+untold_same : (lines more : List Line) (txn : TxnId) → SameTold lines more txn → (n : ℕ) (why : Ending) → Untold lines (answer_of txn n why) → Untold more (answer_of txn n why)
 untold_same lines more txn e n Committed h = tt
 untold_same lines more txn e n Aborted h = tt
 untold_same lines more txn e n (LockHeld name at holder) h = tt
-untold_same lines more txn e n (ViewChanged at held now) h = subst (λ (rs : List Report). list_any (λ (r : Report). nat_le n r.0) rs ≡ false) (sym e) h
+untold_same lines more txn e n (ViewChanged at held now) h =
+    subst (λ (rs : List Report). (list_any (λ (r : Report). nat_le n r.0) rs || list_any (nat_le n) (weighed_in more txn)) ≡ false) (sym e.0)
+    (subst (λ (ns : List ℕ). (list_any (λ (r : Report). nat_le n r.0) (reports lines txn) || list_any (nat_le n) ns) ≡ false) (sym e.1) h)
 untold_same lines more txn e n (TimedOut at) h = tt
 untold_same lines more txn e n (Inaccessible name inside total) h = tt
 
-end_same : (lines more : List Line) (f : Finished) → reports more f.txn ≡ reports lines f.txn → UntoldEnd lines f → UntoldEnd more f
+end_same : (lines more : List Line) (f : Finished) → SameTold lines more f.txn → UntoldEnd lines f → UntoldEnd more f
 end_same lines more f e h = record {
   answers = λ n there. untold_same lines more f.txn e n f.ending (h.answers n there);
   later = λ n above. untold_same lines more f.txn e n f.ending (h.later n above);
@@ -65,7 +72,7 @@ end_same lines more f e h = record {
 
 -- a line with no answers
 pub silent_untold : (w : Scene) (lines : List Line) (l : Line) → answers_in l ≡ [] → UntoldAt w lines → UntoldAt w (lines ++ l ∷ [])
-silent_untold w lines l none h s x f up there = end_same lines (lines ++ l ∷ []) f (reports-silent lines l f.txn none) (h s x f up there)
+silent_untold w lines l none h s x f up there = end_same lines (lines ++ l ∷ []) f (reports-silent lines l f.txn none, numbers-silent lines l f.txn none) (h s x f up there)
 
 pub quiet_untold : (catalogue : Catalogue) (w new : Scene) (lines : List Line) (s : ℕ) → Quiet catalogue w new s → UntoldAt w lines → UntoldAt new lines
 quiet_untold catalogue w new lines s q h k y f up there = h k y f (finished_still catalogue w s k y f there (quiet_is catalogue w new s q k y up)) there
@@ -83,6 +90,14 @@ above_of n m e = grind (arith, nat_tests, e)
 
 next_of : (a k : ℕ) → a ≡ k → k ≤ a
 next_of a k e = omega arith
+
+-- and beyond all weighs
+beyond_each : (n k : ℕ) (ns : List ℕ) → AllByRecursion (λ (m : ℕ). m ≤ n) ns → n + 1 ≤ k → list_any (nat_le k) ns ≡ false
+beyond_each n k [] h above = refl
+beyond_each n k (m ∷ ns) h above = let low = h.0 in let e : nat_le k m ≡ false = grind (arith, nat_tests, low, above) in rw e (beyond_each n k ns h.1 above)
+
+neither_of : (a b : Bool) → a ≡ false → b ≡ false → (a || b) ≡ false
+neither_of a b e f = rw (e, f) refl
 
 more_than : (a b c k : ℕ) → c ≡ a + b → c < k → a + 1 ≤ k
 more_than a b c k e h = omega arith
@@ -171,7 +186,7 @@ module _ (catalogue : Catalogue) (x : SiteState) (given : Input) where
   completes_unrefused t p deed l from txn number why (Completes.read_answered q rec value k last r e g) c = cc
   completes_unrefused t p deed l from txn number why (Completes.change_answered q rec k last r g) c = cc
 
-module _ (catalogue : Catalogue) (world : WorldState) (lines : List Line) (m0 : Moment) (s : ℕ) (x : SiteState) (given : Input) (up : plain_at (scene_of world) s ≡ Some x) (arrives : Arrives (scene_of world) s given) (is : IsStep m0 world s x given (step catalogue x given)) (told : ToldAt catalogue (scene_of world) lines) (h : UntoldAt (scene_of world) lines) where
+module _ (catalogue : Catalogue) (world : WorldState) (lines : List Line) (m0 : Moment) (s : ℕ) (x : SiteState) (given : Input) (up : plain_at (scene_of world) s ≡ Some x) (arrives : Arrives (scene_of world) s given) (is : IsStep m0 world s x given (step catalogue x given)) (told : ToldAt catalogue (scene_of world) lines) (weighs : WeighsAt catalogue (scene_of world) lines) (h : UntoldAt (scene_of world) lines) where
   abbrev w : Scene
   w = scene_of world
 
@@ -202,12 +217,12 @@ module _ (catalogue : Catalogue) (world : WorldState) (lines : List Line) (m0 : 
   c : Causes catalogue x given o.site o.site.coordinator o.effects.replies o.effects.commits
   c = fair-step catalogue x given (k.repeated.site s x up)
 
-  same_reports : (u : TxnId) → Repeats x u o.effects.replies → reports more u ≡ reports lines u
-  same_reports = repeats_now catalogue world lines m0 s x given up arrives is told
+  same_told : (u : TxnId) → Repeats x u o.effects.replies → SameTold lines more u
+  same_told u repeats = (repeats_now catalogue world lines m0 s x given up arrives is told u repeats, same_numbers catalogue world lines m0 s x given up arrives is told weighs u repeats)
 
   -- one that is not live here
   elsewhere_end : (f : Finished) → NotLive x.live f.txn → UntoldEnd lines f → UntoldEnd more f
-  elsewhere_end f gone e = end_same lines more f (same_reports f.txn (t_now.others f.txn gone)) e
+  elsewhere_end f gone e = end_same lines more f (same_told f.txn (t_now.others f.txn gone)) e
 
   old_end : (f : Finished) → Has x.finished f → UntoldEnd more f
   old_end f there = elsewhere_end f (λ u g. settled.finished f u there g) (h s x f up there)
@@ -224,7 +239,10 @@ module _ (catalogue : Catalogue) (world : WorldState) (lines : List Line) (m0 : 
   beyond : (t : Live) (n : ℕ) → Has x.live t → length t.answers + 1 ≤ n → Repeats x t.txn o.effects.replies → told_from more t.txn n ≡ false
   beyond t n live above repeats =
       let tells : TellsCall catalogue lines t.txn (length t.answers) t.pending t.ops = told.live s x t up live in
-      subst (λ (rs : List Report). list_any (λ (r : Report). nat_le n r.0) rs ≡ false) (sym (same_reports t.txn repeats)) (beyond_all (length t.answers) n (reports lines t.txn) tells.below above)
+      untold_same lines more t.txn (same_told t.txn repeats) n (ViewChanged t.txn.site t.view None)
+      (neither_of (list_any (λ (r : Report). nat_le n r.0) (reports lines t.txn)) _
+      (beyond_all (length t.answers) n (reports lines t.txn) tells.below above)
+      (beyond_each (length t.answers) n (weighed_in lines t.txn) (weighs.live s x t up live).below above))
 
   left_holds : (t : Live) → Has x.live t → o.site.held ≡ None → o.site.held ≡ x.held → ⊥
   left_holds t live gone same = let v = led.live t live in let z = v.1 in cc
