@@ -1,6 +1,6 @@
 #!/usr/bin/env python3
 """Tries what the scripts of `operate` do beside mending a cluster: what `beat` says of ports and of what doesn't settle, its `--wake` and `--regroup`,
-the operations, ends and pauses of `call`, what is left of a node that ended, the unit files.
+the operations, ends and pauses of `call`, what is left of a node that ended, the unit files, and what the pages say of ports that are taken.
 
 usage: try_operate.py PROGRAM
 
@@ -205,6 +205,20 @@ def try_ends_of_call(program, folder):
     return "seven ends of call"
 
 
+def try_taken_ports(folder):
+    """The line of each page that looks whether its ports are free says it where one is taken."""
+    pages = "README.md", "docs/CLUSTER.md", "docs/OPERATING.md"
+    for page in pages:
+        [line] = re.findall("^grep .* /proc/net/udp .*$", (OPERATE.parent / page).read_text(), re.MULTILINE)
+        for port in 7001, 7002, 7003, 7100:
+            with contextlib.ExitStack() as taken:
+                with contextlib.suppress(OSError):  # of a port that another cluster has
+                    taken.enter_context(bound(port))
+                done = subprocess.run(["bash", "-c", line], cwd=folder, capture_output=True, text=True, timeout=60)
+            insist("is taken" in done.stdout, "no word of a port that is taken", page, port, done)
+    return f"taken ports are said by {', '.join(pages)}"
+
+
 def try_units(program, folder):
     """systemd takes the unit files, with the paths of what they run changed; and what a node's unit runs keeps the lines that say why it ended."""
     found = try_what_a_unit_runs(program, folder)
@@ -244,7 +258,7 @@ def try_what_a_unit_runs(program, folder):
 def main():
     program = os.path.abspath(sys.argv[1])
     tries = (try_what_is_said, try_wake, try_ends_of_call, try_operations, try_two_clients, try_null, try_regroup, try_units)
-    for one in (try_complaint, *(functools.partial(one, program) for one in tries)):
+    for one in (try_complaint, try_taken_ports, *(functools.partial(one, program) for one in tries)):
         with tempfile.TemporaryDirectory() as folder:
             try:
                 print(one(folder), flush=True)
