@@ -17,7 +17,7 @@ EXAMPLES = TOP / "docs/examples"
 PAGES = [TOP / "README.md", *sorted((TOP / "docs").glob("*.md"))]
 
 # the event lines from which and to which a part is drawn
-PARTS = {"view-change": ("12", "28")}
+PARTS = {"view-change": ("12", "28"), "stale": ("20", "37")}
 
 
 def drawn(vpdraw, schedule):

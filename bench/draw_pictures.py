@@ -7,6 +7,7 @@ usage: draw_pictures.py [--check]
 - log-halves.svg: the two halves of a log through an append and a checkpoint, with the batches of site 2 of docs/life-of-a-write.md.
 - view-states.svg: the states of a view at a site, by the table of docs/PROTOCOL.md, whose rows have to be definitions of vp_model.
 - shared-holder.svg: the views of docs/examples/banks.schedule and the holders that two of them share, by its trace in banks.printed.
+- two-orders.svg: the committed transactions of docs/examples/stale.txt by the moment of their commit and in the serial order, by stale.printed.
 - changed-weights.svg: the views of docs/examples/weights.schedule, each with the weight inside it by the table in force, by its trace in weights.printed.
 
 With --check nothing is written: it ends with status 1 where a picture is another than what this script makes.
@@ -536,7 +537,75 @@ def draw_judged(picture, run, tables, site, y, x_of, views):
             picture.text(x_of(event), y + 60, value, 11, STRONG[1], "middle", "bold")
 
 
-PICTURES = {"layers": layers, "log-halves": log_halves, "view-states": view_states, "shared-holder": shared_holder, "changed-weights": changed_weights}
+# The two orders of committed transactions
+
+class Entry:
+    """A line `commit` of a history: a transaction, its view and its operations, each a letter with a record and mostly a value."""
+
+    def __init__(self, line):
+        _, self.txn, self.view, *words = line.split()
+        starts = [place for place, word in enumerate(words) if word in ("r", "a", "w", "d")]
+        self.operations = [words[start:end] for start, end in zip(starts, [*starts[1:], None])]
+        self.changed = {record for kind, record, *_ in self.operations if kind in ("w", "d")}
+
+    def says(self, operation):
+        kind, *words = operation
+        return f"{dict(r='reads', a='finds absent', w='writes', d='deletes')[kind]} {' '.join(words)}"
+
+
+def old_reads(entries):
+    """What entries read, in this order, that was not the last committed content, each with its transaction; nothing that they change is among it."""
+    printed = page("docs/examples/stale.printed")
+    contents = dict(re.findall(r"^start (\S+) (\S+)$", printed, re.M))
+    old = []
+    for entry in entries:
+        old += [(entry.txn, operation) for operation in entry.operations if operation[0] == "r" and contents[operation[1]] != operation[2]]
+        assert not any(txn == entry.txn and operation[1] in entry.changed for txn, operation in old)
+        contents |= {operation[1]: operation[2] for operation in entry.operations if operation[0] == "w"}
+    return old
+
+
+def draw_entry(picture, x, y, entry, old):
+    """A transaction as a box, with what it read of records that it changes set off from what it only read; of those `old` were old."""
+    picture.box(x, y, 400, 56, COLOURS[0 if entry.view == "0@0" else 2], LINE)
+    picture.text(x + 10, y + 20, f"{entry.txn} in view {entry.view}", 12, weight="bold", font=MONO)
+    at = x + 10
+    for operation in entry.operations:
+        words = entry.says(operation) + (" (old)" if (entry.txn, operation) in old else "")
+        colour = INK if operation[0] in ("w", "d") else STRONG[2] if operation[1] in entry.changed else STRONG[3]
+        picture.text(at, y + 42, words, 12, colour, font=MONO)
+        at += 7.6 * len(words) + 16
+
+
+def two_orders():
+    trace, history = page("docs/examples/stale.printed").split("\nhistory\n")
+    serial = [Entry(line) for line in history.splitlines() if line.startswith("commit ")]
+    by_commit = sorted(serial, key=lambda entry: trace.index(f"\n commit {entry.txn} "))
+    old = old_reads(by_commit)
+    [(_, stale)] = old
+    late = next(entry for entry in serial if entry.txn == old[0][0])
+    fresh = next(operation for operation in late.operations if operation[0] == "r" and operation[1] in late.changed)
+    picture = Picture(1160, 376, "The committed transactions of a schedule, by the moment of commit and in the serial order")
+    picture.text(20, 28, "The two orders of committed transactions (docs/examples/stale.txt)", 15, weight="bold")
+    picture.text(20, 48, "Green is what a transaction read of a record that it changes too, red what it only read.", 12, PALE)
+    top, step, left, right = 96, 70, 20, 740
+    picture.text(left, top - 14, "by the moment of commit, downwards", 12.5, weight="bold")
+    picture.text(right, top - 14, "the serial order: by view, then by moment", 12.5, weight="bold")
+    for place, entry in enumerate(by_commit):
+        draw_entry(picture, left, top + step * place, entry, old)
+        other = serial.index(entry)
+        draw_entry(picture, right, top + step * other, entry, ())
+        picture.line(left + 400, top + step * place + 28, right, top + step * other + 28, INK, 1.2, arrow=True)
+    write_below(picture, top + step * len(serial) + 14, (
+        f"{late.txn} commits last, in the lowest view: in the serial order it is the first one. There its read of {stale[1]} finds {stale[2]}; by the moment of its commit that was old.",
+        f"It changes {fresh[1]}, and what it read of it, {fresh[2]}, is the last committed content in both orders. The entries that change one record are in the same order in both.",
+        f"So only what is read and not changed may be old. Where {late.txn} had also written {stale[1]}, it would have been refused: the schedule ends with that.",
+    ))
+    return picture
+
+
+PICTURES = {"layers": layers, "log-halves": log_halves, "view-states": view_states, "shared-holder": shared_holder, "changed-weights": changed_weights,
+            "two-orders": two_orders}
 
 
 def main():

@@ -1,10 +1,11 @@
 #!/usr/bin/env python3
 """Follows pages word for word: runs their blocks of bash in one shell, and compares what each line prints with what stands after it.
 
-usage: follow_pages.py VPDB [--times N] [--at-once N] PAGE..
+usage: follow_pages.py VPDB [--vpdraw VPDRAW] [--times N] [--at-once N] PAGE..
 
 A page is a file of the repository, such as README.md or docs/CLUSTER.md. The blocks that begin with ```bash of all pages are run one
-after the other, in one shell that begins in a folder with the repository's `operate` and `docs`, and VPDB as crates/vpdb/out/vpdb. What stands after
+after the other, in one shell that begins in a folder with copies of the repository's `operate` and `docs`, VPDB as crates/vpdb/out/vpdb, and VPDRAW (`vpdraw` beside
+VPDB, or the one that is built in crates/vpdraw) as crates/vpdraw/out/vpdraw. So it writes nothing into the repository. What stands after
 a `#` is what the line prints on its standard output, if it begins as something that is printed (`PRINTED` here); `..` in it stands for anything within a
 line, `, three times` for three such lines, and a line that is a `#` alone goes on. After any other `#`, as after none, nothing is printed.
 
@@ -92,14 +93,20 @@ def script_of(lines):
     return "".join(f"printf '\\001%s\\n' {place}\n{line.command}" for place, line in enumerate(lines)) + "printf '\\001over\\n'\n"
 
 
-def run(vpdb, lines, alone):
+def lay_out(folder, programs):
+    """The folder in which the pages are followed."""
+    for name, program in programs.items():
+        os.makedirs(f"{folder}/crates/{name}/out")
+        os.symlink(os.path.abspath(program), f"{folder}/crates/{name}/out/{name}")
+    for name in ("operate", "docs"):
+        shutil.copytree(TOP / name, f"{folder}/{name}")
+
+
+def run(programs, lines, alone):
     """What each command printed in one run, by its place; and whether the run came to its end."""
     folder = tempfile.mkdtemp(prefix="pages.")
     try:
-        os.makedirs(f"{folder}/crates/vpdb/out")
-        os.symlink(os.path.abspath(vpdb), f"{folder}/crates/vpdb/out/vpdb")
-        for name in ("operate", "docs"):
-            os.symlink(TOP / name, f"{folder}/{name}")
+        lay_out(folder, programs)
         pathlib.Path(f"{folder}/script").write_text(script_of(lines))
         words = [*(ALONE if alone else []), "bash", f"{folder}/script"]
         with open(f"{folder}/printed", "wb") as printed:
@@ -138,6 +145,7 @@ def differences(lines, answer):
 def main():
     words = argparse.ArgumentParser(usage=__doc__.split("\n\n")[1].removeprefix("usage: "))
     words.add_argument("vpdb")
+    words.add_argument("--vpdraw")
     words.add_argument("pages", nargs="+", metavar="PAGE")
     words.add_argument("--times", type=int, default=1)
     words.add_argument("--at-once", type=int, default=8)
@@ -146,9 +154,11 @@ def main():
     if not alone:
         print("not as root, or without ip, nft or unshare: blocks for root are left out")
     lines = [line for page in given.pages for line in lines_of(page, ("```bash", "```bash root") if alone else ("```bash",))]
+    beside = pathlib.Path(given.vpdb).parent / "vpdraw"
+    programs = {"vpdb": given.vpdb, "vpdraw": given.vpdraw or (beside if beside.exists() else TOP / "crates/vpdraw/out/vpdraw")}
     good, often = 0, collections.Counter()
     with ThreadPoolExecutor(min(given.times, given.at_once) if alone else 1) as runs:
-        for answer in runs.map(lambda _: run(given.vpdb, lines, alone), range(given.times)):
+        for answer in runs.map(lambda _: run(programs, lines, alone), range(given.times)):
             found = list(differences(lines, answer))
             good += not found
             for difference in found[:3]:

@@ -27,15 +27,22 @@ def table(name, lines):
     return "\n".join([f"table ip {name} {{", "chain taken {", "type filter hook input priority 0", *lines, "}", "}", ""])
 
 
-def cut(ports, some, others):
-    """Nothing comes through any more between these sites, as on a cable that is cut."""
-    pairs = [f"{ports[at]} . {ports[of]}" for one, other in itertools.product(some, others) for at, of in ((one, other), (other, one))]
+def cut(ports, some, others, is_one_way=False):
+    """Nothing comes through any more between these sites, as on a cable that is cut; or only from the first ones to the others."""
+    pairs = [f"{ports[at]} . {ports[of]}" for one, other in itertools.product(some, others) for at, of in ((one, other), (other, one))[: 2 - is_one_way]]
     give(table("cut", [f"udp sport . udp dport {{ {', '.join(pairs)} }} drop"]))
 
 
 def join():
     """What `cut` cut is joined again."""
     give("table ip cut\ndelete table ip cut\n")
+
+
+def dropped(ports):
+    """How many datagrams the sockets of these sites had no room for so far."""
+    with open("/proc/net/udp", encoding="ascii") as lines:
+        rows = [line.split() for line in lines][1:]
+    return sum(int(row[-1]) for row in rows if int(row[1].split(":")[1], 16) in ports.values())
 
 
 def lose(ports, per_thousand):

@@ -49,7 +49,7 @@ class Caller:
 
 
 def transfers(draw, names, count):
-    return [f"transfer {' '.join(draw.sample(names, 2))} {draw.randint(1, 30)}" for _ in range(count)]
+    return [f"transfer {' '.join(draw.sample(names, 2))} {draw.randint(1, 30)} floor -{10**6}" for _ in range(count)]
 
 
 def values_read(words):

@@ -11,8 +11,9 @@ LAST_NUMBER = 2**32 - 1  # of a call: no transaction comes so far
 HEAD = b"\x56\x02"  # of what is sent; what is read here is the same in both versions of frames
 HEADS = (b"\x56\x01", HEAD)
 CALL, REPLY, TICK, PROBE, STOP = 32, 33, 34, 35, 36
-BEGIN_CALL, REGROUP_CALL, ABORT_CALL = 1, 2, 6
+BEGIN_CALL, REGROUP_CALL, READ_CALL, ABORT_CALL = 1, 2, 3, 6
 BEGUN, INVITING, NO_VIEW, UNKNOWN, SPENT, TOO_MANY_LIVE = 1, 6, 7, 8, 17, 18
+VALUE, ABORTED, SKIPPED, INACCESSIBLE, LOCK_HELD, VIEW_CHANGED, TIMED_OUT, ABSENT = 2, 5, 9, 13, 14, 15, 16, 19
 TO_BEGIN = (BEGUN, NO_VIEW, SPENT, TOO_MANY_LIVE)  # what a `begin` is answered
 
 
@@ -28,31 +29,32 @@ def bound(port=0):
 
 
 class Catalogue(NamedTuple):
-    """The lines of a catalogue that are of use here: the port of each site, and the names of records."""
+    """The lines of a catalogue that are of use here: the port of each site, and the names of the records of which it has copies."""
 
     ports: dict
-    records: list
+    copies: dict
 
 
 def read_catalogue(path):
     """The catalogue in a file. Where it can't be one, that is said, and the script ends with status 2. Nodes read it exactly."""
-    ports, records = {}, []
+    ports, copies = {}, {}
     try:
         with open(path, encoding="ascii") as lines:
             for number, line in enumerate(lines, 1):
                 kind, *words = line.split()
                 if kind == "site":
                     site, port = map(int, words)
-                    ports[site] = port
+                    ports[site], copies[site] = port, []
                 elif kind == "record" and len(words) > 2:
-                    records.append(words[0])
+                    for weight in words[2:]:
+                        copies[int(weight.split(":")[0])].append(words[0])
                 else:
                     raise ValueError(f"line {number} is neither a site's nor a record's")
         if not ports:
             raise ValueError("no line of a site")
-    except (OSError, ValueError) as fault:
+    except (OSError, ValueError, KeyError) as fault:
         sys.exit(fail(2, f"no catalogue in {path}: {fault}"))
-    return Catalogue(ports, records)
+    return Catalogue(ports, copies)
 
 
 def fail(status, *what):
@@ -96,6 +98,25 @@ def read_reply(data):
     return Reply(kind, data[3], None, fields[:9] if kind == UNKNOWN else txn)
 
 
+class Answer(NamedTuple):
+    """What a call of a transaction is answered: the number of the call, or of a skipped one the number that it should have had."""
+
+    kind: int
+    txn: bytes
+    number: int
+    by_refresh: bool  # was it refused since a copy is under refresh?
+
+
+def read_answer(data):
+    """The reply in a datagram as an answer to a call of a transaction, or None where it holds none."""
+    reply = read_reply(data)
+    if reply is None or reply.kind in TO_BEGIN:
+        return reply and Answer(reply.kind, reply.txn, 0, False)
+    fields = data[6:]
+    number = int.from_bytes(fields[9:13], "big")
+    return Answer(reply.kind, fields[:9], number, reply.kind == LOCK_HELD and fields[15 + fields[13] :] == b"\0")
+
+
 def begin(site):
     return frame(CALL, site, bytes([BEGIN_CALL]))
 
@@ -109,6 +130,10 @@ def numbered(site, number):
     return struct.pack(">BII", site, LAST_NUMBER, number)
 
 
-def abort(site, txn):
-    """The abort of a transaction as its first call."""
-    return frame(CALL, site, bytes([ABORT_CALL]) + txn + struct.pack(">I", 1))
+def read(site, txn, number, name):
+    return frame(CALL, site, bytes([READ_CALL]) + txn + struct.pack(">IB", number, len(name)) + name.encode("ascii"))
+
+
+def abort(site, txn, number=1):
+    """The abort of a transaction as its call of this number."""
+    return frame(CALL, site, bytes([ABORT_CALL]) + txn + struct.pack(">I", number))

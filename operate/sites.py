@@ -1,9 +1,11 @@
 """The sites of a cluster as who runs it sees them: what they are told, what they say of their views, and the procedure that mends."""
 import contextlib
+import itertools
 import selectors
 import socket
 import time
 
+import copies
 import frames
 
 ROUND_TRIP = 2  # turns of all sites until a request of one was answered by another
@@ -122,6 +124,14 @@ class Sites:
         self.take(seconds, lambda: site in self._invited)
         return self._invited.get(site)
 
+    def under_refresh(self, left, seconds):
+        """Of names of records by site, those from the first one on whose copy there is under refresh, for each site that has such a copy."""
+        found = {}
+        for site, names in left.items():
+            with contextlib.closing(copies.Reader(site, self.ports[site])) as reader:
+                found[site] = reader.under_refresh(names, seconds)
+        return {site: names for site, names in found.items() if names}
+
     def close(self):
         for sock in self._sockets.values():
             sock.close()
@@ -157,7 +167,8 @@ def until_all(sites, which, seconds, true):
 def make_view(sites, inviter, others, wait):
     """Regroups at one site, which fixes the view with those of the others that accept in time. Gives the view, or None where the site doesn't invite.
 
-    Then each of them is ticked twice, so that no record is left under refresh, and no transaction in doubt whose coordinator is among them.
+    Then each of them is ticked twice, so that no transaction is left in doubt whose coordinator is among them, and no record under refresh, unless messages
+    were lost.
     """
     view = sites.regroup(inviter, wait)
     if view is None:
@@ -166,24 +177,44 @@ def make_view(sites, inviter, others, wait):
     sites.tick(inviter)
     joined = until_all(sites, members, wait, lambda reply: held_by(reply) == view)
     for _ in range(2):
-        for _ in range(ROUND_TRIP):
-            joined = sites.flush(joined, wait)
+        joined = settle(sites, joined, wait)
         sites.tick(*sorted(joined))
     sites.flush(joined, wait)
     return view
 
 
-def mend(sites, wait, which=None):
+def settle(sites, which, wait):
+    """Waits until what these sites had asked each other for has come. Gives those that answer."""
+    for _ in range(ROUND_TRIP):
+        which = sites.flush(which, wait)
+    return which
+
+
+def refresh(sites, names, wait, seconds):
+    """Ticks sites as long as copies of these records (by site) are under refresh there, for so many seconds at most. Gives the rounds of ticks that it took,
+    and what is left."""
+    end, left = time.monotonic() + seconds, sites.under_refresh(names, wait)
+    for rounds in itertools.count():
+        if not left or time.monotonic() > end:
+            return rounds, left
+        sites.tick(*left)
+        settle(sites, names, wait)
+        left = sites.under_refresh(left, wait)
+
+
+def mend(sites, wait, which=None, inviters=None):
     """Makes a view of all sites that answer, or where they don't reach each other one for each part of them. Gives what they then hold. Those of
     `which` (all) are waited for.
 
     The site with the greatest promise invites: so nobody has promised more, and it need not invite twice. Whom its invitation didn't reach is of another part.
+    Where that has left sites without a view, one of these invites (`inviters`), and all have time to accept.
     """
     replies = sites.look(which=which)
-    left = set(replies)
+    left = set(replies) if inviters is None else inviters & set(replies)
     while left:
         inviter = max(left, key=lambda site: (promise(replies[site]), site))
-        view = make_view(sites, inviter, left - {inviter}, wait)
+        others = left if inviters is None else set(replies)
+        view = make_view(sites, inviter, others - {inviter}, wait)
         replies |= sites.look(which=left)
         left -= {inviter} | {site for site in left if view and promise(replies[site]) >= view}
     return held(sites.look(which=replies))
