@@ -4,7 +4,8 @@
 usage: follow_pages.py VPDB [--times N] [--at-once N] PAGE..
 
 A page is a file of the repository, such as README.md or docs/CLUSTER.md. The blocks that begin with ```bash of all pages are run one
-after the other, in one shell that begins in a folder with the repository's `operate` and `docs`, and VPDB as crates/vpdb/out/vpdb. What stands after
+after the other, in one shell that begins in a folder with copies of the repository's `operate` and `docs`, VPDB as crates/vpdb/out/vpdb, and
+crates/vpdraw/out/vpdraw, if it is built. What stands after
 a `#` is what the line prints on its standard output, if it begins as something that is printed (`PRINTED` here); `..` in it stands for anything within a
 line, `, three times` for three such lines, and a line that is a `#` alone goes on. After any other `#`, as after none, nothing is printed.
 
@@ -96,10 +97,11 @@ def run(vpdb, lines, alone):
     """What each command printed in one run, by its place; and whether the run came to its end."""
     folder = tempfile.mkdtemp(prefix="pages.")
     try:
-        os.makedirs(f"{folder}/crates/vpdb/out")
-        os.symlink(os.path.abspath(vpdb), f"{folder}/crates/vpdb/out/vpdb")
+        for name, program in (("vpdb", os.path.abspath(vpdb)), ("vpdraw", TOP / "crates/vpdraw/out/vpdraw")):
+            os.makedirs(f"{folder}/crates/{name}/out")
+            os.symlink(program, f"{folder}/crates/{name}/out/{name}")
         for name in ("operate", "docs"):
-            os.symlink(TOP / name, f"{folder}/{name}")
+            shutil.copytree(TOP / name, f"{folder}/{name}", symlinks=True)
         pathlib.Path(f"{folder}/script").write_text(script_of(lines))
         words = [*(ALONE if alone else []), "bash", f"{folder}/script"]
         with open(f"{folder}/printed", "wb") as printed:
