@@ -1,11 +1,12 @@
 #!/usr/bin/env python3
-"""Runs processes whose standard streams are closed, and two nodes on one log.
+"""Runs processes whose standard streams are closed, two nodes on one log, and nodes and audits on files that are no two halves.
 
 usage: streams_and_locks.py VPDB
 
 A node, a client and a replay with a closed input end with status 4, with a closed output with 5, and leave no log; with a closed standard
-error they do as ever. A second node on the log of one that runs ends with `disk fault` and status 7, and the first serves on. Ends with
-status 1 where something else is seen.
+error they do as ever. A second node on the log of one that runs ends with `disk fault` and status 7, and the first serves on; so do a node on a log that
+shares a half with it, and a node and an audit where one half is a link to the other, or a FIFO. Ends with status 1 where something else is
+seen.
 """
 import os
 import subprocess
@@ -51,6 +52,12 @@ def locks(vpdb):
     second, wrong = ask("node", "1", "log", "100"), []
     if (second.returncode, second.stdout) != (7, "disk fault\n") or open("log.0", "rb").read() != before:
         wrong.append(f"a second node: status {second.returncode}, {second.stdout!r}")
+    for half in "01":
+        os.link(f"log.{half}", f"other.{half}")
+        third = ask("node", "1", "other", "100")
+        if (third.returncode, third.stdout) != (7, "disk fault\n"):
+            wrong.append(f"a node that shares half {half}: status {third.returncode}, {third.stdout!r}")
+        os.remove(f"other.{half}")
     begun = ask("client", "7312", "16", "1", "begin")
     if begun.stdout != "begun 1.1.1 0@0\n":
         wrong.append(f"the first node answers {begun.stdout!r}")
@@ -60,13 +67,36 @@ def locks(vpdb):
     return wrong
 
 
+def link():
+    open("odd.0", "w").close()
+    os.link("odd.0", "odd.1")
+
+
+FILES = [("a link", link), ("a FIFO as half 0", lambda: os.mkfifo("odd.0")), ("a FIFO as half 1", lambda: os.mkfifo("odd.1"))]
+
+
+def refused(vpdb, name, made):
+    wrong = []
+    for words in ("node 1 odd 100", "audit 1 odd"):
+        made()
+        ended = run(vpdb, words, "site 1 7311\nrecord x 10 1:1\n", "")
+        if (ended.returncode, ended.stdout) != (7, "disk fault\n"):
+            wrong.append(f"{words} with {name}: status {ended.returncode}, {ended.stdout!r}")
+        for half in ("odd.0", "odd.1"):
+            if os.path.lexists(half):
+                os.remove(half)
+    return wrong
+
+
 def main():
     vpdb = os.path.abspath(sys.argv[1])
     with tempfile.TemporaryDirectory() as folder:
         os.chdir(folder)
         wrong = streams(vpdb) + locks(vpdb)
+        for name, made in FILES:
+            wrong += refused(vpdb, name, made)
         os.chdir("/")
-    print("\n".join(wrong) if wrong else "9 runs with a closed stream and a second node on a log, each as it must be")
+    print("\n".join(wrong) if wrong else "9 runs with a closed stream, 3 more nodes on a log and 6 runs on files that are no two halves, each as it must be")
     return 1 if wrong else 0
 
 

@@ -4,6 +4,7 @@ ghost use Rattle.std.specs.Prelude.{◌≤◌};
 
 use std::alloc::Global;
 use std::fs;
+use std::os::unix::fs::symlink;
 use std::process::Abort;
 use vp_adapters::LogFiles;
 use vp_base::Word;
@@ -77,4 +78,49 @@ fn a_log_that_can_not_be_opened_is_counted(rt: HostRuntime) {
         assert!(rt; disk.attach(&name) == Err(OutFault::Failed));
         assert!(rt; disk.faults() == count as u64 + 1);
     }
+}
+
+#[test]
+fn two_names_of_one_file_are_no_log(rt: HostRuntime) {
+    let name = word(&rt, rt.alloc(), b"twice");
+    let mut disk = LogFiles::new(&rt);
+    change(&mut disk, &name).expect(&rt, "no fault");
+    fs::remove_file(&rt, "twice.1").expect(&rt, "a file");
+    fs::hard_link(&rt, "twice.0", "twice.1").expect(&rt, "a link");
+    assert!(rt; disk.attach(&name) == Err(OutFault::Failed) && disk.faults() == 1);
+    fs::remove_file(&rt, "twice.1").expect(&rt, "a file");
+    assert!(rt; content(&mut disk, &name, 0) == Ok((6, 5, *b"bXYef---")));
+    for path in ["twice.0", "twice.1"] {
+        fs::remove_file(&rt, path).expect(&rt, "a file");
+    }
+}
+
+#[test]
+fn a_half_is_of_one_attached_log(rt: HostRuntime) {
+    let name = word(&rt, rt.alloc(), b"owner");
+    let other = word(&rt, rt.alloc(), b"other");
+    let mut first = LogFiles::new(&rt);
+    change(&mut first, &name).expect(&rt, "no fault");
+    for (half, link) in [("owner.0", "other.0"), ("owner.1", "other.1")] {
+        fs::hard_link(&rt, half, link).expect(&rt, "a link");
+        let mut second = LogFiles::new(&rt);
+        assert!(rt; second.attach(&other) == Err(OutFault::Failed) && second.faults() == 1);
+        fs::remove_file(&rt, link).expect(&rt, "a link");
+    }
+    assert!(rt; content(&mut first, &name, 1) == Ok((3, 2, *b"\0z------")));
+    for path in ["owner.0", "owner.1", "other.0"] {
+        fs::remove_file(&rt, path).expect(&rt, "a file");
+    }
+}
+
+#[test]
+fn a_half_is_a_regular_file(rt: HostRuntime) {
+    let name = word(&rt, rt.alloc(), b"device");
+    for half in ["device.0", "device.1"] {
+        symlink(&rt, "/dev/null", half).expect(&rt, "a link");
+        let mut disk = LogFiles::new(&rt);
+        assert!(rt; disk.attach(&name) == Err(OutFault::Failed) && disk.faults() == 1);
+        fs::remove_file(&rt, half).expect(&rt, "a link");
+    }
+    fs::remove_file(&rt, "device.0").expect(&rt, "the half that was made");
 }

@@ -70,8 +70,8 @@ impl Halves {
     }
 }
 
-/// A disk whose log NAME is the files NAME.0 and NAME.1. Its state says nothing of what they hold. While a log is attached its first file
-/// is locked, and no other disk can attach the log.
+/// A disk whose log NAME is the files NAME.0 and NAME.1. Its state says nothing of what they hold. While a log is attached both files are
+/// locked, and no other disk can attach a log that has one of them.
 #[derive(Drop)]
 pub struct LogFiles<R> {
     files: R,
@@ -97,30 +97,30 @@ impl<R: Files<File = File>> LogFiles<R> {
         }
     }
 
-    /// Opens the files of a log, and makes those that are missing, unless another process has the lock of the first one. Their folder is
-    /// synced at each call, since the process that made them may have been stopped before it was.
+    /// Opens and locks the files of a log, and makes those that are missing. It fails where the lock of one is taken: by another process, or
+    /// by the first one where both names are of one file. Their folder is synced at each call, since the process that made them may have been
+    /// stopped before it was.
     fn open(&self, first: &[u8], second: &[u8]) -> io::Result<Halves> {
         let halves = Halves {
-            first: self.open_locked(first)?,
+            first: self.open_half(first)?,
             second: self.open_half(second)?,
         };
         File::open(&self.files, folder_of(text(first)?))?.sync_all()?;
         Ok(halves)
     }
 
-    /// Opens the file and locks it. The lock is freed when the file is closed, and when the process ends.
-    fn open_locked(&self, path: &[u8]) -> io::Result<File> {
-        let file = self.open_half(path)?;
-        file.try_lock()?;
-        Ok(file)
-    }
-
+    /// Opens a regular file and locks it. The lock is freed when the file is closed, and when the process ends.
     fn open_half(&self, path: &[u8]) -> io::Result<File> {
-        OpenOptions::new()
+        let file = OpenOptions::new()
             .read(true)
             .write(true)
             .create(true)
-            .open(&self.files, text(path)?)
+            .open(&self.files, text(path)?)?;
+        if !file.metadata()?.is_file() {
+            return Err(io::Error::from(ErrorKind::InvalidInput));
+        }
+        file.try_lock()?;
+        Ok(file)
     }
 
     /// The attached file.
