@@ -18,7 +18,7 @@ comes to it), and both ways, in an order of its own each time.
 
 All is done in a network of its own, where nftables cuts: it needs root, iproute2 and nftables, and is skipped with a word without them. It prints for each
 kind the times, how many datagrams the sockets of the sites had no room for, and what `beat` said of copies under refresh and on its standard error, and ends
-with status 1 where a time but those of `all commit` is above 10 seconds (30 is the longest that is waited).
+with status 1 where a time but those of `all commit` is above 20 seconds (30 is the longest that is waited).
 """
 import argparse
 import itertools
@@ -37,7 +37,7 @@ from comparison import REFERENCE, modules
 from lossy_network import Client, Loop
 from node_processes import OPERATE, Nodes, catalogue
 
-LONGEST, PATIENCE = 10.0, 30.0  # seconds that may pass, and that are waited
+LONGEST, PATIENCE = 20.0, 30.0  # seconds that may pass, and that are waited
 CALM, AGAIN = 0.7, 0.2  # seconds between two transactions of a client, and at most after one that didn't commit
 LAST_NUMBER = 2**32 - 1
 
