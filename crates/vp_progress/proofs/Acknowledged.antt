@@ -1,12 +1,12 @@
 -- Decisions end: each of these sites that one waits for is told again, and acknowledges.
-use Rattle.std.proofs.Common.{◌≡◌, ◌≢◌, ◌∙◌, ap, sym, subst, ℕ, Bool, true, false, cond, List, [], ◌∷◌, refl, ⊎_elim}
-use Rattle.std.specs.Prelude.{Option, Some, flat_map, map}
-use Rattle.vp_model.specs.Types.{TxnId, View, Doubt, Decision, Refreshing}
+use Rattle.std.proofs.Common.{◌≡◌, ◌∙◌, ap, sym, subst, ℕ, Bool, true, false, cond, List, [], ◌∷◌, refl, ⊎_elim}
+use Rattle.std.specs.Prelude.{Option, flat_map, map}
+use Rattle.vp_model.specs.Types.{TxnId, View, Doubt, Decision}
 use Rattle.vp_model.specs.Types.input
 use Rattle.vp_model.specs.Types.log_record
 use Rattle.vp_model.specs.Types.message
 use Rattle.vp_model.specs.Catalogue.{Catalogue}
-use Rattle.vp_model.specs.Site.{CoordinatorState, SiteState, Stepped, begin_step, put_back, lent_coordinator, lent_force}
+use Rattle.vp_model.specs.Site.{SiteState, Stepped, begin_step, put_back, lent_coordinator, lent_force}
 use Rattle.vp_model.specs.Answers.{waits_for, with_acknowledged, on_ack, on_answer}
 use Rattle.vp_model.specs.Messages.{on_message}
 use Rattle.vp_model.specs.Step.{on_input, step}
@@ -177,10 +177,13 @@ module _ (catalogue : Catalogue) (ns : List ℕ) (past : Past) (v : View) where
       let all = flat_map (asked_of w) ns in
       can_then catalogue (calms past.told ns) (Each (Telling w) IsTold all w) _ w
       (one_by_one catalogue (calms past.told ns) (Telling w) IsTold all (ends_one w) all (λ a h. h) w (record { quiet = f; fewer = λ k d h. h; less = λ k u p waits. waits }))
-      λ new e. can_now catalogue (calms past.told ns) _ new (e.still, (λ q p txn here there waits.
-      let old = e.still.less q txn p waits in
-      let asked = has_flat (with_each q) (decisions_at (site_of w q)) old.0 (q, old.0.txn, p) old.1 (mapped_has (λ (p : ℕ). (q, old.0.txn, p)) ns p there) in
-      e.done (q, old.0.txn, p) (has_flat (asked_of w) ns q (q, old.0.txn, p) here asked) (subst (λ (t : TxnId). IsWaited (decisions_at (site_of new q)) t p) (sym old.2) waits)))
+      λ new e. can_now catalogue (calms past.told ns) _ new (
+        e.still,
+        (λ q p txn here there waits.
+            let old = e.still.less q txn p waits in
+            let asked = has_flat (with_each q) (decisions_at (site_of w q)) old.0 (q, old.0.txn, p) old.1 (mapped_has (λ (p : ℕ). (q, old.0.txn, p)) ns p there) in
+            e.done (q, old.0.txn, p) (has_flat (asked_of w) ns q (q, old.0.txn, p) here asked) (subst (λ (t : TxnId). IsWaited (decisions_at (site_of new q)) t p) (sym old.2) waits)),
+      )
 
   -- each doubt of a coordinator among these sites has ended, and each wait of a decision of one of them for another
   pub record Settled (w : WorldState) : Type 0 where

@@ -1,7 +1,7 @@
 -- In every world each decision waits for a site, and for sites of the catalogue alone.
 use Rattle.std.proofs.Common.{◌≡◌, ◌≢◌, ◌⊎◌, ◌∙◌, ap, sym, subst, ℕ, Bool, true, false, cond, List, [], refl, inl, inr, ⊎_elim}
 use Rattle.std.specs.Prelude.{Some, ◌==◌, ◌&&◌, not, filter, map}
-use Rattle.vp_model.specs.Types.{ViewId, TxnId, Sent, Commit, Input, Decision, Live}
+use Rattle.vp_model.specs.Types.{TxnId, Sent, Commit, Input, Decision, Live}
 use Rattle.vp_model.specs.Words.{has, same_txn, txn_before, is_empty}
 use Rattle.vp_model.specs.Catalogue.{Catalogue, sites_of}
 use Rattle.vp_model.specs.Durable.{DurableState, put_decision, with_decision, acknowledged}

@@ -1,7 +1,7 @@
 -- Whatever has happened, events that mend lead to a whole world.
 use Rattle.std.proofs.Common.{◌≡◌, ◌∙◌, ap, sym, subst, ℕ, Bool, true, false, cond, List, [], ◌∷◌, length, refl, arith, ⊎_elim}
 use Rattle.std.specs.Prelude.{Option, Some, None, ◌==◌, map, option_map}
-use Rattle.vp_model.specs.Types.{ViewId, View, Owner, Lock, Doubt, Decision, Refreshing, Live, Part}
+use Rattle.vp_model.specs.Types.{ViewId, View, Owner, Lock, Doubt, Refreshing, Live, Part}
 use Rattle.vp_model.specs.Types.owner
 use Rattle.vp_model.specs.Words.{has, opening}
 use Rattle.vp_model.specs.Catalogue.{Catalogue, sites_of}

@@ -11,7 +11,7 @@ use Rattle.vp_model.specs.Words.{has, for_each, is_empty, keys, put_number, same
 use Rattle.vp_model.specs.Catalogue.{Catalogue, holders}
 use Rattle.vp_model.specs.Durable.{doubt_of}
 use Rattle.vp_model.specs.Locks.{holds}
-use Rattle.vp_model.specs.Site.{SiteState, Lent, Stepped, begin_step, put_back}
+use Rattle.vp_model.specs.Site.{SiteState, Stepped, begin_step, put_back}
 use Rattle.vp_model.specs.Transactions.{last_changes, entry_of, writes_held, decide}
 use Rattle.vp_model.specs.Messages.{holds_view, has_all_locks, end_here}
 use Rattle.vp_model.specs.Calls.{handling, handled, records_read_at, prepare_for, prepare_parts, commit}
@@ -278,9 +278,9 @@ module _ (catalogue : Catalogue) (ns : List ℕ) (v : View) (q : ℕ) (lead : Ha
         site = λ j there away. ⊎_elim
             (λ (same : j ≡ k). inl (subst (λ (j : ℕ). HasEnded entry.txn j new) (sym same) mine))
             (λ (other : j ≢ k). ⊎_elim
-                (λ (h : HasEnded entry.txn j w). inl (stays_ended j away h))
-                (λ (b : IsTold entry.txn j w). inr (record { at = b.at; up = as_was j other away ∙ b.up; lends = b.lends; told = stays_since past.told c _ (stays_since past.told d _ b.told) }))
-                (f.site j there away))
+            (λ (h : HasEnded entry.txn j w). inl (stays_ended j away h))
+            (λ (b : IsTold entry.txn j w). inr (record { at = b.at; up = as_was j other away ∙ b.up; lends = b.lends; told = stays_since past.told c _ (stays_since past.told d _ b.told) }))
+            (f.site j there away))
             (same_site j k);
       };
       done = λ j h away. subst (λ (j : ℕ). HasEnded entry.txn j new) (has_one_is k j h) mine;
@@ -291,9 +291,9 @@ module _ (catalogue : Catalogue) (ns : List ℕ) (v : View) (q : ℕ) (lead : Ha
   told_one entry k w here f = ⊎_elim
       (λ (same : k ≡ q). can_now catalogue (serves_since past.told q ns) _ w (record { still = f; done = λ j h away. absurd (away (sym (has_one_is k j h) ∙ same)); stays = λ j h. h }))
       (λ (n : k ≢ q). ⊎_elim
-          (λ (r : HasEnded entry.txn k w). can_now catalogue (serves_since past.told q ns) _ w (record { still = f; done = λ j h away. subst (λ (j : ℕ). HasEnded entry.txn j w) (has_one_is k j h) r; stays = λ j h. h }))
-          (λ (a : IsTold entry.txn k w). told_there n a)
-          (f.site k here n))
+      (λ (r : HasEnded entry.txn k w). can_now catalogue (serves_since past.told q ns) _ w (record { still = f; done = λ j h away. subst (λ (j : ℕ). HasEnded entry.txn j w) (has_one_is k j h) r; stays = λ j h. h }))
+      (λ (a : IsTold entry.txn k w). told_there n a)
+      (f.site k here n))
       (same_site k q)
     where
       told_there : k ≢ q → IsTold entry.txn k w → Reaches w (Each (Over entry) (OnceEnded entry.txn) (k ∷ []) w)
@@ -316,22 +316,25 @@ module _ (catalogue : Catalogue) (ns : List ℕ) (v : View) (q : ℕ) (lead : Ha
   -- once all have acknowledged, its own site rests too
   own_rests : (entry : Commit) (w : WorldState) → Over entry w → ((k : ℕ) → Has ns k → OnceEnded entry.txn k w) → RestsAt q w
   own_rests entry w f done =
-      let r = f.own.rests in
-      (f.own.at, f.own.up, record {
-        held = r.held;
-        live = r.live;
-        parts = r.parts;
-        refresh = r.refresh;
-        doubts = r.doubts;
-        decisions = λ u k waits. ⊎_elim
-            (λ old. old)
-            (λ (part : (u ≡ entry.txn) × Has ns k × (k ≢ q)).
-            let here : IsWaited (decisions_at (site_of w q)) entry.txn k = subst (λ (o : Option SiteState). IsWaited (decisions_at o) entry.txn k) (sym f.own.up) (subst (λ (u : TxnId). IsWaited f.own.at.decisions u k) part.0 waits) in
-            subst (λ (u : TxnId). IsWaited (rest q).decisions u k) (sym part.0) ((done k part.1 part.2).1 here))
-            (f.own.waits u k waits);
-        bars = r.bars;
-        locks = r.locks;
-      })
+      let r = f.own.rests in (
+        f.own.at,
+        f.own.up,
+        record {
+          held = r.held;
+          live = r.live;
+          parts = r.parts;
+          refresh = r.refresh;
+          doubts = r.doubts;
+          decisions = λ u k waits. ⊎_elim
+              (λ old. old)
+              (λ (part : (u ≡ entry.txn) × Has ns k × (k ≢ q)).
+              let here : IsWaited (decisions_at (site_of w q)) entry.txn k = subst (λ (o : Option SiteState). IsWaited (decisions_at o) entry.txn k) (sym f.own.up) (subst (λ (u : TxnId). IsWaited f.own.at.decisions u k) part.0 waits) in
+              subst (λ (u : TxnId). IsWaited (rest q).decisions u k) (sym part.0) ((done k part.1 part.2).1 here))
+              (f.own.waits u k waits);
+          bars = r.bars;
+          locks = r.locks;
+        },
+      )
 
   told_all : (entry : Commit) (w : WorldState) → Over entry w → Reaches w (Committed entry)
   told_all entry w f =
