@@ -63,6 +63,8 @@ ROWS = [
 NOT_SENT_AGAIN = [
     ("Moves/Rows.antt", "inquire-kept c (resend_decisions ticked) (resend-kept c ticked.site.decisions ticked (λ d q. q) (tick_view-kept c))", "inquire-kept c ticked (tick_view-kept c)"),
     ("Moves/FrontSteps.antt", "ticked-seen o = shut (resend-seen o.site.id o.site.decisions o).same", "ticked-seen o = shut refl"),
+    ("Table/Covered.antt", "Ends o = P (inquire (known o.site.participant) (put_back o (resend o.site.id o.site.decisions (lent o))))", "Ends o = P (inquire (known o.site.participant) o)"),
+    ("Table/Covered.antt", "ends_with o p = same (put_back o (resend o.site.id o.site.decisions (lent o))) _ refl (resends o.site.decisions o p)", "ends_with o p = same o _ refl p"),
 ]
 # Rows that keep one copy, with the lines of proofs of vp_laws that go with them, and the second line of a pair: file, the line as it stands, the other line.
 STUCK = [
