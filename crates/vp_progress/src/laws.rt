@@ -45,7 +45,7 @@ pub fn anyone_can_lead()
 {}
 
 /// Any sites at which no number is spent can be brought together, by events that mend them alone, whatever the others do: nothing happens at
-/// another site, doubts of coordinators elsewhere stay, and there is no new one; their decisions wait for sites elsewhere alone. The journal
+/// another site, doubts of coordinators elsewhere stay, and there is no new one; no decision of these sites waits for one of them. The journal
 /// is as it was.
 pub fn sites_can_meet()
     ensures { SitesCanMeet }
