@@ -59,7 +59,14 @@ ROWS = [
     ("a vote is sent and not forced to the log", "Messages.antt",
      "    |> force (log_record.Yes part.txn part.view writes)\n", ""),
 ]
-# Rows that keep one copy, with the lines of proofs of vp_laws that go with them: file, the line as it stands, the other line.
+# the lines of proofs of vp_laws over a tick that doesn't send decisions again
+NOT_SENT_AGAIN = [
+    ("Moves/Rows.antt", "inquire-kept c (resend_decisions ticked) (resend-kept c ticked.site.decisions ticked (λ d q. q) (tick_view-kept c))", "inquire-kept c ticked (tick_view-kept c)"),
+    ("Moves/FrontSteps.antt", "ticked-seen o = shut (resend-seen o.site.id o.site.decisions o).same", "ticked-seen o = shut refl"),
+    ("Table/Covered.antt", "Ends o = P (inquire (known o.site.participant) (put_back o (resend o.site.id o.site.decisions (lent o))))", "Ends o = P (inquire (known o.site.participant) o)"),
+    ("Table/Covered.antt", "ends_with o p = same (put_back o (resend o.site.id o.site.decisions (lent o))) _ refl (resends o.site.decisions o p)", "ends_with o p = same o _ refl p"),
+]
+# Rows that keep one copy, with the lines of proofs of vp_laws that go with them, and the second line of a pair: file, the line as it stands, the other line.
 STUCK = [
     ("stuck: no wrong row", "OneCopy.antt", "order journal = ", "order journal = ", []),
     ("stuck: a tick doesn't inquire", "Step.antt",
@@ -69,6 +76,12 @@ STUCK = [
     ("stuck: a tick doesn't ask for a copy again", "Step.antt",
      "ask_again catalogue view r o = send_all (message.RefreshRequest view r.rec) (unanswered catalogue o.site r) o", "ask_again catalogue view r o = o",
      [("Moves/Rows.antt", "ask_again-kept view r o e h v p = k.asks_again o _ asked p", "ask_again-kept view r o e h v p = p")]),
+    ("stuck: a tick doesn't send a decision again", "Step.antt",
+     "resend_decisions o = by_coordinator (λ at l. resend at.id l.decisions l) o", "resend_decisions o = o", NOT_SENT_AGAIN),
+    ("stuck: a tick doesn't send a decision again, and an inquiry about a decided transaction isn't answered", "Step.antt",
+     "resend_decisions o = by_coordinator (λ at l. resend at.id l.decisions l) o", "resend_decisions o = o",
+     [*NOT_SENT_AGAIN, ("../../vp_model/specs/Answers.antt", "if (txn.site == id) && not (is_live txn l.live)",
+                        "if (txn.site == id) && (not (is_live txn l.live) && not (is_decided txn l.decisions))")]),
     ("stuck: an inquiry without a decision isn't answered", "Answers.antt",
      "if (txn.site == id) && not (is_live txn l.live)", "if (txn.site == id) && (not (is_live txn l.live) && is_decided txn l.decisions)", []),
     ("stuck: an outcome ends no refresh", "Messages.antt",

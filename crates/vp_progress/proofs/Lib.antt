@@ -10,6 +10,8 @@ pub mod Sending
 pub mod Refreshed
 pub mod Held
 pub mod Certain
+pub mod Decided
+pub mod Acknowledged
 pub mod OneDoubt
 pub mod Current
 pub mod Mended

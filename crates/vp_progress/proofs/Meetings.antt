@@ -2,7 +2,7 @@
 use Rattle.std.proofs.Common.{◌≡◌, ◌∙◌, ap, sym, subst, ℕ, Bool, true, false, List, [], ◌∷◌, length, refl, arith, ⊎_elim}
 use Rattle.std.specs.Prelude.{Option, Some, None, ◌==◌, not}
 use Rattle.std.specs.List.{list_any}
-use Rattle.vp_model.specs.Types.{View, Owner, Lock, Part, Live, Doubt, Refreshing}
+use Rattle.vp_model.specs.Types.{View, Owner, Lock, Part, Live, Doubt, Decision, Refreshing}
 use Rattle.vp_model.specs.Types.owner
 use Rattle.vp_model.specs.Words.{has, keys}
 use Rattle.vp_model.specs.Catalogue.{Catalogue, sites_of}
@@ -27,7 +27,8 @@ use Rattle.vp_progress.proofs.Calm.{calms, each_mends, calm_fresh, each_fresh}
 use Rattle.vp_progress.proofs.Can.{Can, can_now, can_then}
 use Rattle.vp_progress.proofs.Started.{Past, past_of, Fit}
 use Rattle.vp_progress.proofs.Held.{Holds, Quiet}
-use Rattle.vp_progress.proofs.Certain.{none_found, doubts_at, Fewer, ends_all}
+use Rattle.vp_progress.proofs.Certain.{none_found, doubts_at, decisions_at}
+use Rattle.vp_progress.proofs.Acknowledged.{Settled, settles}
 use Rattle.vp_progress.proofs.OneDoubt.{InvOne, one_last, can_with}
 use Rattle.vp_progress.proofs.Current.{any_writes, refresh_at, Ready, refreshes_all}
 use Rattle.vp_progress.proofs.Mended.{Joined, joins, quiet_from, same_has, Places, places_last}
@@ -69,7 +70,7 @@ module _ (catalogue : Catalogue) (ns : List ℕ) (past : Past) where
     view = v;
     members = same_has v.members ns quiet.among quiet.all;
     joined = λ a b m n. quiet.base.joined a b (has_from_test ns a m) (has_from_test ns b n);
-    idle = λ q m. let g = quiet.holds q (has_from_test ns q m) in (g.at, g.up, record { held = g.held; live = g.live; parts = g.parts; doubts = λ d there. outside q (has_from_test ns q m) g.at g.up d (has_of g.at.doubts d there) });
+    idle = λ q m. let g = quiet.holds q (has_from_test ns q m) in (g.at, g.up, record { held = g.held; live = g.live; parts = g.parts; doubts = λ d there. outside q (has_from_test ns q m) g.at g.up d (has_of g.at.doubts d there); decisions = λ d p there near. elsewhere q (has_from_test ns q m) g.at g.up d (has_of g.at.decisions d there) p near });
     free = λ q rec x m up free. unlocked q rec x (has_from_test ns q m) up free;
   }
     where
@@ -85,6 +86,13 @@ module _ (catalogue : Catalogue) (ns : List ℕ) (past : Past) where
           go : (b : Bool) → has ns d.txn.site ≡ b → b ≡ false
           go false e = refl
           go true e = absurd (clears q h x up d there (has_from_test ns d.txn.site e))
+
+      elsewhere : (q : ℕ) → Has ns q → (x : SiteState) → site_of w q ≡ Some x → (d : Decision) → Has x.decisions d → (p : ℕ) → has ns p ≡ true → has d.waiting p ≡ false
+      elsewhere q h x up d there p near = go (has d.waiting p) refl
+        where
+          go : (b : Bool) → has d.waiting p ≡ b → b ≡ false
+          go false e = refl
+          go true e = absurd (f.sure.told q p d.txn h (has_from_test ns p near) (d, subst (λ (ds : List Decision). Has ds d) (ap decisions_at (sym up)) there, refl, has_from_test d.waiting p e))
 
       -- a doubt is of another view than the one that is held
       away : (q : ℕ) → Has ns q → (x : SiteState) → site_of w q ≡ Some x → x.held ≡ Some v → (d : Doubt) → Has x.doubts d → HoldsNow x.held d.view → ⊥
@@ -141,10 +149,9 @@ module _ (catalogue : Catalogue) (ns : List ℕ) (past : Past) where
       (can_with catalogue (calms past.told ns) (With (Known catalogue) InvOne) (one_last catalogue) (Joined catalogue ns past) w good (joins catalogue ns past first rest is sub w f))
       λ w1 j.
       let v = j.0.view in
-      can_then catalogue (calms past.told ns) (λ new. Quiet catalogue ns past v new × Fewer w1 new × Clear new) Meets w1
-      (ends_all catalogue ns past v ns (λ q h. h) w1 (quiet_from catalogue ns past w1 j.0 j.1.more))
-      λ w2 c. can_then catalogue (calms past.told ns) (Prepared v w2) Meets w2 (refreshes_all catalogue ns past v (λ k. doubts_at (site_of w2 k)) (wanted w2) (certain w2) w2 (record { quiet = c.0; same = λ k. refl }))
-      λ w3 g. can_now catalogue (calms past.told ns) Meets w3 (record { from = w2; view = v; ready = g; clear = c.2 })
+      can_then catalogue (calms past.told ns) (Settled catalogue ns past v) Meets w1 (settles catalogue ns past v w1 (quiet_from catalogue ns past w1 j.0 j.1.more))
+      λ w2 c. can_then catalogue (calms past.told ns) (Prepared v w2) Meets w2 (refreshes_all catalogue ns past v (λ k. doubts_at (site_of w2 k)) (wanted w2) (certain w2) w2 (record { quiet = c.quiet; same = λ k. refl; told = c.told }))
+      λ w3 g. can_now catalogue (calms past.told ns) Meets w3 (record { from = w2; view = v; ready = g; clear = c.clear })
 
 pub meet : (s : Schedule) (first : ℕ) (rest : List ℕ) → ((q : ℕ) → has (first ∷ rest) q ≡ true → has (sites_of s.catalogue) q ≡ true) → AreUnspent (first ∷ rest) (world_of s) → CanMeet s (first ∷ rest)
 meet s first rest sub unspent =

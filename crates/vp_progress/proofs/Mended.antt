@@ -14,11 +14,13 @@ use Rattle.vp_laws.proofs.Lists.Members.{Has, has_none, has_cons, has_test, has_
 use Rattle.vp_laws.proofs.Lists.Views.{same_site}
 use Rattle.vp_laws.proofs.Lists.Numbers.{eq_self}
 use Rattle.vp_laws.proofs.Table.Locks.{LocksAt}
+use Rattle.vp_laws.proofs.Table.Waits.{IsWaited}
 use Rattle.vp_laws.proofs.Worlds.Scenes.{Scene, scene_of, place-same, place-other}
 use Rattle.vp_laws.proofs.Worlds.Sites.{With}
 use Rattle.vp_laws.proofs.Worlds.Events.{Lasts, in_last}
 use Rattle.vp_laws.proofs.Invariant.Known.{Known}
 use Rattle.vp_progress.specs.Whole.{AreUnspent, IsWhole}
+use Rattle.vp_progress.specs.Going.{goes_on}
 use Rattle.vp_progress.specs.Progress.{world_of, CanBeWhole}
 use Rattle.vp_progress.proofs.Going.{world_goes_on, passing_flows_not}
 use Rattle.vp_progress.proofs.Calm.{opens, carries, calms, open_carries, carry_calm, each_mends, calm_fresh, each_fresh}
@@ -27,7 +29,9 @@ use Rattle.vp_progress.proofs.Started.{Past, past_of, Fit, Started, starts_all}
 use Rattle.vp_progress.proofs.Based.{Based, OneEach}
 use Rattle.vp_progress.proofs.Invited.{Invited, invites_all, accepts_all}
 use Rattle.vp_progress.proofs.Held.{Holds, Fixed, fixes_view, joins_all, Quiet, empty_from}
-use Rattle.vp_progress.proofs.Certain.{doubts_at, Fewer, ends_all, coordinator_stands}
+use Rattle.vp_progress.proofs.Certain.{doubts_at, decisions_at, coordinator_stands}
+use Rattle.vp_progress.proofs.Decided.{AllAwait, none_decided, InvDecided, decided_last}
+use Rattle.vp_progress.proofs.Acknowledged.{Settled, settles}
 use Rattle.vp_progress.proofs.OneDoubt.{InvOne, one_last, can_with}
 use Rattle.vp_progress.proofs.Current.{any_writes, Ready, refresh_at, refreshes_all}
 
@@ -118,8 +122,8 @@ same_has xs ys f g q = go (has xs q) (has ys q) refl refl
 abbrev every : ℕ → Bool
 every rec = true
 
-whole_from : (catalogue : Catalogue) (past : Past) (v : View) (doubts : ℕ → List Doubt) (none : (q : ℕ) → Has (sites_of catalogue) q → doubts q ≡ []) (w : WorldState) → Ready catalogue (sites_of catalogue) past v doubts every (λ q rec here want. ap (any_writes rec) (none q here)) w → IsWhole catalogue w
-whole_from catalogue past v doubts none w f =
+whole_from : (catalogue : Catalogue) (past : Past) (v : View) (doubts : ℕ → List Doubt) (none : (q : ℕ) → Has (sites_of catalogue) q → doubts q ≡ []) (w : WorldState) → Ready catalogue (sites_of catalogue) past v doubts every (λ q rec here want. ap (any_writes rec) (none q here)) w → InvDecided catalogue (scene_of w) → IsWhole catalogue w
+whole_from catalogue past v doubts none w f waits =
     let quiet = f.sure.quiet in
     record {
       view = v;
@@ -130,13 +134,15 @@ whole_from catalogue past v doubts none w f =
           let g = quiet.holds q here in
           let no_doubts : g.at.doubts ≡ [] = ap doubts_at (sym g.up) ∙ f.sure.same q ∙ none q here in
           let refresh = none_listed g.at.refresh (λ rec. ap (λ (o : Option SiteState). refreshing_of rec (refresh_at o)) (sym g.up) ∙ f.fresh q here rec refl) in
-          (g.at, g.up, record { held = g.held; locks = no_locks catalogue g.at (quiet.base.known.guards.site q g.at g.up) g.live g.parts no_doubts refresh; refresh = refresh; live = g.live; parts = g.parts; doubts = no_doubts });
+          let awaits = subst (λ (s : DurableState). AllAwait (sites_of catalogue) s.decisions) (sym (quiet.base.known.views.site q g.at g.up).kept) (waits.awaits q) in
+          let no_decisions = none_decided (sites_of catalogue) g.at.decisions awaits (λ txn p there waits. f.sure.told q p txn here there (subst (λ (o : Option SiteState). IsWaited (decisions_at o) txn p) (sym g.up) waits)) in
+          (g.at, g.up, record { held = g.held; locks = no_locks catalogue g.at (quiet.base.known.guards.site q g.at g.up) g.live g.parts no_doubts refresh; refresh = refresh; live = g.live; parts = g.parts; doubts = no_doubts; decisions = no_decisions });
     }
 
 -- ---- from every schedule
 
 record Mended (catalogue : Catalogue) (past : Past) (w : WorldState) : Type 0 where
-  whole : IsWhole catalogue w
+  whole : InvDecided catalogue (scene_of w) → IsWhole catalogue w
   same : w.journal ≡ past.entries
 
 module _ (catalogue : Catalogue) (past : Past) where
@@ -155,17 +161,16 @@ module _ (catalogue : Catalogue) (past : Past) where
       (can_with catalogue (calms past.told ns) (With (Known catalogue) InvOne) (one_last catalogue) (Joined catalogue ns past) w good (joins catalogue ns past first rest is (λ q h. h) w f))
       λ w1 j.
       let v = j.0.view in
-      can_then catalogue (calms past.told ns) (λ new. Quiet catalogue ns past v new × Fewer w1 new × ((q : ℕ) → Has ns q → (c : Doubt) → Has (doubts_at (site_of new q)) c → Has ns c.txn.site → ⊥)) (Mended catalogue past) w1
-      (ends_all catalogue ns past v ns (λ q h. h) w1 (quiet_from catalogue ns past w1 j.0 j.1.more))
+      can_then catalogue (calms past.told ns) (Settled catalogue ns past v) (Mended catalogue past) w1 (settles catalogue ns past v w1 (quiet_from catalogue ns past w1 j.0 j.1.more))
       λ w2 c.
       let doubts : ℕ → List Doubt = (λ k. doubts_at (site_of w2 k)) in
-      let none = no_doubt v w2 c.0 c.2 in
-      can_then catalogue (calms past.told ns) (Ready catalogue ns past v doubts every (λ q rec here want. ap (any_writes rec) (none q here))) (Mended catalogue past) w2 (refreshes_all catalogue ns past v doubts every (λ q rec here want. ap (any_writes rec) (none q here)) w2 (record { quiet = c.0; same = λ k. refl }))
+      let none = no_doubt v w2 c.quiet c.clear in
+      can_then catalogue (calms past.told ns) (Ready catalogue ns past v doubts every (λ q rec here want. ap (any_writes rec) (none q here))) (Mended catalogue past) w2 (refreshes_all catalogue ns past v doubts every (λ q rec here want. ap (any_writes rec) (none q here)) w2 (record { quiet = c.quiet; same = λ k. refl; told = c.told }))
       λ w3 g. can_now catalogue (calms past.told ns) (Mended catalogue past) w3 (record { whole = whole_from catalogue past v doubts none w3 g; same = g.sure.quiet.base.same })
 
   mended_none : ns ≡ [] → (w : WorldState) → w.journal ≡ past.entries → Can catalogue (calms past.told ns) w (Mended catalogue past)
   mended_none is w same = can_now catalogue (calms past.told ns) (Mended catalogue past) w (record {
-    whole = record {
+    whole = λ waits. record {
       view = record { id = opening; members = [] };
       members = λ q. ap (λ (ms : List ℕ). has ms q) (sym is);
       joined = λ a b p q. absurd (none a p);
@@ -197,6 +202,6 @@ can_be_whole s u =
       more = c.events;
       mending = each_mends s.catalogue (length (world_of s).sent) (sites_of s.catalogue) c.events (world_of s) c.passing;
       fresh = each_fresh s.catalogue (calms (length (world_of s).sent) (sites_of s.catalogue)) (length (world_of s).sent) (calm_fresh (length (world_of s).sent) (sites_of s.catalogue)) c.events (world_of s) c.passing;
-      whole = subst (IsWhole s.catalogue) (sym is) c.so.whole;
+      whole = subst (IsWhole s.catalogue) (sym is) (c.so.whole (subst (λ (w : WorldState). InvDecided s.catalogue (scene_of w)) is (in_last s.catalogue (With (Known s.catalogue) (InvDecided s.catalogue)) (decided_last s.catalogue) (goes_on s c.events).events).more));
       journal = ap (λ (w : WorldState). w.journal) is ∙ c.so.same;
     }

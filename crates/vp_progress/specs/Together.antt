@@ -1,7 +1,7 @@
--- Sites that are together: up, in one view of their own, and idle but for doubts that no one of them can end.
+-- Sites that are together: up, in one view of their own, and idle but for doubts and decisions that no one of them can end.
 use Rattle.std.specs.Prelude.{◌≡◌, ◌≢◌, ℕ, ◌<◌, ◌^◌, ◌-◌, true, false, List, [], None, Some}
 use Rattle.std.specs.List.{Contains, AllByRecursion}
-use Rattle.vp_model.specs.Types.{View, Lock, Doubt}
+use Rattle.vp_model.specs.Types.{View, Lock, Doubt, Decision}
 use Rattle.vp_model.specs.Words.{has, value_at}
 use Rattle.vp_model.specs.Catalogue.{Catalogue, find_record, holders}
 use Rattle.vp_model.specs.Site.{SiteState}
@@ -10,12 +10,14 @@ use Rattle.vp_model.specs.World.{WorldState, Schedule, site_of, is_cut}
 use Rattle.vp_progress.specs.Progress.{world_of}
 use Rattle.vp_progress.specs.Clients.{Wish, name_in, FitATransaction, MayGive, IsServed}
 
--- It holds the view, and has nothing of its own or of others that goes on; its doubts are of coordinators elsewhere.
+-- It holds the view, and has nothing of its own or of others that goes on; its doubts are of coordinators elsewhere, and its decisions wait
+-- for sites elsewhere.
 pub record IsIdle (sites : List ℕ) (v : View) (x : SiteState) : Type 0 where
   pub held : x.held ≡ Some v
   pub live : x.live ≡ []
   pub parts : x.parts ≡ []
   pub doubts : (d : Doubt) → Contains x.doubts d → has sites d.txn.site ≡ false
+  pub decisions : (d : Decision) (q : ℕ) → Contains x.decisions d → has sites q ≡ true → has d.waiting q ≡ false
 
 -- One of these sites holds the record, none of them has a bar on it, and none is in doubt about a change of it.
 pub record IsFree (catalogue : Catalogue) (sites : List ℕ) (w : WorldState) (rec : ℕ) : Type 0 where

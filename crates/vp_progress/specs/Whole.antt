@@ -24,7 +24,8 @@ pub record AreUnspent (ns : List ℕ) (w : WorldState) : Type 0 where
 abbrev pub HasNameLeft : ℕ → WorldState → Type 0
 HasNameLeft q w = (x : SiteState) → site_of w q ≡ Some x → x.seq < 2 ^ 32 - 1
 
--- It holds the view, and nothing is left: no lock, no refresh, no live transaction, no part, no doubt.
+-- It holds the view, and nothing is left: no lock, no refresh, no live transaction, no part, no doubt, and no decision that waits to be
+-- acknowledged.
 pub record IsAtRest (v : View) (x : SiteState) : Type 0 where
   pub held : x.held ≡ Some v
   pub locks : x.locks ≡ []
@@ -32,6 +33,7 @@ pub record IsAtRest (v : View) (x : SiteState) : Type 0 where
   pub live : x.live ≡ []
   pub parts : x.parts ≡ []
   pub doubts : x.doubts ≡ []
+  pub decisions : x.decisions ≡ []
 
 -- Every site is up, holds one view of all sites, and is at rest; no two are cut from each other.
 pub record IsWhole (catalogue : Catalogue) (w : WorldState) : Type 0 where

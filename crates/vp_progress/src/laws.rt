@@ -10,7 +10,7 @@ ghost use Rattle.vp_progress.specs.Together.{SitesServe};
 ghost use Rattle.vp_progress.specs.Majority.{MajoritiesGoOn, OnlyMajoritiesAreFree};
 
 /// Every schedule that spends no number can go on, by events that mend, to a world in which every site is up in one view of all sites
-/// and at rest: no lock, no refresh, no transaction, no part and no doubt is left. The journal stays as it was. A run of fewer than
+/// and at rest: no lock, no refresh, no transaction, no part, no doubt and no decision is left. The journal stays as it was. A run of fewer than
 /// 2^32 - 2 steps spends no number.
 pub fn schedules_can_mend()
     ensures unspent { SchedulesCanMend }
@@ -45,7 +45,8 @@ pub fn anyone_can_lead()
 {}
 
 /// Any sites at which no number is spent can be brought together, by events that mend them alone, whatever the others do: nothing happens at
-/// another site, doubts of coordinators elsewhere stay, and there is no new one. The journal is as it was.
+/// another site, doubts of coordinators elsewhere stay, and there is no new one; no decision of these sites waits for one of them. The journal
+/// is as it was.
 pub fn sites_can_meet()
     ensures { SitesCanMeet }
 {}

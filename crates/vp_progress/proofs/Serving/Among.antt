@@ -1,15 +1,16 @@
 -- Sites that are together serve their clients, as far as records are free there.
-use Rattle.std.proofs.Common.{◌≡◌, ◌∙◌, ap, sym, subst, ℕ, ◌-◌, ◌^◌, ◌<◌, true, List, length, refl, arith}
+use Rattle.std.proofs.Common.{◌≡◌, ◌∙◌, ap, sym, subst, ℕ, ◌-◌, ◌^◌, ◌<◌, Bool, true, false, List, length, refl, arith}
 use Rattle.std.specs.Prelude.{Some}
 use Rattle.std.specs.List.{Contains, AllByRecursion, list_any}
 use Rattle.vp_text.proofs.Items.{all_each}
-use Rattle.vp_model.specs.Types.{Doubt, Commit}
+use Rattle.vp_model.specs.Types.{Doubt, Decision, Commit}
 use Rattle.vp_model.specs.Words.{has, keys, value_at}
 use Rattle.vp_model.specs.Catalogue.{holders}
 use Rattle.vp_model.specs.Site.{Bars, SiteState}
 use Rattle.vp_model.specs.Refresh.{refreshing_of}
 use Rattle.vp_model.specs.World.{WorldState, Schedule, site_of}
 use Rattle.vp_laws.proofs.Lists.Members.{Has, contains, has_of, has_test, has_from_test}
+use Rattle.vp_laws.proofs.Table.Waits.{IsWaited}
 use Rattle.vp_laws.proofs.Worlds.Events.{in_last}
 use Rattle.vp_laws.proofs.Invariant.Known.{Known}
 use Rattle.vp_laws.proofs.Keeping.Known.{known_last}
@@ -40,7 +41,7 @@ module _ (s : Schedule) (ns : List ℕ) (q : ℕ) (t : AreTogether s.catalogue n
   members : (k : ℕ) → Has ns k → Has t.view.members k
   members k m = has_from_test t.view.members k (t.members k ∙ has_test ns k m)
 
-  rests_as : (k : ℕ) (x : SiteState) → site_of w k ≡ Some x → rest_of w k ≡ record { locks = x.locks; refresh = x.refresh; doubts = x.doubts; bars = x.bars }
+  rests_as : (k : ℕ) (x : SiteState) → site_of w k ≡ Some x → rest_of w k ≡ record { locks = x.locks; refresh = x.refresh; doubts = x.doubts; decisions = x.decisions; bars = x.bars }
   rests_as k x up = ap rest_in up
 
   resting : Resting s.catalogue ns t.view q (has_from_test ns q here) (rest_of w) among members (past_of w) w
@@ -48,7 +49,7 @@ module _ (s : Schedule) (ns : List ℕ) (q : ℕ) (t : AreTogether s.catalogue n
     known = in_last s.catalogue (Known s.catalogue) (known_last s.catalogue) s.events;
     stand = record { joined = λ a b m n. t.joined a b (has_test ns a m) (has_test ns b n); grown = omega arith };
     same = refl;
-    rests = λ k m. let x = t.idle k (has_test ns k m) in (x.0, x.1, subst (λ (r : Rest). IsResting t.view r x.0) (sym (rests_as k x.0 x.1)) (record { held = x.2.held; live = x.2.live; parts = x.2.parts; refresh = refl; doubts = refl; bars = refl; locks = λ l there. there }));
+    rests = λ k m. let x = t.idle k (has_test ns k m) in (x.0, x.1, subst (λ (r : Rest). IsResting t.view r x.0) (sym (rests_as k x.0 x.1)) (record { held = x.2.held; live = x.2.live; parts = x.2.parts; refresh = refl; doubts = refl; decisions = λ u p w. w; bars = refl; locks = λ l there. there }));
   }
 
   unused : (rec : ℕ) → IsFree s.catalogue ns w rec → IsUnused s.catalogue ns t.view q (rest_of w) among rec
@@ -68,6 +69,20 @@ module _ (s : Schedule) (ns : List ℕ) (q : ℕ) (t : AreTogether s.catalogue n
 
     same_bars : (k : ℕ) (x y : SiteState) → Has ns k → site_of w k ≡ Some x → site_of new k ≡ Some y → y.bars ≡ x.bars
     same_bars k x y m up now = let r = c.rests k m in ap (λ (z : SiteState). z.bars) (one_state k y r.0 new now r.1) ∙ r.2.bars ∙ ap (λ (r : Rest). r.bars) (rests_as k x up)
+
+    -- its decisions wait for none of these sites
+    none_waited : (k : ℕ) → Has ns k → (y : SiteState) → site_of new k ≡ Some y → (d : Decision) (p : ℕ) → Contains y.decisions d → has ns p ≡ true → has d.waiting p ≡ false
+    none_waited k m y now d p there near = go (has d.waiting p) refl
+      where
+        go : (b : Bool) → has d.waiting p ≡ b → b ≡ false
+        go false e = refl
+        go true e =
+            let r = c.rests k m in
+            let x = t.idle k (has_test ns k m) in
+            let is = one_state k y r.0 new now r.1 in
+            let waits : IsWaited r.0.decisions d.txn p = (d, subst (λ (z : SiteState). Has z.decisions d) is (has_of y.decisions d there), refl, has_from_test d.waiting p e) in
+            let old = subst (λ (r : Rest). IsWaited r.decisions d.txn p) (rests_as k x.0 x.1) (r.2.decisions d.txn p waits) in
+            absurd (let z = sym (has_test old.0.waiting p old.3) ∙ x.2.decisions old.0 p (contains x.0.decisions old.0 old.1) near in cc)
 
     still_free : (rec : ℕ) → IsFree s.catalogue ns w rec → IsFree s.catalogue ns new rec
     still_free rec f = record {
@@ -91,7 +106,7 @@ module _ (s : Schedule) (ns : List ℕ) (q : ℕ) (t : AreTogether s.catalogue n
       idle = λ k m.
           let r = c.rests k (has_from_test ns k m) in
           let x = t.idle k m in
-          (r.0, r.1, record { held = r.2.held; live = r.2.live; parts = r.2.parts; doubts = λ d there. x.2.doubts d (subst (λ (ds : List Doubt). Contains ds d) (same_doubts k x.0 r.0 (has_from_test ns k m) x.1 r.1) there) });
+          (r.0, r.1, record { held = r.2.held; live = r.2.live; parts = r.2.parts; doubts = λ d there. x.2.doubts d (subst (λ (ds : List Doubt). Contains ds d) (same_doubts k x.0 r.0 (has_from_test ns k m) x.1 r.1) there); decisions = none_waited k (has_from_test ns k m) r.0 r.1 });
       free = λ k rec y m now f.
           let r = c.rests k (has_from_test ns k m) in
           let x = t.idle k m in

@@ -81,7 +81,7 @@ module _ (catalogue : Catalogue) (ns : List ℕ) (v : View) (q : ℕ) (lead : Ha
       calls catalogue ns v q rest among past.told (Begun x) w f.known x up call.Begin refl
       λ new known d0.
       let d = subst (Did w new q x) (begins catalogue x v r.held r.live left) d0 in
-      let g = leads_begun (rest q) txn 0 v.id (lent_at x) r.live r.locks r.bars refl in
+      let g = leads_begun (rest q) txn 0 v.id (lent_at x) r.live r.locks r.decisions r.bars refl in
       can_now catalogue (serves_since past.told q ns) (Begun x) new (record {
         goes = record {
           known = known;
@@ -89,7 +89,7 @@ module _ (catalogue : Catalogue) (ns : List ℕ) (v : View) (q : ℕ) (lead : Ha
           same = same_journal catalogue ns v q rest among w new q x _ past.entries [] f.same d g.commits ∙ append-nil past.entries;
           at = _;
           up = d.acted.now;
-          leads = record { held = r.held; live = g.live; parts = r.parts; refresh = r.refresh; doubts = r.doubts; bars = g.bars; locks = g.locks };
+          leads = record { held = r.held; live = g.live; parts = r.parts; refresh = r.refresh; doubts = r.doubts; decisions = g.decisions; bars = g.bars; locks = g.locks };
           free = λ rec h. absurd (has_none rec h);
           others = λ k here n.
               let y = f.rests k here in
@@ -109,6 +109,7 @@ module _ (catalogue : Catalogue) (ns : List ℕ) (v : View) (q : ℕ) (lead : Ha
         held = h.held;
         live = h.live;
         refresh = h.refresh;
+        decisions = h.decisions;
         bars = h.bars;
         doubts = new_doubt y.doubts txn doubts ∙ h.doubts;
         parts = λ p there. absurd (has_none p (subst (λ (ps : List Part). Has ps p) h.parts there));

@@ -1,6 +1,6 @@
 -- The transaction commits: its parts are asked for their votes, it is decided, and each part is told.
 use Rattle.std.proofs.Common.{◌≡◌, ◌≢◌, ◌⊎◌, ◌∙◌, ap, sym, subst, ℕ, ◌+◌, Bool, true, false, List, [], ◌∷◌, ◌++◌, length, refl, arith, ⊎_elim, inl, inr, append-nil}
-use Rattle.std.specs.Prelude.{Some, None, ◌==◌, ◌&&◌, ◌||◌, not, filter}
+use Rattle.std.specs.Prelude.{Option, Some, None, ◌==◌, ◌&&◌, ◌||◌, not, filter}
 use Rattle.std.proofs.lemmas.Bool.{eq-eqb, eqb-true}
 use Rattle.vp_model.specs.Types.{Change, ViewId, TxnId, View, Commit, Message, Owner, Lock, Pending, Live}
 use Rattle.vp_model.specs.Types.call
@@ -11,7 +11,7 @@ use Rattle.vp_model.specs.Words.{has, for_each, is_empty, keys, put_number, same
 use Rattle.vp_model.specs.Catalogue.{Catalogue, holders}
 use Rattle.vp_model.specs.Durable.{doubt_of}
 use Rattle.vp_model.specs.Locks.{holds}
-use Rattle.vp_model.specs.Site.{SiteState, Lent, begin_step, put_back}
+use Rattle.vp_model.specs.Site.{SiteState, Stepped, begin_step, put_back}
 use Rattle.vp_model.specs.Transactions.{last_changes, entry_of, writes_held, decide}
 use Rattle.vp_model.specs.Messages.{holds_view, has_all_locks, end_here}
 use Rattle.vp_model.specs.Calls.{handling, handled, records_read_at, prepare_for, prepare_parts, commit}
@@ -26,6 +26,7 @@ use Rattle.vp_laws.proofs.Moves.LocalViews.{letter}
 use Rattle.vp_laws.proofs.Moves.Table.{Reads, lent_at}
 use Rattle.vp_laws.proofs.Moves.Calls.{waiting, no_commit_reads}
 use Rattle.vp_laws.proofs.Table.Leaves.{Uses}
+use Rattle.vp_laws.proofs.Table.Waits.{IsWaited}
 use Rattle.vp_laws.proofs.Worlds.Scenes.{scene_of}
 use Rattle.vp_laws.proofs.Invariant.Answers.{AnswersOk}
 use Rattle.vp_laws.proofs.Invariant.HasLeft.{HasLeft}
@@ -37,7 +38,8 @@ use Rattle.vp_progress.proofs.Can.{Can, can_now, can_then, Each, one_by_one}
 use Rattle.vp_progress.proofs.Acts.{Did, Since, stays_since, sends_since}
 use Rattle.vp_progress.proofs.Started.{Past}
 use Rattle.vp_progress.proofs.Based.{other_as}
-use Rattle.vp_progress.proofs.Certain.{ended_commits}
+use Rattle.vp_progress.proofs.Certain.{ended_commits, outcome_says, decisions_at}
+use Rattle.vp_progress.proofs.Acknowledged.{Acks, acks}
 use Rattle.vp_progress.proofs.Current.{holds_it}
 use Rattle.vp_progress.proofs.Serving.Rows.{commits_alone, commits_asking, commits}
 use Rattle.vp_progress.proofs.Serving.Answers.{votes_counted}
@@ -165,63 +167,145 @@ module _ (catalogue : Catalogue) (ns : List ℕ) (v : View) (q : ℕ) (lead : Ha
     lends : Lends v (rest k) txn at
     told : Since past.told w (letter q k (message.Outcome txn true))
 
+  -- at its own site all rests, but that a decision on it waits for other sites
+  record Owes (txn : TxnId) (w : WorldState) : Type 0 where
+    at : SiteState
+    up : site_of w q ≡ Some at
+    rests : IsResting v (record (rest q) { decisions = at.decisions }) at
+    waits : (u : TxnId) (k : ℕ) → IsWaited at.decisions u k → IsWaited (rest q).decisions u k ⊎ ((u ≡ txn) × Has ns k × (k ≢ q))
+
+  -- another site rests, and the decision on it doesn't wait for that site
+  abbrev HasEnded : TxnId → ℕ → WorldState → Type 0
+  HasEnded txn k w = RestsAt k w × (IsWaited (decisions_at (site_of w q)) txn k → IsWaited (rest q).decisions txn k)
+
   record Over (entry : Commit) (w : WorldState) : Type 0 where
     known : Known catalogue (scene_of w)
     stand : Stand past.told ns w
     same : w.journal ≡ past.entries ++ entry ∷ []
-    site : (k : ℕ) → Has ns k → RestsAt k w ⊎ IsTold entry.txn k w
+    own : Owes entry.txn w
+    site : (k : ℕ) → Has ns k → k ≢ q → HasEnded entry.txn k w ⊎ IsTold entry.txn k w
 
   decided_world : (was t : Live) (w new : WorldState) (f : Goes was [] w) → was.txn ≡ t.txn → was.parts ≡ t.parts → Known catalogue (scene_of new) → Did w new q f.at (put_back (begin_step f.at) (decide catalogue f.at.id t (lent_at f.at))) → Over (entry_of t) new
-  decided_world was t w new f named parts known d =
-      let l = decide catalogue f.at.id t (lent_at f.at) in
-      let g = decides (rest q) catalogue f.at.id was t (lent_at f.at) named (leads_first v (rest q) was f.at f.leads) in
-      let id = (f.known.views.site q f.at f.up).id in
-      record {
-        known = known;
-        stand = still_stand catalogue ns v q rest among past.told w new q f.at _ f.stand d;
-        same = same_journal catalogue ns v q rest among w new q f.at _ past.entries (entry_of t ∷ []) f.same d g.commits;
-        site = λ k here. ⊎_elim
-            (λ (own : k ≡ q). inl (subst (λ (k : ℕ). RestsAt k new) (sym own) (_, d.acted.now, record { held = f.leads.held; live = g.live; parts = f.leads.parts; refresh = f.leads.refresh; doubts = f.leads.doubts; bars = g.bars; locks = g.locks })))
-            (λ other. elsewhere k here other l g id (has t.parts k) refl)
-            (same_site k q);
-      }
+  decided_world was t w new f named parts known d = record {
+    known = known;
+    stand = still_stand catalogue ns v q rest among past.told w new q f.at _ f.stand d;
+    same = same_journal catalogue ns v q rest among w new q f.at _ past.entries (entry_of t ∷ []) f.same d g.commits;
+    own = record {
+      at = (put_back (begin_step f.at) (decide catalogue f.at.id t (lent_at f.at))).site;
+      up = d.acted.now;
+      rests = record { held = f.leads.held; live = g.live; parts = f.leads.parts; refresh = f.leads.refresh; doubts = f.leads.doubts; decisions = λ u k waits. waits; bars = g.bars; locks = g.locks };
+      waits = λ u k waits. ⊎_elim (λ old. inl old) (λ (part : (u ≡ t.txn) × Has t.parts k). let i = (led_in catalogue ns v q rest among past was [] w f).1 k (subst (λ (ks : List ℕ). Has ks k) (sym parts) part.1) in inr (part.0, i.0, i.1)) (g.decisions u k waits);
+    };
+    site = λ k here other. elsewhere k here other (has t.parts k) refl;
+  }
     where
-      elsewhere : (k : ℕ) → Has ns k → k ≢ q → (l : Lent) → Decided (rest q) f.at.id t l → f.at.id ≡ q → (b : Bool) → has t.parts k ≡ b → RestsAt k new ⊎ IsTold t.txn k new
-      elsewhere k here n l g id true e = inr (let o = f.others k here n in record {
+      g : Decided (rest q) f.at.id t (decide catalogue f.at.id t (lent_at f.at))
+      g = decides (rest q) catalogue f.at.id was t (lent_at f.at) named (leads_first v (rest q) was f.at f.leads)
+
+      elsewhere : (k : ℕ) → Has ns k → k ≢ q → (b : Bool) → has t.parts k ≡ b → HasEnded t.txn k new ⊎ IsTold t.txn k new
+      elsewhere k here n true e = inr (let o = f.others k here n in record {
         at = o.at;
         up = other_as d k n ∙ o.up;
         lends = subst (λ (u : TxnId). Lends v (rest k) u o.at) named o.lends;
-        told = sends_since past.told f.stand.grown d _ (subst (λ (i : ℕ). Has (decide catalogue f.at.id t (lent_at f.at)).effects.messages (letter i k (message.Outcome t.txn true))) id ((decides (rest q) catalogue f.at.id was t (lent_at f.at) named (leads_first v (rest q) was f.at f.leads)).tells k (has_from_test t.parts k e)));
+        told = sends_since past.told f.stand.grown d _ (subst (λ (i : ℕ). Has (decide catalogue f.at.id t (lent_at f.at)).effects.messages (letter i k (message.Outcome t.txn true))) (f.known.views.site q f.at f.up).id (g.tells k (has_from_test t.parts k e)));
       })
-      elsewhere k here n l g id false e = inl (let o = f.others k here n in (o.at, other_as d k n ∙ o.up, o.rests (λ h. let a = has_test t.parts k (subst (λ (ks : List ℕ). Has ks k) parts h) in let z = sym a ∙ e in cc)))
+      elsewhere k here n false e = inl (let o = f.others k here n in (
+        (o.at, other_as d k n ∙ o.up, o.rests (λ h. let a = has_test t.parts k (subst (λ (ks : List ℕ). Has ks k) parts h) in let z = sym a ∙ e in cc)),
+        (λ waits. ⊎_elim
+            (λ old. old)
+            (λ (part : (t.txn ≡ t.txn) × Has t.parts k). absurd (let z = sym (has_test t.parts k part.1) ∙ e in cc))
+            (g.decisions t.txn k (subst (λ (o : Option SiteState). IsWaited (decisions_at o) t.txn k) d.acted.now waits))),
+      ))
 
-  -- ---- each part is told
+  -- ---- each part is told, and acknowledges
 
-  told_one : (entry : Commit) (k : ℕ) (w : WorldState) → Has ns k → Over entry w → Reaches w (Each (Over entry) RestsAt (k ∷ []) w)
+  abbrev OnceEnded : TxnId → ℕ → WorldState → Type 0
+  OnceEnded txn k w = k ≢ q → HasEnded txn k w
+
+  -- the part has ended, and its acknowledgement has come
+  module _ (entry : Commit) (k : ℕ) (w mid new : WorldState) (n : k ≢ q) (f : Over entry w) (x : SiteState) (o : Stepped) (d : Did w mid k x o) (none : o.effects.commits ≡ []) (rests : IsResting v (rest k) o.site) (known : Known catalogue (scene_of new)) (c : Did mid new q f.own.at (step catalogue f.own.at (input.Message k (message.Ack entry.txn)))) where
+    abbrev after : Stepped
+    after = step catalogue f.own.at (input.Message k (message.Ack entry.txn))
+
+    row : Acks f.own.at k entry.txn after
+    row = acks catalogue f.own.at k entry.txn
+
+    as_was : (j : ℕ) → j ≢ k → j ≢ q → site_of new j ≡ site_of w j
+    as_was j other away = other_as c j away ∙ other_as d j other
+
+    mine : HasEnded entry.txn k new
+    mine = ((o.site, other_as c k n ∙ d.acted.now, rests), (λ waits. absurd (row.gone (subst (λ (o : Option SiteState). IsWaited (decisions_at o) entry.txn k) c.acted.now waits))))
+
+    waited : (j : ℕ) → IsWaited (decisions_at (site_of new q)) entry.txn j → IsWaited (decisions_at (site_of w q)) entry.txn j
+    waited j waits = subst (λ (o : Option SiteState). IsWaited (decisions_at o) entry.txn j) (sym f.own.up) (row.less entry.txn j (subst (λ (o : Option SiteState). IsWaited (decisions_at o) entry.txn j) c.acted.now waits))
+
+    stays_ended : (j : ℕ) → j ≢ q → HasEnded entry.txn j w → HasEnded entry.txn j new
+    stays_ended j away h = ⊎_elim
+        (λ (same : j ≡ k). subst (λ (j : ℕ). HasEnded entry.txn j new) (sym same) mine)
+        (λ (other : j ≢ k). ((h.0.0, as_was j other away ∙ h.0.1, h.0.2), (λ waits. h.1 (waited j waits))))
+        (same_site j k)
+
+    owes : Owes entry.txn new
+    owes = record {
+      at = after.site;
+      up = c.acted.now;
+      rests = record {
+        held = ap (λ (x : SiteState). x.held) row.site ∙ f.own.rests.held;
+        live = ap (λ (x : SiteState). x.live) row.site ∙ f.own.rests.live;
+        parts = ap (λ (x : SiteState). x.parts) row.site ∙ f.own.rests.parts;
+        refresh = ap (λ (x : SiteState). x.refresh) row.site ∙ f.own.rests.refresh;
+        doubts = ap (λ (x : SiteState). x.doubts) row.site ∙ f.own.rests.doubts;
+        decisions = λ u p waits. waits;
+        bars = ap (λ (x : SiteState). x.bars) row.site ∙ f.own.rests.bars;
+        locks = λ l there. f.own.rests.locks l (subst (λ (x : SiteState). Has x.locks l) row.site there);
+      };
+      waits = λ u p waits. f.own.waits u p (row.less u p waits);
+    }
+
+    stand_mid : Stand past.told ns mid
+    stand_mid = still_stand catalogue ns v q rest among past.told w mid k x o f.stand d
+
+    same_mid : mid.journal ≡ past.entries ++ entry ∷ []
+    same_mid = same_journal catalogue ns v q rest among w mid k x o (past.entries ++ entry ∷ []) [] f.same d none ∙ append-nil (past.entries ++ entry ∷ [])
+
+    acked_world : Each (Over entry) (OnceEnded entry.txn) (k ∷ []) w new
+    acked_world = record {
+      still = record {
+        known = known;
+        stand = still_stand catalogue ns v q rest among past.told mid new q f.own.at after stand_mid c;
+        same = same_journal catalogue ns v q rest among mid new q f.own.at after (past.entries ++ entry ∷ []) [] same_mid c row.commits ∙ append-nil (past.entries ++ entry ∷ []);
+        own = owes;
+        site = λ j there away. ⊎_elim
+            (λ (same : j ≡ k). inl (subst (λ (j : ℕ). HasEnded entry.txn j new) (sym same) mine))
+            (λ (other : j ≢ k). ⊎_elim
+            (λ (h : HasEnded entry.txn j w). inl (stays_ended j away h))
+            (λ (b : IsTold entry.txn j w). inr (record { at = b.at; up = as_was j other away ∙ b.up; lends = b.lends; told = stays_since past.told c _ (stays_since past.told d _ b.told) }))
+            (f.site j there away))
+            (same_site j k);
+      };
+      done = λ j h away. subst (λ (j : ℕ). HasEnded entry.txn j new) (has_one_is k j h) mine;
+      stays = λ j h away. stays_ended j away (h away);
+    }
+
+  told_one : (entry : Commit) (k : ℕ) (w : WorldState) → Has ns k → Over entry w → Reaches w (Each (Over entry) (OnceEnded entry.txn) (k ∷ []) w)
   told_one entry k w here f = ⊎_elim
-      (λ (r : RestsAt k w). can_now catalogue (serves_since past.told q ns) _ w (record { still = f; done = λ j h. subst (λ (j : ℕ). RestsAt j w) (has_one_is k j h) r; stays = λ j g. g }))
-      (λ (a : IsTold entry.txn k w).
-      comes catalogue ns v q rest among past.told _ w f.known k a.at here a.up q (message.Outcome entry.txn true) a.told lead f.stand
-      λ new known d0.
-      let row = outcome_ends catalogue a.at q entry.txn true (doubt_settled v (rest k) entry.txn a.at a.lends) in
-      let o = end_here q entry.txn true (doubt_of entry.txn a.at.doubts) (begin_step a.at) in
-      let d = subst (Did w new k a.at) row d0 in
-      let mine : RestsAt k new = (_, d.acted.now, ends_resting v (rest k) entry.txn a.at a.lends q true (doubt_of entry.txn a.at.doubts)) in
-      let old : (j : ℕ) → RestsAt j w → RestsAt j new = λ j g. ⊎_elim (λ (same : j ≡ k). subst (λ (j : ℕ). RestsAt j new) (sym same) mine) (λ other. (g.0, other_as d j other ∙ g.1, g.2)) (same_site j k) in
-      can_now catalogue (serves_since past.told q ns) _ new (record {
-        still = record {
-          known = known;
-          stand = still_stand catalogue ns v q rest among past.told w new k a.at _ f.stand d;
-          same = same_journal catalogue ns v q rest among w new k a.at _ (past.entries ++ entry ∷ []) [] f.same d (ended_commits a.at q entry.txn true (doubt_of entry.txn a.at.doubts)) ∙ append-nil (past.entries ++ entry ∷ []);
-          site = λ j there. ⊎_elim
-              (λ (same : j ≡ k). inl (subst (λ (j : ℕ). RestsAt j new) (sym same) mine))
-              (λ (other : j ≢ k). ⊎_elim (λ (g : RestsAt j w). inl (old j g)) (λ (b : IsTold entry.txn j w). inr (record { at = b.at; up = other_as d j other ∙ b.up; lends = b.lends; told = stays_since past.told d _ b.told })) (f.site j there))
-              (same_site j k);
-        };
-        done = λ j h. subst (λ (j : ℕ). RestsAt j new) (has_one_is k j h) mine;
-        stays = old;
-      }))
-      (f.site k here)
+      (λ (same : k ≡ q). can_now catalogue (serves_since past.told q ns) _ w (record { still = f; done = λ j h away. absurd (away (sym (has_one_is k j h) ∙ same)); stays = λ j h. h }))
+      (λ (n : k ≢ q). ⊎_elim
+      (λ (r : HasEnded entry.txn k w). can_now catalogue (serves_since past.told q ns) _ w (record { still = f; done = λ j h away. subst (λ (j : ℕ). HasEnded entry.txn j w) (has_one_is k j h) r; stays = λ j h. h }))
+      (λ (a : IsTold entry.txn k w). told_there n a)
+      (f.site k here n))
+      (same_site k q)
+    where
+      told_there : k ≢ q → IsTold entry.txn k w → Reaches w (Each (Over entry) (OnceEnded entry.txn) (k ∷ []) w)
+      told_there n a =
+          comes catalogue ns v q rest among past.told _ w f.known k a.at here a.up q (message.Outcome entry.txn true) a.told lead f.stand
+          λ mid known d.
+          let doubt = doubt_of entry.txn a.at.doubts in
+          let is = outcome_ends catalogue a.at q entry.txn true (doubt_settled v (rest k) entry.txn a.at a.lends) in
+          let said = sends_since past.told f.stand.grown d _ (subst (λ (s : ℕ). Has (step catalogue a.at (input.Message q (message.Outcome entry.txn true))).effects.messages (letter s q (message.Ack entry.txn))) (f.known.views.site k a.at a.up).id (outcome_says catalogue a.at q entry.txn)) in
+          comes catalogue ns v q rest among past.told _ mid known q f.own.at lead (other_as d q (λ same. n (sym same)) ∙ f.own.up) k (message.Ack entry.txn) said here (still_stand catalogue ns v q rest among past.told w mid k a.at _ f.stand d)
+          λ new later c. can_now catalogue (serves_since past.told q ns) _ new
+          (acked_world entry k w mid new n f a.at (end_here q entry.txn true doubt (begin_step a.at)) (subst (Did w mid k a.at) is d) (ended_commits a.at q entry.txn true doubt) (ends_resting v (rest k) entry.txn a.at a.lends q true doubt) later c)
 
   -- the transaction has committed, and nothing is left of it
   pub record Committed (entry : Commit) (w : WorldState) : Type 0 where
@@ -229,11 +313,38 @@ module _ (catalogue : Catalogue) (ns : List ℕ) (v : View) (q : ℕ) (lead : Ha
     pub same : w.journal ≡ past.entries ++ entry ∷ []
     pub rests : (k : ℕ) → Has ns k → RestsAt k w
 
+  -- once all have acknowledged, its own site rests too
+  own_rests : (entry : Commit) (w : WorldState) → Over entry w → ((k : ℕ) → Has ns k → OnceEnded entry.txn k w) → RestsAt q w
+  own_rests entry w f done =
+      let r = f.own.rests in (
+        f.own.at,
+        f.own.up,
+        record {
+          held = r.held;
+          live = r.live;
+          parts = r.parts;
+          refresh = r.refresh;
+          doubts = r.doubts;
+          decisions = λ u k waits. ⊎_elim
+              (λ old. old)
+              (λ (part : (u ≡ entry.txn) × Has ns k × (k ≢ q)).
+              let here : IsWaited (decisions_at (site_of w q)) entry.txn k = subst (λ (o : Option SiteState). IsWaited (decisions_at o) entry.txn k) (sym f.own.up) (subst (λ (u : TxnId). IsWaited f.own.at.decisions u k) part.0 waits) in
+              subst (λ (u : TxnId). IsWaited (rest q).decisions u k) (sym part.0) ((done k part.1 part.2).1 here))
+              (f.own.waits u k waits);
+          bars = r.bars;
+          locks = r.locks;
+        },
+      )
+
   told_all : (entry : Commit) (w : WorldState) → Over entry w → Reaches w (Committed entry)
   told_all entry w f =
-      can_then catalogue (serves_since past.told q ns) (Each (Over entry) RestsAt ns w) (Committed entry) w
-      (one_by_one catalogue (serves_since past.told q ns) (Over entry) RestsAt ns (told_one entry) ns (λ k h. h) w f)
-      λ new e. can_now catalogue (serves_since past.told q ns) (Committed entry) new (record { stand = e.still.stand; same = e.still.same; rests = e.done })
+      can_then catalogue (serves_since past.told q ns) (Each (Over entry) (OnceEnded entry.txn) ns w) (Committed entry) w
+      (one_by_one catalogue (serves_since past.told q ns) (Over entry) (OnceEnded entry.txn) ns (told_one entry) ns (λ k h. h) w f)
+      λ new e. can_now catalogue (serves_since past.told q ns) (Committed entry) new (record {
+        stand = e.still.stand;
+        same = e.still.same;
+        rests = λ k here. ⊎_elim (λ (own : k ≡ q). subst (λ (k : ℕ). RestsAt k new) (sym own) (own_rests entry new e.still e.done)) (λ other. (e.done k here other).0) (same_site k q);
+      })
 
   -- ---- the call
 

@@ -7,9 +7,10 @@ use Rattle.std.proofs.lemmas.Bool.Decides.{nat_tests}
 use Rattle.std.proofs.lemmas.List.Sums.{sum_by-cons}
 use Rattle.vp_catalog.specs.Entries.{IsRecord}
 use Rattle.vp_catalog.specs.Document.{IsCatalogue, IsCatalogueSoFar}
-use Rattle.vp_model.specs.Types.{ViewId, View, Lock, Commit}
+use Rattle.vp_model.specs.Types.{ViewId, View, Lock, Commit, Decision}
 use Rattle.vp_model.specs.Words.{has, keys, value_at}
 use Rattle.vp_model.specs.Catalogue.{Catalogue, RecordEntry, Table, sites_of, find_record, holders, weights_of, weight_inside, accessible_by}
+use Rattle.vp_model.specs.Durable.{DurableState}
 use Rattle.vp_model.specs.Site.{SiteState}
 use Rattle.vp_model.specs.Refresh.{refreshing_of}
 use Rattle.vp_model.specs.Justified.{tables_below}
@@ -19,7 +20,9 @@ use Rattle.vp_laws.proofs.Lists.Items.{all_at}
 use Rattle.vp_text.proofs.Items.{all_each}
 use Rattle.vp_laws.proofs.Lists.Whole.{catalogue_whole}
 use Rattle.vp_laws.proofs.Moves.Coordinator.{slice_has}
+use Rattle.vp_laws.proofs.Table.Waits.{IsWaited}
 use Rattle.vp_laws.proofs.Worlds.Events.{in_last}
+use Rattle.vp_laws.proofs.Worlds.Sites.{With}
 use Rattle.vp_laws.proofs.Worlds.Scenes.{scene_of}
 use Rattle.vp_laws.proofs.Copies.Force.{shared_by}
 use Rattle.vp_laws.proofs.Invariant.Entered.{AgreedAs}
@@ -29,7 +32,7 @@ use Rattle.vp_laws.proofs.Lists.Catalogues.{whole_catalogue}
 use Rattle.vp_laws.proofs.Order.Invariant.{invariant_last}
 use Rattle.vp_laws.proofs.Invariant.Known.{Known}
 use Rattle.vp_laws.proofs.Keeping.Known.{known_last}
-use Rattle.vp_progress.specs.Going.{serves}
+use Rattle.vp_progress.specs.Going.{goes_on, serves}
 use Rattle.vp_progress.specs.Whole.{IsWhole}
 use Rattle.vp_progress.specs.Progress.{world_of}
 use Rattle.vp_progress.specs.Clients.{Wish, name_in, FitATransaction, IsServed, MayGive}
@@ -39,6 +42,7 @@ use Rattle.vp_progress.proofs.Going.{world_goes_on, passing_flows_not}
 use Rattle.vp_progress.proofs.Started.{past_of}
 use Rattle.vp_progress.proofs.Held.{empty_from}
 use Rattle.vp_progress.proofs.Certain.{members_stand}
+use Rattle.vp_progress.proofs.Decided.{AllAwait, none_decided, InvDecided, decided_last}
 use Rattle.vp_progress.proofs.Serving.Sites.{Rest, IsResting}
 use Rattle.vp_progress.proofs.Serving.Worlds.{IsUnused}
 use Rattle.vp_progress.proofs.Serving.Commits.{Committed}
@@ -97,8 +101,8 @@ all_both P Q (x ∷ xs) p q = ((p.0, q.0), all_both P Q xs p.1 q.1)
 -- ---- what rests at a site
 
 abbrev pub rest_in : Option SiteState → Rest
-rest_in None = record { locks = []; refresh = []; doubts = []; bars = [] }
-rest_in (Some x) = record { locks = x.locks; refresh = x.refresh; doubts = x.doubts; bars = x.bars }
+rest_in None = record { locks = []; refresh = []; doubts = []; decisions = []; bars = [] }
+rest_in (Some x) = record { locks = x.locks; refresh = x.refresh; doubts = x.doubts; decisions = x.decisions; bars = x.bars }
 
 abbrev pub rest_of : WorldState → ℕ → Rest
 rest_of w k = rest_in (site_of w k)
@@ -117,17 +121,17 @@ module _ (s : Schedule) (q : ℕ) (h : IsCatalogue s.catalogue) (whole : IsWhole
   members k m = has_from_test whole.view.members k (whole.members k ∙ has_test ns k m)
 
   -- nothing rests there but bars
-  nothing : (k : ℕ) → Has ns k → rest_of w k ≡ record { locks = []; refresh = []; doubts = []; bars = (rest_of w k).bars }
+  nothing : (k : ℕ) → Has ns k → rest_of w k ≡ record { locks = []; refresh = []; doubts = []; decisions = []; bars = (rest_of w k).bars }
   nothing k m =
       let x = whole.sites k (has_test ns k m) in
-      ap rest_in x.1 ∙ rw (x.2.locks, x.2.refresh, x.2.doubts, x.1) refl
+      ap rest_in x.1 ∙ rw (x.2.locks, x.2.refresh, x.2.doubts, x.2.decisions, x.1) refl
 
   resting : Resting s.catalogue ns whole.view q (has_from_test ns q here) (rest_of w) among members (past_of w) w
   resting = record {
     known = in_last s.catalogue (Known s.catalogue) (known_last s.catalogue) s.events;
     stand = record { joined = λ a b m n. whole.joined a b (has_test ns a m) (has_test ns b n); grown = omega arith };
     same = refl;
-    rests = λ k m. let x = whole.sites k (has_test ns k m) in (x.0, x.1, subst (λ (r : Rest). IsResting whole.view r x.0) (sym (nothing k m)) (record { held = x.2.held; live = x.2.live; parts = x.2.parts; refresh = x.2.refresh; doubts = x.2.doubts; bars = ap (λ (o : Option SiteState). (rest_in o).bars) (sym x.1); locks = λ l there. subst (λ (ls : List Lock). Has ls l) x.2.locks there }));
+    rests = λ k m. let x = whole.sites k (has_test ns k m) in (x.0, x.1, subst (λ (r : Rest). IsResting whole.view r x.0) (sym (nothing k m)) (record { held = x.2.held; live = x.2.live; parts = x.2.parts; refresh = x.2.refresh; doubts = x.2.doubts; decisions = λ u p waits. subst (λ (ds : List Decision). IsWaited ds u p) x.2.decisions waits; bars = ap (λ (o : Option SiteState). (rest_in o).bars) (sym x.1); locks = λ l there. subst (λ (ls : List Lock). Has ls l) x.2.locks there }));
   }
 
   inv : Invariant s.catalogue (scene_of w)
@@ -175,8 +179,8 @@ module _ (s : Schedule) (q : ℕ) (h : IsCatalogue s.catalogue) (whole : IsWhole
       go None f g = cc
       go (Some rec) f g = (rec, f, free rec (name_in wish) f, widened wish e.1)
 
-  whole_after : (entry : Commit) (new : WorldState) → Committed s.catalogue ns whole.view q (has_from_test ns q here) (rest_of w) among members (past_of w) entry new → IsWhole s.catalogue new
-  whole_after entry new c = record {
+  whole_after : (entry : Commit) (new : WorldState) → Committed s.catalogue ns whole.view q (has_from_test ns q here) (rest_of w) among members (past_of w) entry new → Known s.catalogue (scene_of new) → InvDecided s.catalogue (scene_of new) → IsWhole s.catalogue new
+  whole_after entry new c known waits = record {
     view = whole.view;
     members = whole.members;
     joined = λ a b m n. c.stand.joined a b (has_from_test ns a m) (has_from_test ns b n);
@@ -184,13 +188,16 @@ module _ (s : Schedule) (q : ℕ) (h : IsCatalogue s.catalogue) (whole : IsWhole
         let here = has_from_test ns k m in
         let x = c.rests k here in
         let r = subst (λ (r : Rest). IsResting whole.view r x.0) (nothing k here) x.2 in
-        (x.0, x.1, record { held = r.held; locks = empty_from x.0.locks (λ l there. has_none l (r.locks l there)); refresh = r.refresh; live = r.live; parts = r.parts; doubts = r.doubts });
+        let awaits = subst (λ (d : DurableState). AllAwait ns d.decisions) (sym (known.views.site k x.0 x.1).kept) (waits.awaits k) in
+        let decisions = none_decided ns x.0.decisions awaits (λ txn p there waited. let old = r.decisions txn p waited in has_none old.0 old.1) in
+        (x.0, x.1, record { held = r.held; locks = empty_from x.0.locks (λ l there. has_none l (r.locks l there)); refresh = r.refresh; live = r.live; parts = r.parts; doubts = r.doubts; decisions = decisions });
   }
 
   pub served : (x : SiteState) (wishes : List Wish) → site_of w q ≡ Some x → x.seq < 2 ^ 32 - 1 → FitATransaction wishes → AllByRecursion (λ wish. is_some (find_record s.catalogue (name_in wish)) ≡ true) wishes → AllByRecursion (MayGive s.catalogue ns) wishes → IsServed s ns q wishes (IsWhole s.catalogue)
   served x wishes up left fits named gives =
       let c = serves_all s.catalogue ns whole.view q (has_from_test ns q here) (rest_of w) among members (past_of w) wishes w resting x up left fits (all_each _ _ grantable wishes (all_both _ _ wishes named gives)) in
       let is = world_goes_on s c.events (passing_flows_not s.catalogue (serves_since (length w.sent) q ns) (λ w count. refl) c.events w c.passing) in
+      let good = subst (λ (w : WorldState). With (Known s.catalogue) (InvDecided s.catalogue) (scene_of w)) is (in_last s.catalogue (With (Known s.catalogue) (InvDecided s.catalogue)) (decided_last s.catalogue) (goes_on s c.events).events) in
       record {
         more = c.events;
         serving = pass_by s.catalogue (serves_since (length w.sent) q ns) (serves q ns) (since_serves (length w.sent) q ns) c.events w c.passing;
@@ -202,5 +209,5 @@ module _ (s : Schedule) (q : ℕ) (h : IsCatalogue s.catalogue) (whole : IsWhole
         ops = c.so.ops;
         tables = c.so.tables;
         journal = ap (λ (w : WorldState). w.journal) is ∙ c.so.committed.same;
-        after = subst (IsWhole s.catalogue) (sym is) (whole_after c.so.entry _ c.so.committed);
+        after = subst (IsWhole s.catalogue) (sym is) (whole_after c.so.entry _ c.so.committed good.base good.more);
       }

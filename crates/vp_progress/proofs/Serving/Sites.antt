@@ -2,7 +2,7 @@
 use Rattle.std.proofs.Common.{◌≡◌, ◌≢◌, ◌⊎◌, ◌∙◌, ap, sym, subst, ℕ, Bool, true, false, List, [], ◌∷◌, refl, ⊎_elim, inl}
 use Rattle.std.specs.Prelude.{Option, Some, None, ◌==◌, ◌&&◌, ◌||◌, not, filter}
 use Rattle.std.proofs.lemmas.Bool.{eqb-true}
-use Rattle.vp_model.specs.Types.{Change, ViewId, TxnId, View, Owner, Message, Lock, Part, Refreshing, Live, Doubt}
+use Rattle.vp_model.specs.Types.{Change, ViewId, TxnId, View, Owner, Message, Lock, Part, Refreshing, Live, Doubt, Decision}
 use Rattle.vp_model.specs.Types.message
 use Rattle.vp_model.specs.Types.owner
 use Rattle.vp_model.specs.Words.{has_txn, same_txn, same_owner, txn_before, keys}
@@ -17,16 +17,20 @@ use Rattle.vp_laws.proofs.Lists.LockTables.{lock_origin, same_owner-self}
 use Rattle.vp_laws.proofs.Moves.LocalViews.{letter}
 use Rattle.vp_laws.proofs.Moves.Parts.{with_part_has, with_part_doubts, with_part_ended}
 use Rattle.vp_laws.proofs.Moves.Table.{lent_at}
+use Rattle.vp_laws.proofs.Table.Waits.{IsWaited}
 use Rattle.vp_model.proofs.SameTxn.{same_txn-is, same_txn-clash}
 use Rattle.vp_progress.proofs.Held.{empty_from}
 use Rattle.vp_progress.proofs.Certain.{ended_front, same_refresh}
+use Rattle.vp_progress.proofs.Decided.{WaitLess}
 use Rattle.vp_progress.proofs.Serving.Parts.{Takes, Votes, either_left, either_right, takes_part, takes_vote, takes_doubt, doubt_put, ended_locks, ended_bars}
 
--- what a site keeps while the transaction goes on: at most these locks of others, and just these copies under refresh, doubts and bars
+-- what a site keeps while the transaction goes on: at most these locks of others and what these decisions wait for, and just these copies under
+-- refresh, doubts and bars
 pub record Rest : Type 0 where
   pub locks : List Lock
   pub refresh : List Refreshing
   pub doubts : List Doubt
+  pub decisions : List Decision
   pub bars : Bars
 
 -- nothing goes on at the site
@@ -36,6 +40,7 @@ pub record IsResting (v : View) (r : Rest) (x : SiteState) : Type 0 where
   pub parts : x.parts ≡ []
   pub refresh : x.refresh ≡ r.refresh
   pub doubts : x.doubts ≡ r.doubts
+  pub decisions : WaitLess x.decisions r.decisions
   pub bars : x.bars ≡ r.bars
   pub locks : (l : Lock) → Has x.locks l → Has r.locks l
 
@@ -49,6 +54,7 @@ pub record Lends (v : View) (r : Rest) (txn : TxnId) (x : SiteState) : Type 0 wh
   pub live : x.live ≡ []
   pub refresh : x.refresh ≡ r.refresh
   pub doubts : without_doubt txn x.doubts ≡ r.doubts
+  pub decisions : WaitLess x.decisions r.decisions
   pub bars : x.bars ≡ r.bars
   pub parts : (p : Part) → Has x.parts p → p.txn ≡ txn
   pub locks : OrRests r txn x.locks
@@ -63,6 +69,7 @@ pub record Leads (v : View) (r : Rest) (t : Live) (x : SiteState) : Type 0 where
   pub parts : x.parts ≡ []
   pub refresh : x.refresh ≡ r.refresh
   pub doubts : x.doubts ≡ r.doubts
+  pub decisions : WaitLess x.decisions r.decisions
   pub bars : x.bars ≡ r.bars
   pub locks : OrRests r t.txn x.locks
 
@@ -70,14 +77,15 @@ pub record Leads (v : View) (r : Rest) (t : Live) (x : SiteState) : Type 0 where
 pub record LeadsOn (r : Rest) (t : Live) (l : Lent) : Type 0 where
   pub live : l.live ≡ t ∷ []
   pub locks : OrRests r t.txn l.locks
+  pub decisions : WaitLess l.decisions r.decisions
   pub bars : l.bars ≡ r.bars
   pub commits : l.effects.commits ≡ []
 
 pub leads_on : (v : View) (r : Rest) (t now : Live) (x : SiteState) (l : Lent) → Leads v r t x → LeadsOn r now l → Leads v r now (put_back (begin_step x) l).site
-leads_on v r t now x l h n = record { held = h.held; live = n.live; parts = h.parts; refresh = h.refresh; doubts = h.doubts; bars = n.bars; locks = n.locks }
+leads_on v r t now x l h n = record { held = h.held; live = n.live; parts = h.parts; refresh = h.refresh; doubts = h.doubts; decisions = n.decisions; bars = n.bars; locks = n.locks }
 
 pub leads_first : (v : View) (r : Rest) (t : Live) (x : SiteState) → Leads v r t x → LeadsOn r t (lent_at x)
-leads_first v r t x h = record { live = h.live; locks = h.locks; bars = h.bars; commits = refl }
+leads_first v r t x h = record { live = h.live; locks = h.locks; decisions = h.decisions; bars = h.bars; commits = refl }
 
 -- ---- a record on which no other lock rests
 
@@ -129,6 +137,7 @@ module _ (v : View) (r : Rest) (txn : TxnId) (x : SiteState) (h : Lends v r txn 
       held = h.held;
       live = h.live;
       refresh = h.refresh;
+      decisions = h.decisions;
       bars = h.bars;
       doubts = ap (without_doubt txn) (with_part_doubts x.participant txn view) ∙ h.doubts;
       parts = λ p there. ⊎_elim (λ (new : p ≡ record { txn = txn; view = view; voted = false }). ap (λ (p : Part). p.txn) new) (λ old. h.parts p old) (with_part_has x.participant txn view p there);
@@ -148,6 +157,7 @@ module _ (v : View) (r : Rest) (txn : TxnId) (x : SiteState) (h : Lends v r txn 
       held = h.held;
       live = h.live;
       refresh = h.refresh;
+      decisions = h.decisions;
       bars = h.bars;
       doubts = h.doubts;
       parts = λ p there. ⊎_elim (λ (new : p ≡ record part { voted = true }). ap (λ (p : Part). p.txn) new ∙ e) (λ old. h.parts p old) (put_has (λ (a : Part) (b : Part). same_txn a.txn b.txn) (λ (a : Part) (b : Part). txn_before a.txn b.txn) (record part { voted = true }) x.parts p there);
@@ -164,6 +174,7 @@ module _ (v : View) (r : Rest) (txn : TxnId) (x : SiteState) (h : Lends v r txn 
       held = h.held;
       live = h.live;
       refresh = h.refresh;
+      decisions = h.decisions;
       bars = h.bars;
       doubts = doubt_put (record { txn = part.txn; view = part.view; writes = writes }) txn x.doubts e ∙ h.doubts;
       parts = λ p there. h.parts p (filter_has (λ (other : Part). not (same_txn other.txn part.txn)) x.parts p there).0;
@@ -198,6 +209,7 @@ module _ (v : View) (r : Rest) (txn : TxnId) (x : SiteState) (h : Lends v r txn 
         live = ap (λ (z : ViewState × ParticipantState × CoordinatorState). z.2.live) f ∙ h.live;
         parts = ap (λ (z : ViewState × ParticipantState × CoordinatorState). z.1.parts) f ∙ no_part_left h.parts;
         refresh = same_refresh x from txn commit d ∙ h.refresh;
+        decisions = λ u p w. h.decisions u p (subst (λ (ds : List Decision). IsWaited ds u p) (ap (λ (z : ViewState × ParticipantState × CoordinatorState). z.2.decisions) f) w);
         bars = ended_bars x from txn commit d ∙ h.bars;
         doubts = ap (λ (z : ViewState × ParticipantState × CoordinatorState). z.1.doubts) f ∙ h.doubts;
         locks = λ l there. gives_back r txn x.locks h.locks l (subst (λ (ls : List Lock). Has ls l) (ended_locks x from txn commit d) there);
