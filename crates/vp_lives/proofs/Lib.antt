@@ -1,3 +1,4 @@
+mod Audits
 pub mod Served
 pub mod Clients
 mod Killed

@@ -28,7 +28,7 @@ use Rattle.vp_serving.specs.declared.end.End.TheVariants as ends
 use Rattle.vp_serving.specs.Handed.{datagrams_in, handed_in}
 use Rattle.vp_serving.specs.Laws.{RunsAreHandedOver}
 use Rattle.vp_serving.specs.Serving.{Outside, Course, IsPrefix, IsKeptAs, LeavesFrom, KeepsAtAnyMoment, IsSafe, HasNotStarted, IsUnbound, IsWhole, HasTorn, Serves, handed_by}
-use Rattle.vp_lives.specs.Served.{Life, catalogue_of, Leaves, IsMomentary, HasLived, HasNotBegun, AllDone, PartDone, IsOnDisk, LivesIn, ServingHappens}
+use Rattle.vp_lives.specs.Served.{Life, catalogue_of, Leaves, IsMomentary, HasLived, HasNotBegun, AllDone, PartDone, IsOnDisk, Lived}
 
 -- ---- what a run has handed over grows
 
@@ -313,7 +313,8 @@ module _ (halves_are_one : HalvesAreOneLog) (handed_over : RunsAreHandedOver) (l
       started : HasLifeLeft here life.id had → Happens [] (start_node here life.id had).batches []
       started lives = ends_whole [] lives
 
-pub serving_happens : HalvesAreOneLog → RunsAreHandedOver → ServingHappens
+-- for any life, world outside and end
+pub serving_happens : HalvesAreOneLog → RunsAreHandedOver → (life : Life) (turns : ℕ) (o : Outside) (end : End) → IsOnDisk life o → Serves (catalogue_of life) life.id turns o end → Lived life o end
 serving_happens one over life turns o ends.Stopped on s = whole one over life o on turns true _ s.whole
 serving_happens one over life turns o ends.TurnsDone on s = whole one over life o on turns false _ s.whole
 serving_happens one over life turns o ends.LinkFault on s = ⊎_elim (λ u. unbound one over life o on turns u) (λ l. whole one over life o on turns false _ l.whole) s.1
@@ -324,7 +325,3 @@ serving_happens one over life turns o (ends.LivesSpent spent) on s = read_alike 
 serving_happens one over life turns o ends.NoMemory on s =
     ⊎_elim (λ n. inl (may_start one over life o on turns n))
     (λ b. inr (⊎_elim (λ u. fewer one over life o on (unbound one over life o on turns u)) (λ b. safe one over life o on turns b.course b.handed b.did.hands b.safe) b)) s
-
-pub lives_in : HalvesAreOneLog → RunsAreHandedOver → (catalogue : Catalogue) (id turns : ℕ) (o : Outside) (end : End) → Serves catalogue id turns o end → LivesIn catalogue id o end
-lives_in one over catalogue id turns o end s life is same on =
-    serving_happens one over life turns o end on (subst (λ k. Serves k life.id turns o end) (sym is) (subst (λ n. Serves catalogue n turns o end) (sym same) s))

@@ -1,3 +1,4 @@
+pub mod Audits
 pub mod Served
 pub mod Clients
 pub mod Killed

@@ -1,11 +1,7 @@
-//! What happens to a process that serves, and the answer that a client gets: from the contracts of `serve` and `ask` to clusters and
-//! schedules.
+//! What happens to a process that serves or is killed, the answer that a client gets, and the report on what processes leave: from the
+//! contracts of `serve`, `ask` and `audit` to clusters and schedules.
 #![tactic(auto)]
 
 mod laws;
 
-pub use laws::{clients_are_answered, kills_happen};
-
-mod lives;
-
-pub use lives::serve_a_life;
+pub use laws::{audits_are_true, clients_are_answered, kills_happen, serving_happens};

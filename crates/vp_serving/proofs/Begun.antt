@@ -129,11 +129,16 @@ module _ (catalogue : Catalogue) (id turns : ℕ) (link0 link1 : LinkState) (sin
     did = record { writes = cut.2; hands = hands_none link0.handed link1.handed asks.hands_none.same_handed };
     written_of = subst (λ (l : List ℕ). take cut.0 (start_line life) ≡ take (length (take cut.0 (start_line life))) l) (sym (append-nil (recorded_bytes run) ∙ recorded_is)) (prefix_take cut.0 (start_line life) cut.1);
     handed_of = refl;
+    turns_done = 0;
+    few = omega arith;
+    last = omega arith;
+    printed = inl refl;
+    sent = refl;
     safe = safe_all catalogue id started.batches [] node disk0 disk1 stands kept others link0.given [] refl;
   }
 
   unwritten : IsBound link0 link1 → AppendsPrefix sink0.held sink1.held (start_line life) → IsUnwritten catalogue id turns (outside link0 link1 sink0 sink1 disk0 disk1)
-  unwritten bound cut = record { broken = broken bound cut; turns_done = 0; few = omega arith; last = omega arith; handed = refl; printed = inl refl }
+  unwritten bound cut = record { broken = broken bound cut; handed = refl }
 
   pub unbegun : (e : End) → Begins life link0 link1 sink0 sink1 (Err e) → Serves catalogue id turns (outside link0 link1 sink0 sink1 disk0 disk1) e
   unbegun ends.LinkFault (rose, unbound, same) = (
@@ -154,7 +159,7 @@ module _ (catalogue : Catalogue) (id turns : ℕ) (link0 link1 : LinkState) (sin
     }),
   )
   unbegun ends.WriteFault (rose, bound, cut) = (rose, unwritten bound cut)
-  unbegun ends.NoMemory (bound, cut) = inr (inr (broken bound cut))
+  unbegun ends.NoMemory (bound, cut, same) = inr (inr (broken bound cut))
   unbegun ends.Stopped b = absurd b
   unbegun ends.TurnsDone b = absurd b
   unbegun ends.DiskFault b = absurd b

@@ -72,23 +72,21 @@ module _ (catalogue : Catalogue) (id turns count : ℕ) (stopped : Bool) (link0 
       did = record { writes = Appends-trans sink0.held sink1.held sink2.held (recorded_bytes run) (take cut.0 end_line) h.did.writes cut.2; hands = h.did.hands };
       written_of = prefix_after (recorded_bytes run) (take cut.0 end_line) end_line (prefix_take cut.0 end_line cut.1);
       handed_of = prefix_all sent;
+      turns_done = length h.arrived;
+      few = omega arith;
+      last = omega arith;
+      printed = inr (rw (take-length h.arrived) (prefix_front (recorded_bytes run) (take cut.0 end_line)));
+      sent = prefix_all sent;
       safe = safe_all catalogue id h.batches h.arrived node disk0 disk1 h.stands h.kept h.others link0.given sent (prefix_all sent);
     }
 
     unwritten : IsUnwritten catalogue id turns (outside link0 link1 sink0 sink2 disk0 disk1)
-    unwritten = record {
-      broken = broken;
-      turns_done = length h.arrived;
-      few = omega arith;
-      last = omega arith;
-      handed = refl;
-      printed = inr (rw (take-length h.arrived) (prefix_front (recorded_bytes run) (take cut.0 end_line)));
-    }
+    unwritten = record { broken = broken; handed = refl }
 
   module _ (sink2 : SinkState) (end : End) where
     unfinished : (stopped ≡ true) ⊎ (count ≡ turns) → (e : End) → Finishes end sink1 sink2 (Err e) → Serves catalogue id turns (outside link0 link1 sink0 sink2 disk0 disk1) e
     unfinished over ends.WriteFault (rose, cut) = (rw (← h.same_sink) rose, unwritten sink2 over cut)
-    unfinished over ends.NoMemory cut = inr (inr (broken sink2 over cut))
+    unfinished over ends.NoMemory (cut, same) = inr (inr (broken sink2 over cut))
     unfinished over ends.DiskFault f = absurd f
     unfinished over ends.LinkFault f = absurd f
     unfinished over ends.Stopped f = absurd f
@@ -98,13 +96,13 @@ module _ (catalogue : Catalogue) (id turns count : ℕ) (stopped : Bool) (link0 
 
   -- a datagram ended the run
   pub stops : (sink2 : SinkState) (result : Result End End) → stopped ≡ true → Finishes ends.Stopped sink1 sink2 result → Serves catalogue id turns (outside link0 link1 sink0 sink2 disk0 disk1) (either result)
-  stops sink2 (Ok told) s (is, printed) = rw is (has_stopped sink2 printed s)
+  stops sink2 (Ok told) s (is, printed, same) = rw is (has_stopped sink2 printed s)
   stops sink2 (Err e) s f = unfinished sink2 ends.Stopped (inl s) e f
 
   -- `turns` datagrams came, and none of them did
   pub is_done : (sink2 : SinkState) (result : Result End End) → stopped ≡ false → count ≡ turns → Finishes ends.TurnsDone sink1 sink2 result
       → Serves catalogue id turns (outside link0 link1 sink0 sink2 disk0 disk1) (either result)
-  is_done sink2 (Ok told) s all (is, printed) = rw is (has_done sink2 printed s all)
+  is_done sink2 (Ok told) s all (is, printed, same) = rw is (has_done sink2 printed s all)
   is_done sink2 (Err e) s all f = unfinished sink2 ends.TurnsDone (inr all) e f
 
 -- the link failed when the next datagram was to come

@@ -1,4 +1,5 @@
 mod Begun
+mod Causes
 mod Ended
 mod Handed
 mod Moments

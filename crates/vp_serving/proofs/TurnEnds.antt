@@ -164,6 +164,11 @@ module _ (catalogue : Catalogue) (id turns count : ℕ) (link0 link1 link2 link3
           };
           written_of = subst (IsPrefix (recorded_bytes before ++ written)) (sym (append-nil (recorded_bytes after) ∙ recorded_is)) (prefix_after (recorded_bytes before) written lines written_of);
           handed_of = front_of_all;
+          turns_done = length front;
+          few = omega (arith, one_longer front d);
+          last = omega (arith, one_longer front d);
+          printed = inr (rw (take-append_seam front (d ∷ [])) (prefix_front (recorded_bytes before) written));
+          sent = subst (λ (hs : List Dispatch). IsPrefix hs (sent ++ now)) (sym same_sent) (prefix_front sent now);
           safe = safe_all catalogue id h.batches (front ++ d ∷ []) kept_now disk0 disk2 stands turned.kept (others_join h.others others) link0.given (sent ++ now) front_of_all;
         }
 
@@ -171,16 +176,12 @@ module _ (catalogue : Catalogue) (id turns count : ℕ) (link0 link1 link2 link3
     cut_off : AppendsPrefix sink1.held sink2.held lines → link3 ≡ link2 → IsUnwritten catalogue id turns (outside link0 link3 sink0 sink2 disk0 disk2)
     cut_off cut still = record {
       broken = told (take cut.0 lines) [] (prefix_take cut.0 lines cut.1) refl cut.2 (hands_none link2.handed link3.handed (ap (λ (l : LinkState). l.handed) still));
-      turns_done = length front;
-      few = omega (arith, one_longer front d);
-      last = omega (arith, one_longer front d);
       handed = append-nil sent ∙ sym same_sent;
-      printed = inr (rw (take-append_seam front (d ∷ [])) (prefix_front (recorded_bytes before) (take cut.0 lines)));
     }
 
     may_tell : TellsTurn catalogue node d link2 link3 sink1 sink2 (Err ends.NoMemory) → IsBroken catalogue id turns (outside link0 link3 sink0 sink2 disk0 disk2)
-    may_tell (inl (cut, still)) = told (take cut.0 lines) [] (prefix_take cut.0 lines cut.1) refl cut.2 (hands_none link2.handed link3.handed (ap (λ (l : LinkState). l.handed) still))
-    may_tell (inr (printed, cut)) = told lines (take cut.0 turn.datagrams) (prefix_all lines) (prefix_take cut.0 turn.datagrams cut.1) printed cut.2
+    may_tell (inl (cut, still), same) = told (take cut.0 lines) [] (prefix_take cut.0 lines cut.1) refl cut.2 (hands_none link2.handed link3.handed (ap (λ (l : LinkState). l.handed) still))
+    may_tell (inr (printed, cut), same) = told lines (take cut.0 turn.datagrams) (prefix_all lines) (prefix_take cut.0 turn.datagrams cut.1) printed cut.2
 
   -- ---- the node is gone in it
 
@@ -219,6 +220,11 @@ module _ (catalogue : Catalogue) (id turns count : ℕ) (link0 link1 link2 link3
       written_of = subst (IsPrefix (recorded_bytes before)) (sym (append-nil (recorded_bytes after) ∙ recorded_is)) (prefix_front (recorded_bytes before) lines);
       handed_of = subst (λ (hs : List Dispatch). IsPrefix hs (handed_in catalogue id h.batches link0.given (front ++ d ∷ []) (length (front ++ d ∷ [])))) (sym same_sent)
           (subst (IsPrefix sent) (sym all_sent) (prefix_front sent (handed_after link2.given turn.datagrams)));
+      turns_done = length front;
+      few = omega (arith, one_longer front d);
+      last = omega (arith, one_longer front d);
+      printed = inr (rw (take-append_seam front (d ∷ [])) (prefix_all (recorded_bytes before)));
+      sent = prefix_all sent_before;
       safe = safe_before;
     }
 
@@ -226,7 +232,7 @@ module _ (catalogue : Catalogue) (id turns count : ℕ) (link0 link1 link2 link3
   pub turn_ends : (e : End) → Takes catalogue node d link2 link3 sink1 sink2 disk1 disk2 (Err e) → Serves catalogue id turns (outside link0 link3 sink0 sink2 disk0 disk2) e
   turn_ends ends.DiskFault (rose, may, still) = (rw (← h.same_disk) rose, inr (torn may still))
   turn_ends ends.WriteFault (turned, (rose, cut, still)) = (rw (← h.same_sink) rose, cut_off turned.0 turned.1 cut still)
-  turn_ends ends.NoMemory (inl (may, still)) = inr (inr (gone may still))
+  turn_ends ends.NoMemory (inl (may, still, same)) = inr (inr (gone may still))
   turn_ends ends.NoMemory (inr (turned, tells)) = inr (inr (may_tell turned.0 turned.1 tells))
   turn_ends ends.Stopped takes = absurd takes
   turn_ends ends.TurnsDone takes = absurd takes

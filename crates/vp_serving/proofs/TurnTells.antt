@@ -31,7 +31,7 @@ module _ (catalogue : Catalogue) (node : NodeValue) (d : Datagram) (link : LinkS
   pub turn_fails : {S : Type 0} (end : NodeEnd) → EndsInTurn {T = S} (Err end) → HasNodeCause {T = S} disk.faults disk'.faults (Err end) → MayHaveTurned catalogue node d disk disk'
       → Takes catalogue node d link link sink sink disk disk' (Err (end_of_node end))
   turn_fails node_ends.DiskFault is cause may = (cause.failed refl, may, (refl, refl))
-  turn_fails node_ends.NoMemory is cause may = inl (may, (refl, refl))
+  turn_fails node_ends.NoMemory is cause may = inl (may, (refl, refl), cause.no_memory refl)
   turn_fails (node_ends.BadLog half at) is cause may = absurd (⊎_elim (λ e. cc) (λ e. cc) is)
   turn_fails (node_ends.LivesSpent life) is cause may = absurd (⊎_elim (λ e. cc) (λ e. cc) is)
 

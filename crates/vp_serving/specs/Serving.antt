@@ -163,7 +163,8 @@ module _ (catalogue : Catalogue) (id turns : ℕ) (o : Outside) where
   abbrev pub MayEnd : Course catalogue id turns o → List ℕ → Type 0
   MayEnd course end = (end ≡ []) ⊎ ((end ≡ end_line) × (((run_of course).stopped ≡ true) ⊎ (length course.arrived ≡ turns)))
 
-  -- The run was broken off: a beginning of its recording was printed, and a beginning of its datagrams handed over.
+  -- The run was broken off: a beginning of its recording was printed, and a beginning of its datagrams handed over. All turns are whole
+  -- but that of the last datagram, or all; the line of the start was printed, if a datagram came.
   pub record IsBroken : Type 0 where
     pub course : Course catalogue id turns o
     pub end : List ℕ
@@ -173,17 +174,18 @@ module _ (catalogue : Catalogue) (id turns : ℕ) (o : Outside) where
     pub did : Did o written handed
     pub written_of : IsPrefix written (recorded_bytes (run_of course) ++ end)
     pub handed_of : IsPrefix handed (handed_by course (length course.arrived))
+    pub turns_done : ℕ
+    pub few : turns_done ≤ length course.arrived
+    pub last : length course.arrived ≤ turns_done + 1
+    pub printed : (course.arrived ≡ []) ⊎ IsPrefix (recorded_bytes (node_run catalogue id course.batches (take turns_done course.arrived))) written
+    pub sent : IsPrefix (handed_by course turns_done) handed
     pub safe : IsSafe catalogue id course.batches o.link.given course.arrived handed o.disk o.disk'
 
-  -- A line couldn't be printed. The lines of a turn come before its datagrams: all datagrams are handed over of all turns but the last,
-  -- or of all, and the recording of these turns was printed.
+  -- A line couldn't be printed: no datagram came after that of its turn. The lines of a turn come before its datagrams: just those of the
+  -- whole turns were handed over.
   pub record IsUnwritten : Type 0 where
     pub broken : IsBroken
-    pub turns_done : ℕ
-    pub few : turns_done ≤ length broken.course.arrived
-    pub last : length broken.course.arrived ≤ turns_done + 1
-    pub handed : broken.handed ≡ handed_by broken.course turns_done
-    pub printed : (broken.handed ≡ []) ⊎ IsPrefix (recorded_bytes (node_run catalogue id broken.course.batches (take turns_done broken.course.arrived))) broken.written
+    pub handed : broken.handed ≡ handed_by broken.course broken.turns_done
 
   -- what each end of serving means
   abbrev pub Serves : End → Type 0

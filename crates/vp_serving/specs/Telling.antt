@@ -36,14 +36,14 @@ abbrev pub Begins : ℕ → LinkState → LinkState → SinkState → SinkState 
 Begins life link link' sink sink' (Ok _) = IsBound link link' × Appends sink.held sink'.held (start_line life) × (sink'.faults ≡ sink.faults)
 Begins life link link' sink sink' (Err ends.LinkFault) = Rose link.faults link'.faults × (link'.bound ≡ false) × (sink' ≡ sink)
 Begins life link link' sink sink' (Err ends.WriteFault) = Rose sink.faults sink'.faults × IsBound link link' × AppendsPrefix sink.held sink'.held (start_line life)
-Begins life link link' sink sink' (Err ends.NoMemory) = IsBound link link' × AppendsPrefix sink.held sink'.held (start_line life)
+Begins life link link' sink sink' (Err ends.NoMemory) = IsBound link link' × AppendsPrefix sink.held sink'.held (start_line life) × (sink'.faults ≡ sink.faults)
 Begins life link link' sink sink' (Err _) = ⊥
 
 -- The last line is printed, and this is the end.
 abbrev pub Finishes : End → SinkState → SinkState → Result End End → Type 0
-Finishes end sink sink' (Ok told) = (told ≡ end) × Appends sink.held sink'.held end_line
+Finishes end sink sink' (Ok told) = (told ≡ end) × Appends sink.held sink'.held end_line × (sink'.faults ≡ sink.faults)
 Finishes end sink sink' (Err ends.WriteFault) = Rose sink.faults sink'.faults × AppendsPrefix sink.held sink'.held end_line
-Finishes end sink sink' (Err ends.NoMemory) = AppendsPrefix sink.held sink'.held end_line
+Finishes end sink sink' (Err ends.NoMemory) = AppendsPrefix sink.held sink'.held end_line × (sink'.faults ≡ sink.faults)
 Finishes end sink sink' (Err _) = ⊥
 
 -- ---- a turn
@@ -55,7 +55,8 @@ Tells lines datagrams link link' sink sink' (Ok _) =
     Appends sink.held sink'.held lines × HandsNow link link' datagrams × (sink'.faults ≡ sink.faults)
 Tells lines datagrams link link' sink sink' (Err ends.WriteFault) = Rose sink.faults sink'.faults × AppendsPrefix sink.held sink'.held lines × (link' ≡ link)
 Tells lines datagrams link link' sink sink' (Err ends.NoMemory) =
-    (AppendsPrefix sink.held sink'.held lines × (link' ≡ link)) ⊎ (Appends sink.held sink'.held lines × HandsPrefix link link' datagrams)
+    ((AppendsPrefix sink.held sink'.held lines × (link' ≡ link)) ⊎ (Appends sink.held sink'.held lines × HandsPrefix link link' datagrams))
+    × (sink'.faults ≡ sink.faults)
 Tells lines datagrams link link' sink sink' (Err _) = ⊥
 
 -- The site has done the turn, and its log keeps it.
@@ -91,6 +92,6 @@ module _ (catalogue : Catalogue) (node : NodeValue) (d : Datagram) (link link' :
   Takes (Err ends.WriteFault) =
       ((after : NodeValue) × HasTurned catalogue node d disk disk' after) × TellsTurn catalogue node d link link' sink sink' (Err ends.WriteFault)
   Takes (Err ends.NoMemory) =
-      (MayHaveTurned catalogue node d disk disk' × TellsNothing link link' sink sink')
+      (MayHaveTurned catalogue node d disk disk' × TellsNothing link link' sink sink' × (disk'.faults ≡ disk.faults))
       ⊎ (((after : NodeValue) × HasTurned catalogue node d disk disk' after) × TellsTurn catalogue node d link link' sink sink' (Err ends.NoMemory))
   Takes (Err _) = ⊥

@@ -7,6 +7,7 @@ ghost use Rattle.vp_outside.specs.Disk.{log_of};
 ghost use Rattle.vp_outside.specs.Links.{StaysBound, GivesNone};
 ghost use Rattle.vp_stable.specs.Moments.{LeavesOnly, LeavesOthers};
 ghost use Rattle.vp_node.specs.Nodes.{IsNode, IsKept, MaySave, turn_of};
+ghost use Rattle.vp_serving.specs.Causes.{HasCauses};
 ghost use Rattle.vp_serving.specs.Serving.{Serves, either, outside};
 ghost use Rattle.vp_serving.specs.Telling.{AsksPort, Begins, Finishes, Takes};
 
@@ -32,6 +33,8 @@ pub fn serve<L: Link, D: Disk, K: Sink>(
     requires attached { IsTrue (D.state disk.old).attached }
     requires id { has (sites_of catalog.now) id ≡ true }
     ensures served { Serves catalog.now id turns
+        (outside (L.state link.old) (L.state link.new) (K.state sink.old) (K.state sink.new) (D.state disk.old) (D.state disk.new)) (either result) }
+    ensures causes { HasCauses
         (outside (L.state link.old) (L.state link.new) (K.state sink.old) (K.state sink.new) (D.state disk.old) (D.state disk.new)) (either result) }
     ensures others { LeavesOthers (D.state disk.old) (D.state disk.new) }
     ensures later { (K.state sink.old).faults ≤ (K.state sink.new).faults }

@@ -16,6 +16,7 @@ use Rattle.vp_stable.specs.Moments.{LeavesOnly, LeavesOthers}
 use Rattle.vp_stable.proofs.Times.{elapses_then, leaves_only}
 use Rattle.vp_runs.specs.Runs.{NodeRun, node_run}
 use Rattle.vp_node.specs.Nodes.{IsSpent}
+use Rattle.vp_serving.specs.Causes.{RoseIf, HasCauses}
 use Rattle.vp_serving.specs.Serving.{Outside, outside, AtAnyMoment, Course, run_of, Did, IsKeptAs, LeavesFrom, IsSafe, IsIdle, HasNotStarted, IsUnbound, IsWhole, HasStopped, HasDone, HasLost, HasTorn, IsBroken, IsUnwritten, Serves}
 use Rattle.vp_serving.specs.declared.end.End.{End}
 use Rattle.vp_serving.specs.declared.end.End.TheVariants as ends
@@ -123,11 +124,16 @@ module _ (catalogue : Catalogue) (id turns : ℕ) (o : Outside) (disk : DiskStat
     did = did _ _ b.did;
     written_of = b.written_of;
     handed_of = b.handed_of;
+    turns_done = b.turns_done;
+    few = b.few;
+    last = b.last;
+    printed = b.printed;
+    sent = b.sent;
     safe = safe _ _ _ _ b.safe;
   }
 
   unwritten : IsUnwritten catalogue id turns o → IsUnwritten catalogue id turns as_before
-  unwritten u = record { broken = broken u.broken; turns_done = u.turns_done; few = u.few; last = u.last; handed = u.handed; printed = u.printed }
+  unwritten u = record { broken = broken u.broken; handed = u.handed }
 
   spent : (life : ℕ) → IsSpent catalogue id life o.disk → IsSpent catalogue id life disk
   spent life s = (s.0, (s.1.0, had s.1.0 s.1.1, s.1.2))
@@ -219,12 +225,13 @@ module _ (name : List ℕ) (old : DiskState) (t : Unit {0}) where
 
 pub served : (catalogue : Catalogue) (id turns : ℕ) (name : List ℕ) (link link' : LinkState) (sink mid sink' : SinkState) (disk attached disk' : DiskState) (t : Unit {0}) (end : End) (told : Status)
     → IsDisk disk → Attaches name disk attached (Ok t) → Serves catalogue id turns (outside link link' sink mid attached disk') end
-    → LeavesOthers attached disk' → sink.faults ≤ mid.faults → Prints (status_of end) (last_line end) mid sink' told
+    → HasCauses (outside link link' sink mid attached disk') end → LeavesOthers attached disk' → sink.faults ≤ mid.faults → Prints (status_of end) (last_line end) mid sink' told
     → NodeEnds catalogue id turns name (outside link link' sink sink' disk disk') told
-served catalogue id turns name link link' sink mid sink' disk attached disk' t end told is a s others later tells = inl (record {
+served catalogue id turns name link link' sink mid sink' disk attached disk' t end told is a s causes others later tells = inl (record {
   end = end;
   sink = mid;
   serves = serves_attached name disk t catalogue id turns (outside link link' sink mid attached disk') is a end s;
+  causes = record { link = causes.link; disk = subst (λ before. RoseIf (end ≡ ends.DiskFault) before disk'.faults) a.cause.ok causes.disk; sink = causes.sink };
   others = others_attached name disk t attached disk' a others;
   later = later;
   tells = tells;

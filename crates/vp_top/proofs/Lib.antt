@@ -5,6 +5,7 @@ pub mod Answering
 pub mod Audits
 pub mod Completing
 pub mod Ending
+pub mod Happenings
 pub mod Merges
 pub mod Procedures
 pub mod Sessions

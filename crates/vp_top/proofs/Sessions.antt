@@ -20,6 +20,7 @@ use Rattle.vp_outside.specs.Input.{SourceState, Took}
 use Rattle.vp_outside.specs.Links.{LinkState}
 use Rattle.vp_outside.specs.Output.{SinkState}
 use Rattle.vp_serving.specs.Serving.{Outside}
+use Rattle.vp_serving.specs.Causes.{RoseIf}
 use Rattle.vp_status.specs.Printing.{Prints}
 use Rattle.vp_status.specs.declared.status.RunOutput.{RunOutput}
 use Rattle.vp_status.specs.declared.status.Status.{Status}
@@ -28,7 +29,7 @@ use Rattle.vp_words.specs.Commands.{command_of}
 use Rattle.vp_words.specs.declared.words.Command.TheVariants as commands
 use Rattle.vp_top.specs.Complete.{Fits, IsRefusedSession, IsSessionOf}
 use Rattle.vp_top.specs.Ends.{Ends, EndsInText, IsPrinted}
-use Rattle.vp_top.specs.GatewayEnds.{GatewayEnds, PrintsDefined, PrintsLine, RoseIf, last_line, status_of}
+use Rattle.vp_top.specs.GatewayEnds.{GatewayEnds, PrintsDefined, PrintsLine, last_line, status_of}
 use Rattle.vp_top.specs.Program.{Reads, TellsFault}
 use Rattle.vp_top.proofs.Answering.{answer_to, are_of, no_disk, same_command, taken_all, taken_few}
 

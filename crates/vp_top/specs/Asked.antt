@@ -72,9 +72,10 @@ module _ (port site : ℕ) (given : Signal) (old new : LinkState) where
   abbrev pub HandsSignal : Type 0
   HandsSignal = HandsNow old new (datagram_to port (frame_of 0 site (signal_body given)) ∷ [])
 
-  -- Any free port was bound, and the frame was handed over.
+  -- Any free port was bound, and the frame was handed over. No datagram was waited for.
   pub record HasSignalled : Type 0 where
     pub bound : IsBound 0 new
+    pub none_came : GivesNone old new
     pub hands : HandsSignal
     pub same_faults : new.faults ≡ old.faults
 
@@ -84,7 +85,8 @@ module _ (port site : ℕ) (given : Signal) (old new : LinkState) where
   SignalGives status.LinkFault text = (IsUnbound 0 old new ⊎ (HasSignalled × Rose old.losses new.losses)) × (text ≡ link_fault_text)
   SignalGives _ text = ⊥
 
-  -- If memory runs out, the frame was handed over or nothing was.
+  -- If memory runs out, the frame was handed over or nothing was, and no datagram was waited for.
   pub record SignalLeaves : Type 0 where
     pub asked : new.asked ≡ Some 0
+    pub none_came : GivesNone old new
     pub may_sent : HandsSignal ⊎ Hands old.handed new.handed []

@@ -1,11 +1,11 @@
 -- How the command that runs a gateway ends: how serving the session ended, and what was printed after the answers.
 use Rattle.std.specs.Prelude.{◌≡◌, ℕ, List, codes, Option, Some, None, Result, Ok, Err}
-use Rattle.vp_outside.specs.Causes.{Rose}
 use Rattle.vp_outside.specs.Output.{SinkState}
 use Rattle.vp_gateway.specs.Causes.{RisesAt}
 use Rattle.vp_gateway.specs.Served.{Gate, Serves}
 use Rattle.vp_gateway.specs.declared.end.GateEnd.{GateEnd}
 use Rattle.vp_gateway.specs.declared.end.GateEnd.TheVariants as ends
+use Rattle.vp_serving.specs.Causes.{RoseIf}
 use Rattle.vp_status.specs.Lines.{link_fault_text}
 use Rattle.vp_status.specs.Printing.{Prints}
 use Rattle.vp_status.specs.Refused.{bad_line_text, twice_text, limit_text}
@@ -48,11 +48,6 @@ PrintsLine end (Some text) sink sink' told = Prints end text sink sink' told
 abbrev pub PrintsDefined : {E : Type 0} → Result RunOutput E → SinkState → SinkState → Status → Type 0
 PrintsDefined (Ok it) sink sink' told = Prints it.status it.text.items sink sink' told
 PrintsDefined (Err e) sink sink' told = (told ≡ status.NoMemory) × (sink' ≡ sink)
-
--- The count rose where this is so, and is as it was where it is not.
-pub record RoseIf (so : Type 0) (before now : ℕ) : Type 0 where
-  pub rose : so → Rose before now
-  pub same : (so → ⊥) → now ≡ before
 
 -- The session was served, and its end was told. From its start to its end the source's count rose at a fault of the source alone, and the
 -- sink's at a fault of the sink alone.

@@ -6,6 +6,7 @@ pub mod GatewayEnds
 pub mod SessionTexts
 pub mod Complete
 pub mod Ends
+pub mod Happenings
 pub mod Merges
 pub mod Plans
 pub mod Procedures

@@ -14,6 +14,7 @@ use Rattle.vp_stable.specs.Halves.{HaveBatches, AreBadLog}
 use Rattle.vp_stable.specs.Moments.{LeavesOthers}
 use Rattle.vp_runs.specs.Keeping.{durable_in}
 use Rattle.vp_node.specs.Nodes.{IsSpent}
+use Rattle.vp_serving.specs.Causes.{HasCauses}
 use Rattle.vp_serving.specs.Serving.{Outside, Serves}
 use Rattle.vp_serving.specs.declared.end.End.{End}
 use Rattle.vp_serving.specs.declared.end.End.TheVariants as ends
@@ -56,11 +57,13 @@ end_of_attach output.Failed = ends.DiskFault
 end_of_attach output.NoMemory = ends.NoMemory
 
 module _ (catalogue : Catalogue) (id turns : ℕ) (name : List ℕ) (o : Outside) (told : Status) where
-  -- The node served on the log of that name, which was attached, and on no other, and the line of its end was printed.
+  -- The node served on the log of that name, which was attached, and on no other, each count of failures rose at the end that names its
+  -- object and at no other, and the line of its end was printed.
   pub record IsServed : Type 0 where
     pub end : End
     pub sink : SinkState
     pub serves : Serves catalogue id turns (record o { disk = attached_to name o.disk; sink' = sink }) end
+    pub causes : HasCauses (record o { sink' = sink }) end
     pub others : LeavesOthers (attached_to name o.disk) o.disk'
     pub later : o.sink.faults ≤ sink.faults
     pub tells : Prints (status_of end) (last_line end) sink o.sink' told

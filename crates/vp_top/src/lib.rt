@@ -9,6 +9,7 @@ mod auditing;
 pub mod claims;
 mod command_claims;
 mod gateway;
+mod happenings;
 mod merging;
 mod node;
 mod plan;
@@ -19,6 +20,7 @@ mod signalling;
 
 pub use asking::call_site;
 pub use command_claims::{answers_are_told, signals_are_done};
+pub use happenings::{audits_are_of_one_run, nodes_happen};
 pub use node::serve_log;
 pub use program::{MOST_BYTES, run};
 pub use signalling::signal_site;

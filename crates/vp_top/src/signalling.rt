@@ -1,7 +1,7 @@
 //! The commands that send a node one frame and wait for nothing.
 
 ghost use Rattle.std.specs.Prelude.{◌≡◌, None, IfOk, OnErr, IsTrue};
-ghost use Rattle.vp_outside.specs.Links.{GivesNone, Sends};
+ghost use Rattle.vp_outside.specs.Links.{Sends};
 ghost use Rattle.vp_wire.specs.Grammar.{frame_of, frame_bytes};
 ghost use Rattle.vp_top.specs.Asked.{SignalGives, SignalLeaves, signal_body};
 
@@ -35,7 +35,6 @@ pub fn signal_site<L: Link>(
     ensures gives { IfOk result
         (λ it. SignalGives port site signal (L.state link.old) (L.state link.new) it.status it.text.items) }
     ensures no_memory { OnErr result (SignalLeaves port site signal (L.state link.old) (L.state link.new)) }
-    ensures none_came { GivesNone (L.state link.old) (L.state link.new) }
 {
     let Ok(()) = link.bind(0) else {
         return RunOutput::link_fault(alloc);

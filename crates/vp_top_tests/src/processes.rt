@@ -1,40 +1,19 @@
 //! A test starts its own program again, in which another test does what the words say.
 
 use std::process::Abort;
-use vp_adapters::{ClosedStreams, LogFiles, Socket, words_after};
-use vp_base::Word;
-use vp_outside::{Reading, Writing};
+use vp_adapters::words_after;
+use vp_main::status;
 use vp_processes::{first_unheld, say_status, started};
-use vp_status::Status;
-use vp_top::run;
 
 /// The test that does what the words after its name say.
 const BY_WORDS: &str = "processes::does_what_the_words_after_its_name_say";
-
-/// The status, as `main` of the program makes it.
-fn status(rt: HostRuntime, words: &[Word]) -> Status {
-    let Ok(closed) = ClosedStreams::hold(&rt) else {
-        return Status::SinkFault;
-    };
-    if closed.output.is_some() {
-        return Status::SinkFault;
-    }
-    run(
-        rt.alloc(),
-        words,
-        &mut Reading::new(rt.stdin()),
-        &mut Writing::new(rt.stdout()),
-        &mut Socket::new(&rt),
-        &mut LogFiles::new(&rt),
-    )
-}
 
 /// With no words it does nothing. Else the first word names the file to which it writes the status of the others.
 #[test]
 fn does_what_the_words_after_its_name_say(rt: HostRuntime) {
     let words = words_after(&rt, 3).expect(&rt, "memory");
     if !words.is_empty() {
-        say_status(rt, status(rt, &words).code()).expect(&rt, "a file");
+        say_status(rt, status(rt, 3).code()).expect(&rt, "a file");
     }
 }
 

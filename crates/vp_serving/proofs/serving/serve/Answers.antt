@@ -1,9 +1,10 @@
-use Rattle.std.proofs.Common.{◌≡◌, ◌+◌, false, Err, refl, subst, arith}
+use Rattle.std.proofs.Common.{◌≡◌, ◌∙◌, ◌+◌, false, Err, refl, subst, arith, inl, inr}
 use Rattle.vp_stable.proofs.Times.{others_join}
 use Rattle.vp_serving.specs.Ends.{end_of_node}
 use Rattle.vp_serving.specs.declared.end.End.TheVariants as ends
 use Rattle.vp_serving.proofs.Begun.{unstarted, begun, unbegun}
 use Rattle.vp_serving.specs.Serving.{outside}
+use Rattle.vp_serving.proofs.Causes.{as_cause, finish_causes, lost_causes, turn_causes, unbegun_causes, unstarted_causes}
 use Rattle.vp_serving.proofs.Served.{SoFar, as_end}
 use Rattle.vp_serving.proofs.Ended.{stops, is_done, is_lost}
 use Rattle.vp_node.proofs.Faults.{gave_err}
@@ -110,3 +111,43 @@ returns-clause-later g c =
     let same = c.loop.invariant.so_far.same_sink in
     let last = c.finish-2.ensures.later in
     omega (arith, same, last)
+
+-- ---- at which end a count rose
+
+pub returns-in_err-node-clause-causes : goal.returns-in_err-node-clause-causes
+returns-in_err-node-clause-causes g c =
+    let is : c.from_residual.result ≡ Err (end_of_node c.in_err-node.field-0.0) = gave_err _ _ c.from_residual.ensures.1 in
+    let link = g.L.Link.state c.args.link.now in
+    let sink = g.K.Sink.state c.args.sink.now in
+    as_cause _ _ _ is (unstarted_causes link link sink sink _ _ c.in_err-node.field-0.0 c.in_err-node.ensures.cause)
+
+pub returns-in_err-begin-clause-causes : goal.returns-in_err-begin-clause-causes
+returns-in_err-begin-clause-causes g c =
+    let is : c.from_residual-in_err-begin.result ≡ Err c.in_err-begin.field-0.0 = gave_err _ _ c.from_residual-in_err-begin.ensures.1 in
+    as_cause _ _ _ is (unbegun_causes _ _ _ _ _ _ c.life.result c.in_err-begin.field-0.0 c.in_ok-node.ensures.cause.ok c.in_err-begin.ensures.begins)
+
+pub returns-in_err-port-clause-causes : goal.returns-in_err-port-clause-causes
+returns-in_err-port-clause-causes g c =
+    let is : c.from_residual-in_err-port.result ≡ Err ends.LinkFault = gave_err _ _ c.from_residual-in_err-port.ensures.1 in
+    let h = c.loop.invariant.so_far in
+    as_cause _ _ _ is (lost_causes _ _ _ _ _ _ h.same_link h.same_sink h.same_disk _ _ _ _ c.in_err-port.ensures)
+
+pub returns-in_err-after-clause-causes : goal.returns-in_err-after-clause-causes
+returns-in_err-after-clause-causes g c =
+    let is : c.from_residual-in_err-after.result ≡ Err c.in_err-after.field-0.0 = gave_err _ _ c.from_residual-in_err-after.ensures.1 in
+    let h = c.loop.invariant.so_far in
+    as_cause _ _ _ is (turn_causes _ _ _ _ _ _ (c.in_ok-port.ensures.cause.ok ∙ h.same_link) h.same_sink h.same_disk _ _ _ _ _ _ c.in_err-after.field-0.0
+    c.take_turn.ensures.same_faults c.in_err-after.ensures.takes)
+
+pub returns-then-stop-clause-causes : goal.returns-then-stop-clause-causes
+returns-then-stop-clause-causes g c =
+    let h = c.take_turn.ensures in
+    let takes = c.in_ok-after.ensures.takes in
+    let taken = goes_on c.args.catalog.now c.args.id c.args.turns c.loop.counter _ _ _ _ _ _ _ _ _ _ c.loop.node c.loop.invariant.so_far (omega arith)
+    _ _ (c.in_ok-port.port, c.in_ok-port.count) c.in_ok-port.ensures h.stays h.gives_none h.same_faults h.others h.any_moment c.in_ok-after.after takes.0 c.in_ok-after.stop takes.1 takes.2 in
+    finish_causes _ _ _ _ _ _ taken.same_link taken.same_sink taken.same_disk _ ends.Stopped (inl refl) c.finish.result c.finish.ensures.finishes
+
+pub returns-clause-causes : goal.returns-clause-causes
+returns-clause-causes g c =
+    let h = c.loop.invariant.so_far in
+    finish_causes _ _ _ _ _ _ h.same_link h.same_sink h.same_disk _ ends.TurnsDone (inr refl) c.finish-2.result c.finish-2.ensures.finishes
