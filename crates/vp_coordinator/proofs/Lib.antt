@@ -2,6 +2,7 @@ pub mod Answered
 pub mod Operations
 pub mod Presence
 pub mod LastWrites
+pub mod Written
 pub mod HasChanged
 pub mod Some
 pub mod Each

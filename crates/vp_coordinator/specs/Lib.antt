@@ -4,3 +4,4 @@ pub mod Records
 pub mod InPlace
 pub mod Ends
 pub mod Lent
+pub mod Written

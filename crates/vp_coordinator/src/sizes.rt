@@ -1,9 +1,10 @@
 //! How large the prepare messages of a transaction may get.
 
-ghost use Rattle.std.specs.Prelude.{◌≡◌, ◌++◌, ◌∷◌, [], ◌+◌, ◌*◌, ◌≤◌, IfOk, nat_lt, sum_by};
+ghost use Rattle.std.specs.Prelude.{◌≡◌, ◌++◌, ◌∷◌, [], ◌+◌, ◌*◌, ◌≤◌, IfOk, nat_le, nat_lt, sum_by};
 ghost use Rattle.vp_model.specs.Words.{put_at};
 ghost use Rattle.vp_model.specs.Calls.{content_size, size_of, is_too_large};
 ghost use Rattle.vp_coordinator.specs.Deeds.{as_deed};
+ghost use Rattle.vp_coordinator.specs.Written.{written_size};
 
 use crate::deeds::Deed;
 use crate::final_writes::{add_op, last_writes};
@@ -25,6 +26,31 @@ fn content_size(content: &Option<Value>) -> usize
         None => 0,
         Some(value) => value.as_bytes().len(),
     }
+}
+
+/// The length of what the operation wrote; 0 where it wrote no value.
+fn written_size(op: &Op) -> usize
+    ensures size { result ≡ written_size op.now }
+    ensures most { result ≤ 1024 }
+{
+    match op {
+        Op::Read { .. } => 0,
+        Op::Write { value, .. } => content_size(value),
+    }
+}
+
+/// Whether all that the operations wrote, what was written over too, is with so much beside it no more than a transaction may have.
+fn all_fit(ops: &[Op], beside: usize) -> bool
+    ensures { result ≡ nat_le (beside + sum_by written_size ops.now) 15360 }
+{
+    let mut size = beside;
+    for op in ops {
+        if size > MOST_SIZE {
+            return false;
+        }
+        size += written_size(op);
+    }
+    size <= MOST_SIZE
 }
 
 /// Whether these contents and so many tables are more than a transaction may have.
@@ -50,9 +76,14 @@ fn exceeds_with_op(t: &Live, operation: &Op) -> Result<bool, NoMemory>
     ensures { IfOk result (λ over. over ≡
         nat_lt 15360 (size_of (record t.now { ops = t.now.ops ++ operation.now ∷ [] }))) }
 {
-    let mut contents = last_writes(t.ops.allocator(), t.ops.as_slice())?;
+    let ops = t.ops.as_slice();
+    let tables = t.tables.as_slice().len();
+    if tables <= MOST_TABLES && all_fit(ops, 50 * tables + written_size(operation)) {
+        return Ok(false);
+    }
+    let mut contents = last_writes(t.ops.allocator(), ops)?;
     add_op(&mut contents, operation)?;
-    Ok(exceeds(&contents, t.tables.as_slice().len()))
+    Ok(exceeds(&contents, tables))
 }
 
 /// Whether the transaction would have more than it may have, if it gave this table too.
@@ -60,7 +91,12 @@ fn exceeds_with_table(t: &Live, rec: RecId, table: &Table) -> Result<bool, NoMem
     ensures { IfOk result (λ over. over ≡
         nat_lt 15360 (size_of (record t.now { tables = put_at rec table.now t.now.tables }))) }
 {
-    let contents = last_writes(t.ops.allocator(), t.ops.as_slice())?;
+    let ops = t.ops.as_slice();
+    let before = t.tables.as_slice().len();
+    if before < MOST_TABLES && all_fit(ops, 50 * (before + 1)) {
+        return Ok(false);
+    }
+    let contents = last_writes(t.ops.allocator(), ops)?;
     let mut tables = t.tables.copy_of()?;
     put_in(&mut tables, (rec, table.copy_of()?))?;
     Ok(exceeds(&contents, tables.as_slice().len()))
