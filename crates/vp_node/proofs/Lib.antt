@@ -1,5 +1,5 @@
 pub mod Taken
 pub mod Faults
 pub mod Kept
-mod Revived
+pub mod Revived
 pub mod Turning

@@ -7,6 +7,7 @@ mod Filling
 mod Generations
 mod Measured
 mod Opened
+mod ReadingOn
 mod Recoveries
 pub mod Restored
 mod Scanning

@@ -44,7 +44,7 @@ module _ (m n : ℕ) (first second : List ℕ) (of_first : HasGeneration m first
 
 -- ---- what is found in it
 
-has_batches : (scan : Scan) (bytes : List ℕ) → IsScan scan bytes → HasBatches scan.batches bytes
+pub has_batches : (scan : Scan) (bytes : List ℕ) → IsScan scan bytes → HasBatches scan.batches bytes
 has_batches scan bytes is = ⊎_elim (λ short. inl (short, (is.short short).1)) (λ long. inr (scan.gate, is.is_log long)) (short_or_long bytes)
   where
     short_or_long : (l : List ℕ) → (length l ≤ 1) ⊎ (2 ≤ length l)

@@ -1,5 +1,5 @@
 -- What the two halves of a log hold: the batches of the current one.
-use Rattle.std.specs.Prelude.{◌≡◌, ◌⊎◌, ℕ, ◌+◌, ◌*◌, ◌-◌, ◌^◌, Bool, false, true, nat_lt, ◌==◌, ◌&&◌, if◌then◌else◌, List, [], ◌∷◌, ◌++◌, length, IfSome, Result, Ok, Err}
+use Rattle.std.specs.Prelude.{◌≡◌, ◌≢◌, ◌⊎◌, ℕ, ◌+◌, ◌*◌, ◌-◌, ◌^◌, Bool, false, true, nat_lt, ◌==◌, ◌&&◌, if◌then◌else◌, List, [], ◌∷◌, ◌++◌, length, IfSome, Result, Ok, Err}
 use Rattle.vp_base.specs.declared.entry.LogRecord.{LogRecord}
 use Rattle.vp_base.specs.declared.entry.LogRecord.TheVariants as log_record
 use Rattle.vp_model.specs.Durable.{DurableState, empty_durable, apply_all}
@@ -97,6 +97,24 @@ pub record StandsAt (at : Standing) (batches : List (List LogRecord)) (log : Hal
   pub is_log : IsLog at.gate batches (half_of at.half log)
   pub generation : at.generation ≡ generation_of batches
   pub second : at.second ≡ second_gate batches
+
+-- The log has these batches first, at least one, and this position is the one after them; others may follow.
+pub record StandsWithin (at : Standing) (batches : List (List LogRecord)) (log : Halves) : Type 0 where
+  pub current : IsCurrent at.half log
+  pub some : batches ≢ []
+  pub place : ℕ
+  pub rest : List (List LogRecord)
+  pub is_log : IsLog place (batches ++ rest) (half_of at.half log)
+  pub gate : at.gate ≡ length (open_batches batches)
+  pub generation : at.generation ≡ generation_of batches
+  pub second : at.second ≡ second_gate batches
+
+-- what reading on after these batches gives: the batches that follow, and the position after all
+abbrev pub ReadsOn : List (List LogRecord) → Halves → Result (Standing × List (List LogRecord)) LogFault → Type 0
+ReadsOn batches log (Ok it) = StandsAt it.0 (batches ++ it.1) log
+ReadsOn batches log (Err (faults.BadLog half at)) = ⊥
+ReadsOn batches log (Err faults.DiskFault) = ⊥
+ReadsOn batches log (Err faults.NoMemory) = Unit {0}
 
 -- A crash leaves what a read gives, and the log has this position.
 pub record AreSettled (at : Standing) (log : Halves) (images : Halves → Type 0) : Type 0 where

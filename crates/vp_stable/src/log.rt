@@ -1,11 +1,12 @@
 //! The log, to which batches are appended, and which a checkpoint makes short again.
 
-ghost use Rattle.std.specs.Prelude.{◌≡◌, ◌⊎◌, IfOk, IfSome, IsErrOf, IsTrue, OnOk, OnErr};
+ghost use Rattle.std.specs.Prelude.{◌≡◌, ◌⊎◌, ◌≤◌, ◌==◌, ◌&&◌, List, length, IfOk, IfSome, IsErrOf, IsTrue, OnOk, OnErr};
 ghost use Rattle.std.specs.List.{AllByRecursion};
 ghost use Rattle.vp_records.specs.Batches.{IsBatch};
 ghost use Rattle.vp_records.specs.Records.{CanBeSaved};
-ghost use Rattle.vp_outside.specs.Disk.{log_of, Steps};
-ghost use Rattle.vp_stable.specs.Halves.{Peeks, Recovers, StandsAt, AreKept, ReadAlike, GainsAt, MayGainAt, SavesAt, MaySaveAt, FoldsAlike, IsShort, is_due};
+ghost use Rattle.vp_base.specs.declared.entry.LogRecord.{LogRecord};
+ghost use Rattle.vp_outside.specs.Disk.{Halves, half_of, log_of, Steps};
+ghost use Rattle.vp_stable.specs.Halves.{Peeks, Recovers, ReadsOn, StandsAt, StandsWithin, AreKept, ReadAlike, GainsAt, MayGainAt, SavesAt, MaySaveAt, FoldsAlike, IsShort, is_due};
 ghost use Rattle.vp_stable.specs.Moments.{LeavesOnly, LeavesOthers, Quiet};
 ghost use Rattle.vp_stable.specs.Stops.{AppendsToStop, GainsWhere};
 ghost use Rattle.vp_stable.specs.Faults.{HasLogCause, HasAppendCause};
@@ -114,6 +115,48 @@ impl Log {
         let current = read_current(alloc, disk)?;
         let scan = read_batches(alloc, current.half, &current.bytes)?;
         Ok(scan.batches)
+    }
+
+    /// Reads on from this position, up to which the batches of a log are known: the batches that follow, with the position after
+    /// them. The bytes are those of its half.
+    pub fn read_on(&self, bytes: &[u8]) -> Result<(Log, Batches), LogFault>
+        requires within { self.now.gate ≤ length bytes.now }
+        ensures read { (batches : List (List LogRecord)) (log : Halves) → bytes.now ≡ half_of self.now.half log →
+            StandsWithin self.now batches log → ReadsOn batches log result }
+        // Even where nothing is known of the log: what was read can be applied.
+        ensures batches { IfOk result (λ it. AllByRecursion IsBatch it.1) }
+    {
+        let scan = read_batches(self.alloc, self.half, &bytes[self.gate as usize..])?;
+        let mut log = self.copy();
+        log.gate += scan.gate as u64;
+        Ok((log, scan.batches))
+    }
+
+    /// The same position.
+    pub fn copy(&self) -> Log
+        ensures { result ≡ self.now }
+    {
+        Log {
+            alloc: self.alloc,
+            half: self.half,
+            generation: self.generation,
+            gate: self.gate,
+            second: self.second,
+        }
+    }
+
+    /// The current half.
+    pub fn half(&self) -> u8
+        ensures { result ≡ self.now.half }
+    {
+        self.half
+    }
+
+    /// Whether the other position is in the same half, of the same generation.
+    pub fn is_in_half_of(&self, other: &Log) -> bool
+        ensures { result ≡ (self.now.half == other.now.half && self.now.generation == other.now.generation) }
+    {
+        self.half == other.half && self.generation == other.generation
     }
 
     /// Appends the batch. After a fault the batch is in the log or not; recover the log before it is used again.
