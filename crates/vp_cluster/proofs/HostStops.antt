@@ -31,7 +31,7 @@ shown_some batch shown b same is e none =
 
 module _ (catalogue : Catalogue) (d : Datagram) (site : SiteState) (parts host : HostValue) (same : parts ≡ host) (is : IsHost catalogue host) where
   abbrev following : List Change → HostValue
-  following disk = host_with parts.id parts.port disk None
+  following disk = host_with parts.id parts.port disk None None
 
   abbrev After : List Change → Option StoppedLog → Type 0
   After disk left = Stops catalogue d site host (following disk) left

@@ -5,6 +5,7 @@ mod Holding
 mod HostStops
 mod Hosting
 mod Replaced
+mod Resuming
 pub mod Acting
 mod Coming
 mod Filed

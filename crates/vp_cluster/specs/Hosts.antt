@@ -8,11 +8,11 @@ use Rattle.vp_model.specs.Site.{SiteState}
 use Rattle.vp_model.specs.Step.{durable_of}
 use Rattle.vp_catalog.specs.Document.{IsCatalogue}
 use Rattle.vp_laws.specs.Shapes.{IsShaped}
-use Rattle.vp_outside.specs.Disk.{Halves, DiskState}
+use Rattle.vp_outside.specs.Disk.{Halves, DiskState, Only}
 use Rattle.vp_disks.specs.Changes.{asked_of, changes_of, content_of, state_after}
 use Rattle.vp_disks.specs.declared.changes.Change.{Change}
 use Rattle.vp_outside.specs.declared.datagram.Datagram.{Datagram}
-use Rattle.vp_stable.specs.Halves.{Standing, StandsAt, HaveBatches, AreKept}
+use Rattle.vp_stable.specs.Halves.{Standing, StandsAt, StandsWithin, HaveBatches, AreKept}
 use Rattle.vp_stable.specs.Stops.{with_batch}
 use Rattle.vp_runs.specs.Arrivals.{arrival}
 use Rattle.vp_runs.specs.Keeping.{durable_in}
@@ -22,13 +22,16 @@ use Rattle.vp_node.specs.Taking.{IsStepOf}
 use Rattle.vp_node.specs.declared.turned.TurnEffects.{TurnEffects}
 use Rattle.vp_world.specs.Asked.{life_start}
 use Rattle.vp_cluster.specs.declared.host.StoppedLog.{StoppedLog}
+use Rattle.vp_cluster.specs.declared.resuming.Folded.{Folded}
 
--- what contracts see of a host: its site with its port, what was done to its disk, and where its log is while the site is up
+-- what contracts see of a host: its site with its port, what was done to its disk, where its log is while the site is up, and what is
+-- kept of what the log folded to
 pub record HostValue : Type 0 where
   pub id : ℕ
   pub port : ℕ
   pub disk : List Change
   pub log : Option Standing
+  pub folded : Option Folded
 
 -- the state of its disk
 abbrev pub disk_of : HostValue → DiskState
@@ -54,10 +57,20 @@ site_log host = (host.id, (log_in host).0, (log_in host).1)
 abbrev pub address_of : HostValue → ℕ × ℕ
 address_of host = (host.id, host.port)
 
--- It is a host over this catalogue: its port is its site's, and the disk keeps the log that it has while the site is up.
+-- The first batches of the log on this disk, up to that position, fold to this durable part of the site; and a crash leaves what a
+-- read gives.
+pub record IsFolded (catalogue : Catalogue) (id : ℕ) (disk : List Change) (folded : Folded) : Type 0 where
+  pub batches : List (List LogRecord)
+  pub within : StandsWithin folded.at batches (log_on disk)
+  pub folds : durable_in catalogue id batches ≡ folded.durable
+  pub synced : Only (log_on disk) ((state_after disk true 0).may_leave (asked_of disk))
+
+-- It is a host over this catalogue: its port is its site's, the disk keeps the log that it has while the site is up, and what is kept
+-- of the log is the fold of its first batches.
 pub record IsHost (catalogue : Catalogue) (host : HostValue) : Type 0 where
   pub port_is : value_at host.id catalogue.sites ≡ Some host.port
   pub kept : IfSome host.log (λ at. AreKept at (disk_of host))
+  pub folded : IfSome host.folded (IsFolded catalogue host.id host.disk)
 
 -- Its log has these batches, and its site is up, or down if none is given.
 pub record IsAt (batches : List (List LogRecord)) (up : Option SiteState) (host : HostValue) : Type 0 where

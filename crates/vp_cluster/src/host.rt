@@ -10,6 +10,7 @@ ghost use Rattle.vp_outside.specs.Disk.{half_of};
 ghost use Rattle.vp_world.specs.Asked.{IfStarted};
 
 use crate::letter::Letter;
+use crate::resuming::{Folded, kept_with, start_node};
 use crate::stopping::{Stop, append_stopped};
 use std::alloc::Global;
 use std::marker::Model;
@@ -39,6 +40,8 @@ pub struct Host {
     port: u16,
     disk: SureDisk,
     log: Option<Log>,
+    /// What the log folded to when the site was last restarted, if no checkpoint was made since: a restart reads what follows.
+    folded: Option<Folded>,
 }
 
 impl Drop for Host {
@@ -48,6 +51,7 @@ impl Drop for Host {
             port: _,
             disk: _,
             log: _,
+            folded: _,
         } = self;
     }
 }
@@ -57,7 +61,7 @@ impl Model for Host {
 
     ghost Value = { HostValue };
 
-    ghost view = { λ h. record { id = h.id; port = h.port; disk = h.disk; log = h.log } };
+    ghost view = { λ h. record { id = h.id; port = h.port; disk = h.disk; log = h.log; folded = h.folded } };
 
     ghost invariant = { λ h. AreLog (log_on h.disk) };
 }
@@ -78,6 +82,7 @@ impl Host {
                     port,
                     disk,
                     log: Some(log),
+                    folded: None,
                 })
             }
             Err(NodeEnd::NoMemory) => Err(NoMemory),
@@ -124,6 +129,8 @@ impl Host {
         ensures host { IsHost catalog.now self.new }
         ensures place { address_of self.new ≡ address_of self.old }
     {
+        halves_are_one_log();
+        let folded = self.folded.take();
         let Some(log) = self.log.take() else {
             unreachable!()
         };
@@ -133,6 +140,7 @@ impl Host {
         match node.handle(catalog, &mut self.disk, what) {
             Ok((node, turn_effects)) => {
                 let (site, log) = node.into_parts();
+                self.folded = kept_with(folded, &log);
                 self.log = Some(log);
                 Ok((site, turn_effects))
             }
@@ -168,6 +176,7 @@ impl Host {
         ensures host { IsHost catalog.now self.new }
         ensures place { address_of self.new ≡ address_of self.old }
     {
+        self.folded = None;
         let Some(log) = self.log.take() else {
             unreachable!()
         };
@@ -196,10 +205,15 @@ impl Host {
     {
         // a site that was up is gone
         self.log.take();
+        let folded = self.folded.take();
         halves_are_one_log();
-        match Node::start(catalog, self.id, &mut self.disk) {
+        match start_node(catalog, self.id, &mut self.disk, folded) {
             Ok(node) => {
                 let (site, log) = node.into_parts();
+                self.folded = Some(Folded {
+                    durable: site.durable()?,
+                    at: log.copy(),
+                });
                 self.log = Some(log);
                 Ok(site)
             }

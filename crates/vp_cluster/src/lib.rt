@@ -11,6 +11,7 @@ mod hosts;
 mod letter;
 mod letters;
 mod nodes;
+mod resuming;
 mod sent_letters;
 mod stopping;
 

@@ -1,5 +1,5 @@
 use Rattle.std.proofs.Common.{◌∙◌, Some, ap, sym, subst}
-use Rattle.std.specs.Prelude.{Result, Err}
+use Rattle.std.specs.Prelude.{None, Result, Err}
 use Rattle.vp_model.specs.Site.{SiteState}
 use Rattle.vp_node.specs.Nodes.{NodeValue}
 use Rattle.vp_node.specs.declared.end.NodeEnd.{NodeEnd}
@@ -18,8 +18,8 @@ invariant_of-result c = kept_holds c.args.catalog.now c.in-Ok.node c.start.new.d
 pub returns-in-Ok : goal.returns-in-Ok
 returns-in-Ok c =
     let h = c.in-Ok.ensures in
-    subst (λ (apart : SiteState × Standing). Begins c.args.catalog.now c.args.id c.args.port (host_with c.args.id c.args.port c.start.new.disk (Some apart.1))) (sym c.into_parts-log.ensures)
-    (begins c.args.catalog.now c.args.id c.args.port c.new-disk.result c.start.new.disk c.halves_are_one_log.ensures.batches h.others.stays.same_name c.in-Ok.node h.started c.new-disk.ensures c.requires.listed h.kept)
+    subst (λ (apart : SiteState × Standing). Begins c.args.catalog.now c.args.id c.args.port (host_with c.args.id c.args.port c.start.new.disk (Some apart.1) None)) (sym c.into_parts-log.ensures)
+    (begins c.args.catalog.now c.args.id c.args.port c.new-disk.result c.start.new.disk None c.halves_are_one_log.ensures.batches h.others.stays.same_name c.in-Ok.node h.started c.new-disk.ensures c.requires.listed tt h.kept)
 
 pub unreachable-requires : goal.unreachable-requires
 unreachable-requires c = never_fails _ c.start.ensures.cause c.in-Err-DiskFault.is c.in-Err-DiskFault.field-0-is

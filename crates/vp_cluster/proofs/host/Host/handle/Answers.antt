@@ -1,10 +1,16 @@
 use Rattle.std.proofs.Common.{◌≡◌, ◌∙◌, Some, None, ap, subst, ⊎_elim}
+use Rattle.std.specs.Prelude.{Option, IfSome}
+use Rattle.vp_model.specs.Site.{SiteState}
+use Rattle.vp_stable.specs.Halves.{Standing, AreKept}
 use Rattle.vp_runs.specs.Arrivals.{arrival}
 use Rattle.vp_node.specs.Nodes.{NodeValue}
 use Rattle.vp_node.specs.Taking.{AreFrames}
+use Rattle.vp_cluster.specs.declared.resuming.Folded.{Folded}
+use Rattle.vp_cluster.specs.Hosts.{IsFolded, disk_of}
 use Rattle.vp_cluster.specs.Letter.{Letter, as_received}
 use Rattle.vp_cluster.proofs.Holding.{kept_holds, never_fails, turn_ends, turn_holds}
-use Rattle.vp_cluster.proofs.Hosting.{parts_up, parts_node, parts_take}
+use Rattle.vp_cluster.proofs.Hosting.{parts_up, parts_node, parts_take, parts_folded, parts_kept}
+use Rattle.vp_cluster.proofs.Resuming.{still_folded}
 use Rattle.vp_cluster.proofs.host.Host.handle.Goals as goal
 
 pub unreachable-requires : goal.unreachable-requires
@@ -28,9 +34,14 @@ returns-in-Ok-clause-takes c =
     let cat = c.args.catalog.now in
     let h = c.in-Ok.ensures in
     let up : c.self.inside.log ≡ Some c.in-Some.log = cc in
+    let to : c.into_parts-site.result.1 ≡ c.in-Ok.node.at = ap (λ (parts : SiteState × Standing). parts.1) c.into_parts-site.ensures in
+    let was = subst (λ (o : Option Folded). IfSome o (IsFolded cat c.self.inside.id c.self.inside.disk)) (sym c.take-folded.ensures.result) (parts_folded cat _ c.args.self.now c.self.view_is c.requires.host) in
+    let held = subst (λ (at : Standing). IfSome c.kept_with.result (λ (it : Folded). (c.take-folded.result ≡ Some it) × (it.at.half ≡ at.half) × (it.at.generation ≡ at.generation))) to c.kept_with.ensures in
+    let before = subst (λ (node : NodeValue). AreKept node.at (disk_of c.self.inside)) (sym c.from_parts-node.ensures) (parts_kept cat _ c.args.self.now c.self.view_is c.in-Some.log up c.requires.host) in
+    let folded = still_folded cat c.self.inside.id c.self.inside.disk c.handle.new.disk c.halves_are_one_log.ensures.batches h.others.stays.same_name c.take-folded.result c.kept_with.result _ c.from_parts-node.result.at c.in-Ok.node was before h.saved h.kept held in
     let what_is : c.in_ok-what.what ≡ arrival cat c.self.inside.id (as_received letter) = c.in_ok-what.ensures.what ∙ ap (λ (letter : Letter). arrival cat c.self.inside.id (as_received letter)) c.letter.view_is in
     parts_take cat _ c.args.self.now c.self.view_is (as_received letter) c.args.site c.requires.lent c.requires.host c.in-Some.log up c.from_parts-node.result c.from_parts-node.ensures c.in_ok-what.what what_is _ h.others.stays.same_name
-    c.in-Ok.node c.in-Ok.turn_effects c.into_parts-site.result c.into_parts-site.ensures (h.took, h.stepped, h.saved) h.kept
+    c.in-Ok.node c.kept_with.result c.in-Ok.turn_effects c.into_parts-site.result c.into_parts-site.ensures folded (h.took, h.stepped, h.saved) h.kept
 
 pub returns-in-Ok-clause-frames : goal.returns-in-Ok-clause-frames
 returns-in-Ok-clause-frames c = subst (λ (node : NodeValue). AreFrames node.site.id c.in-Ok.turn_effects.effects) c.from_parts-node.ensures c.in-Ok.ensures.frames

@@ -24,7 +24,7 @@ returns-then-is_empty-clause-stops c =
     let up : c.self.inside.log ≡ Some c.in-Some.log = cc in
     let what_is : c.in_ok-what.what ≡ arrival cat c.self.inside.id (as_received letter) = c.in_ok-what.ensures.what ∙ ap (λ (letter : Letter). arrival cat c.self.inside.id (as_received letter)) c.letter.view_is in
     let comes = parts_arrival cat _ c.args.self.now c.self.view_is c.args.site (as_received letter) c.in_ok-what.what c.requires.lent what_is in
-    subst (λ (log : Option Standing). Stops cat (as_received letter) c.args.site c.args.self.now (host_with c.self.inside.id c.self.inside.port c.self.inside.disk log) None) (sym c.take.ensures.after)
+    subst (λ (log : Option Standing). Stops cat (as_received letter) c.args.site c.args.self.now (host_with c.self.inside.id c.self.inside.port c.self.inside.disk log None) None) (sym c.take.ensures.after)
     (stops_none cat (as_received letter) c.args.site _ c.args.self.now c.self.view_is c.requires.host c.in-Some.log up c.in_ok-what.what comes c.in_ok-turn_effects.turn_effects.effects.records c.in_ok-turn_effects.ensures.does.records_are c.self.inside.disk
     (shown_none c.in_ok-turn_effects.turn_effects.effects.records c.as_slice.result.now c.is_empty.result c.as_slice.ensures c.is_empty.ensures c.if-is_empty.true))
 
@@ -46,8 +46,8 @@ returns-clause-stops c =
     let what_is : c.in_ok-what.what ≡ arrival cat c.self.inside.id (as_received letter) = c.in_ok-what.ensures.what ∙ ap (λ (letter : Letter). arrival cat c.self.inside.id (as_received letter)) c.letter.view_is in
     let comes = parts_arrival cat _ c.args.self.now c.self.view_is c.args.site (as_received letter) c.in_ok-what.what c.requires.lent what_is in
     let it : StoppedLog = record { log = c.in_ok-log.field-0; kept = c.in_ok-left.kept } in
-    let log_is = c.in_ok-log.ensures ∙ ap (λ (log : Option Standing). site_log (host_with c.self.inside.id c.self.inside.port c.in_ok-left.left log)) c.take.ensures.after in
-    subst (λ (log : Option Standing). Stops cat (as_received letter) c.args.site c.args.self.now (host_with c.self.inside.id c.self.inside.port c.in_ok-left.left log) (Some it)) (sym c.take.ensures.after)
+    let log_is = c.in_ok-log.ensures ∙ ap (λ (log : Option Standing). site_log (host_with c.self.inside.id c.self.inside.port c.in_ok-left.left log None)) c.take.ensures.after in
+    subst (λ (log : Option Standing). Stops cat (as_received letter) c.args.site c.args.self.now (host_with c.self.inside.id c.self.inside.port c.in_ok-left.left log None) (Some it)) (sym c.take.ensures.after)
     (stops_within cat (as_received letter) c.args.site _ c.args.self.now c.self.view_is c.requires.host c.in-Some.log up c.in_ok-what.what comes c.in_ok-turn_effects.turn_effects.effects.records c.in_ok-turn_effects.ensures.does.records_are
     c.in_ok-left.left it
     (shown_some c.in_ok-turn_effects.turn_effects.effects.records c.as_slice.result.now c.is_empty.result c.as_slice.ensures c.is_empty.ensures c.if-is_empty.false)
