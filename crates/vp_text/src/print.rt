@@ -16,6 +16,15 @@ pub fn print_number(out: &mut Vec<u8>, number: u64) -> Result<(), AllocError>
         out.push(b'0' + number as u8)?;
         return Ok(());
     }
+    print_digits(out, number)
+}
+
+/// Does the same for a number of any length. It is never part of `print_number`, which so saves no registers for a single digit.
+#[inline(never)]
+fn print_digits(out: &mut Vec<u8>, number: u64) -> Result<(), AllocError>
+    ensures ok { OnOk result (out.new.items ≡ out.old.items ++ decimal number) }
+    ensures err { OnErr result (out.new.items ≡ out.old.items) }
+{
     let mut digits = Buffer::new();
     out.extend_from_slice(digits.format(number).as_bytes())
 }
