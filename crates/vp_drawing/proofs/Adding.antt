@@ -4,7 +4,7 @@ use Rattle.std.specs.Prelude.{if◌then◌else◌, is_some, Option, Some, None, 
 use Rattle.std.specs.Fmt.{decimal}
 use Rattle.std.specs.List.{flat_map}
 use Rattle.std.proofs.lemmas.List.{length-map, length_push}
-use Rattle.vp_model.specs.Types.{Commit, Event, Reply, Sent, Shown, View}
+use Rattle.vp_model.specs.Types.{Commit, Event, Reply, Sent, Shown}
 use Rattle.vp_model.specs.Types.event
 use Rattle.vp_model.specs.Types.shown
 use Rattle.vp_model.specs.Words.{for_each}
@@ -20,11 +20,12 @@ use Rattle.vp_pictures.specs.declared.shape.Ink.{Ink}
 use Rattle.vp_pictures.specs.declared.shape.Ink.TheVariants as ink
 use Rattle.vp_pictures.specs.declared.shape.Shape.{Shape}
 use Rattle.vp_pictures.specs.declared.shape.Shape.TheVariants as shape
+use Rattle.vp_pictures.specs.declared.sheet.Held.{Held}
 use Rattle.vp_pictures.specs.declared.sheet.Look.{Look}
 use Rattle.vp_pictures.specs.declared.sheet.Mark.{Mark}
 use Rattle.vp_pictures.specs.declared.sheet.Sheet.{Sheet}
 use Rattle.vp_drawing.specs.Looks.{looks_of}
-use Rattle.vp_drawing.specs.Moments.{draw_moment, joined_in}
+use Rattle.vp_drawing.specs.Moments.{draw_moment, noted_in}
 use Rattle.vp_drawing.specs.Rows.{effects, height, height_in}
 
 -- ---- texts, each on a row of its own
@@ -115,7 +116,7 @@ module _ (catalogue : Catalogue) where
       (record { part_is = refl; lines_are = omega arith; texts_are = sym (append-nil s.texts); marks_are = refl; came_are = refl; bars_are = refl; arrows_are = refl })
       (subst (λ k. Adds next last [] (marks_of catalogue false s.lines k rest)) (length_push s.marks (mark catalogue false s.lines n sent)) (hidden_add rest next))
 
--- ---- what a step did, and the view that is joined
+-- ---- what a step did, and the view that is held from there on
 
 abbrev pub commit_said : ℕ → Commit → Said
 commit_said x commit = one x ink.Commit (commit_words commit)
@@ -133,9 +134,9 @@ abbrev pub marks_shown : Catalogue → Bool → ℕ → ℕ → Shown → List M
 marks_shown catalogue drawn r n (shown.Step commits first messages replies) = marks_of catalogue drawn (if drawn then r + length commits else r) n messages
 marks_shown catalogue drawn r n _ = []
 
-abbrev pub view_said : Catalogue → ℕ → Option View → List Said
+abbrev pub view_said : Catalogue → ℕ → Option Held → List Said
 view_said catalogue x None = []
-view_said catalogue x (Some view) = one x ink.View (view_words catalogue view) ∷ []
+view_said catalogue x (Some held) = one x ink.View (view_words catalogue held) ∷ []
 
 module _ (catalogue : Catalogue) (x : ℕ) where
   shown_adds : (what : Shown) (s : Sheet) → Adds s (say_shown catalogue x what s) (shown_said catalogue x (length s.marks) what) (marks_shown catalogue true s.lines (length s.marks) what)
@@ -164,10 +165,10 @@ module _ (catalogue : Catalogue) (x : ℕ) where
   shown_adds (shown.Life life) s = line_adds x _ _ s
   shown_adds (shown.LivesSpent life) s = line_adds x _ _ s
 
-  view_adds : (joined : Option View) (s : Sheet) → Adds s (say_view catalogue x joined s) (view_said catalogue x joined) []
+  view_adds : (noted : Option Held) (s : Sheet) → Adds s (say_view catalogue x noted s) (view_said catalogue x noted) []
   unfolding say_view
   view_adds None s = nothing s
-  view_adds (Some view) s = line_adds x _ _ s
+  view_adds (Some held) s = line_adds x _ _ s
 
 pub message_count : (catalogue : Catalogue) (x n : ℕ) (messages : List Sent) → length (message_said catalogue x n messages) ≡ length messages
 message_count catalogue x n [] = refl
@@ -189,9 +190,9 @@ effects_count catalogue x n (shown.Up site) = refl
 effects_count catalogue x n (shown.Life life) = refl
 effects_count catalogue x n (shown.LivesSpent life) = refl
 
-view_count : (catalogue : Catalogue) (x : ℕ) (joined : Option View) → length (view_said catalogue x joined) ≡ (if is_some joined then 1 else 0)
+view_count : (catalogue : Catalogue) (x : ℕ) (noted : Option Held) → length (view_said catalogue x noted) ≡ (if is_some noted then 1 else 0)
 view_count catalogue x None = refl
-view_count catalogue x (Some view) = refl
+view_count catalogue x (Some held) = refl
 
 -- ---- bars
 
@@ -288,7 +289,7 @@ module _ (catalogue : Catalogue) (m : Moment) where
   abbrev pub said_in : Sheet → List Said
   said_in s =
       one (x_in s) ink.Event (words_of_event m.line.event s)
-      ∷ (shown_said catalogue (x_in s) (length s.marks) m.line.shown ++ view_said catalogue (x_in s) (joined_in m))
+      ∷ (shown_said catalogue (x_in s) (length s.marks) m.line.shown ++ view_said catalogue (x_in s) (noted_in catalogue m))
 
   abbrev pub texts_in : Sheet → List Shape
   texts_in s = if is_drawn s.part m.number then shape.Text ink.Faint 4 (top s.lines + 13) (decimal m.number) ∷ rows s.lines (said_in s) else []
@@ -302,27 +303,27 @@ module _ (catalogue : Catalogue) (m : Moment) where
       delivered catalogue drawn m.line.event m.line.shown s ++ (if drawn then option_to_list (cut_of catalogue (top s.lines + 18) m.line.event) else [])
 
   abbrev pub bars_in : Sheet → List Shape
-  bars_in s = if is_drawn s.part m.number then flat_map (look_bars catalogue (top s.lines) (top (s.lines + height m))) (looks_of m.after) else []
+  bars_in s = if is_drawn s.part m.number then flat_map (look_bars catalogue (top s.lines) (top (s.lines + height catalogue m))) (looks_of m.after) else []
 
   said_same : (s : Sheet) (came : List ℕ) (arrows : List Shape) → said_in (record s { came = came; arrows = arrows }) ≡ said_in s
   said_same s came arrows = rw (same_words s came arrows m.line.event, same_x s came arrows catalogue m.line.event) refl
 
-  pub said_count : (s : Sheet) → length (said_in s) ≡ height m
+  pub said_count : (s : Sheet) → length (said_in s) ≡ height catalogue m
   said_count s =
       let a = effects_count catalogue (x_in s) (length s.marks) m.line.shown in
-      let b = view_count catalogue (x_in s) (joined_in m) in
-      let ab = length-append (shown_said catalogue (x_in s) (length s.marks) m.line.shown) (view_said catalogue (x_in s) (joined_in m)) in
+      let b = view_count catalogue (x_in s) (noted_in catalogue m) in
+      let ab = length-append (shown_said catalogue (x_in s) (length s.marks) m.line.shown) (view_said catalogue (x_in s) (noted_in catalogue m)) in
       omega (arith, a, b, ab)
 
   -- the step of a moment, where it is drawn or not
   record Stepped (drawn : Bool) (old new : Sheet) : Type 0 where
     part_is : new.part ≡ old.part
-    lines_are : new.lines ≡ old.lines + (if drawn then height m else 0)
+    lines_are : new.lines ≡ old.lines + (if drawn then height catalogue m else 0)
     texts_are : new.texts ≡ old.texts ++ (if drawn then shape.Text ink.Faint 4 (top old.lines + 13) (decimal m.number) ∷ rows old.lines (said_in old) else [])
     marks_are : new.marks ≡ old.marks ++ marks_shown catalogue drawn (if drawn then old.lines + 1 else old.lines) (length old.marks) m.line.shown
     came_are : new.came ≡ old.came
     arrows_are : new.arrows ≡ old.arrows ++ (if drawn then option_to_list (cut_of catalogue (top old.lines + 18) m.line.event) else [])
-    bars_are : new.bars ≡ old.bars ++ (if drawn then flat_map (look_bars catalogue (top old.lines) (top (old.lines + height m))) (looks_of m.after) else [])
+    bars_are : new.bars ≡ old.bars ++ (if drawn then flat_map (look_bars catalogue (top old.lines) (top (old.lines + height catalogue m))) (looks_of m.after) else [])
 
   hides : (s : Sheet) → Adds s (hide_messages catalogue m.line.shown s) [] (marks_shown catalogue false s.lines (length s.marks) m.line.shown)
   hides s = go m.line.shown
@@ -350,23 +351,23 @@ module _ (catalogue : Catalogue) (m : Moment) where
         bars_are = adds.bars_are ∙ sym (append-nil s.bars);
       }
 
-  drawn : (s : Sheet) → Stepped true s (draw_step catalogue m.number m.line (looks_of m.after) (joined_in m) s)
+  drawn : (s : Sheet) → Stepped true s (draw_step catalogue m.number m.line (looks_of m.after) (noted_in catalogue m) s)
   unfolding draw_step say_event
   drawn s =
       let x = x_in s in
       let numbered = add_text 4 ink.Faint (decimal m.number) (with_cut (cut_of catalogue (top s.lines + 18) m.line.event) s) in
       let a = add_text_line x ink.Event (words_of_event m.line.event s) numbered in
       let b = say_shown catalogue x m.line.shown a in
-      let c = say_view catalogue x (joined_in m) b in
+      let c = say_view catalogue x (noted_in catalogue m) b in
       let shown = shown_said catalogue x (length s.marks) m.line.shown in
-      let view = view_said catalogue x (joined_in m) in
+      let view = view_said catalogue x (noted_in catalogue m) in
       let marks = marks_shown catalogue true (s.lines + 1) (length s.marks) m.line.shown in
       let event = line_adds x ink.Event (words_of_event m.line.event s) numbered in
       let to_c : Adds numbered c (said_in s) (marks ++ []) =
       after numbered a c (one x ink.Event (words_of_event m.line.event s) ∷ []) (shown ++ view) [] (marks ++ []) event
-      (after a b c shown view marks [] (shown_adds catalogue x m.line.shown a) (view_adds catalogue x (joined_in m) b)) in
+      (after a b c shown view marks [] (shown_adds catalogue x m.line.shown a) (view_adds catalogue x (noted_in catalogue m) b)) in
       let count = said_count s in
-      let lines : c.lines ≡ s.lines + height m = to_c.lines_are ∙ ap (λ k. s.lines + k) count in
+      let lines : c.lines ≡ s.lines + height catalogue m = to_c.lines_are ∙ ap (λ k. s.lines + k) count in
       let end = looks_are catalogue (top s.lines) (top c.lines) (looks_of m.after) c in
       let bars = ap (λ k. c.bars ++ flat_map (look_bars catalogue (top s.lines) (top k)) (looks_of m.after)) lines in
       rw (same_words s s.came (s.arrows ++ option_to_list (cut_of catalogue (top s.lines + 18) m.line.event)) m.line.event, end) (record {
@@ -376,12 +377,12 @@ module _ (catalogue : Catalogue) (m : Moment) where
         marks_are = to_c.marks_are ∙ ap (λ (l : List Mark). s.marks ++ l) (append-nil marks);
         came_are = to_c.came_are;
         arrows_are = to_c.arrows_are;
-        bars_are = bars ∙ ap (λ (l : List Shape). l ++ flat_map (look_bars catalogue (top s.lines) (top (s.lines + height m))) (looks_of m.after)) to_c.bars_are;
+        bars_are = bars ∙ ap (λ (l : List Shape). l ++ flat_map (look_bars catalogue (top s.lines) (top (s.lines + height catalogue m))) (looks_of m.after)) to_c.bars_are;
       })
 
   pub record Turned (s new : Sheet) : Type 0 where
     pub part_is : new.part ≡ s.part
-    pub lines_are : new.lines ≡ s.lines + height_in s.part m
+    pub lines_are : new.lines ≡ s.lines + height_in catalogue s.part m
     pub texts_are : new.texts ≡ s.texts ++ texts_in s
     pub marks_are : new.marks ≡ s.marks ++ marks_in s
     pub came_are : new.came ≡ s.came ++ came_in m.line.event s
@@ -406,6 +407,6 @@ module _ (catalogue : Catalogue) (m : Moment) where
         bars_are = step.bars_are;
       })
     where
-      go : (t : Sheet) (b : Bool) → Stepped b t (if b then draw_step catalogue m.number m.line (looks_of m.after) (joined_in m) t else hide_messages catalogue m.line.shown t)
+      go : (t : Sheet) (b : Bool) → Stepped b t (if b then draw_step catalogue m.number m.line (looks_of m.after) (noted_in catalogue m) t else hide_messages catalogue m.line.shown t)
       go t true = drawn t
       go t false = hidden t

@@ -47,7 +47,7 @@ module _ (s : Schedule) (part : Part) where
   y t = top (row_after c part t.earlier)
 
   abbrev end : Turn ms → ℕ
-  end t = top (row_after c part t.earlier + height t.now)
+  end t = top (row_after c part t.earlier + height c t.now)
 
   -- what is drawn of a site that looks so
   abbrev bars_of : Turn ms → ℕ → Look → List Shape
@@ -66,7 +66,7 @@ module _ (s : Schedule) (part : Part) where
       it = it;
       view = view;
       held = e;
-      is = sym (in_one _ a h) ∙ ap (λ h. shape.Bar (colour view.id) (column c it.place.id - 4) (y it.turn) 8 h) (high (row_after c part it.turn.earlier) (height it.turn.now));
+      is = sym (in_one _ a h) ∙ ap (λ h. shape.Bar (colour view.id) (column c it.place.id - 4) (y it.turn) 8 h) (high (row_after c part it.turn.earlier) (height c it.turn.now));
     }
 
     of_lock : (it : Up s part) → Contains (map (lock_of c (y it.turn) (end it.turn) it.place.id) (refreshing it.site)) a → IsLock s part a
@@ -80,7 +80,7 @@ module _ (s : Schedule) (part : Part) where
           is =
               sym lock.2
               ∙ ap (λ rec. lock_of c (y it.turn) (end it.turn) it.place.id rec) (sym copy.2)
-              ∙ ap (λ h. shape.Bar 12 (column c it.place.id - 8 - 4 * (copy.0.rec % 8)) (y it.turn) 3 h) (high (row_after c part it.turn.earlier) (height it.turn.now));
+              ∙ ap (λ h. shape.Bar 12 (column c it.place.id - 8 - 4 * (copy.0.rec % 8)) (y it.turn) 3 h) (high (row_after c part it.turn.earlier) (height c it.turn.now));
         }
 
     of_site : (it : Up s part) → Contains (bars_of it.turn it.place.id (look_of (Some it.site))) a → IsOfSite a
@@ -90,7 +90,7 @@ module _ (s : Schedule) (part : Part) where
         let bar = option_to_list (bar_in x (y it.turn) (end it.turn) (held_id it.site.held)) in
         let locks = map (lock_of c (y it.turn) (end it.turn) it.place.id) (refreshing it.site) in
         ⊎_elim
-        (λ here. inl (record { it = it; is = sym (in_one life a here) ∙ ap (λ e. shape.Line ink.Life x (y it.turn) x e) (ends (row_after c part it.turn.earlier) (height it.turn.now)) }))
+        (λ here. inl (record { it = it; is = sym (in_one life a here) ∙ ap (λ e. shape.Line ink.Life x (y it.turn) x e) (ends (row_after c part it.turn.earlier) (height c it.turn.now)) }))
         (λ rest. ⊎_elim (λ here. inr (inl (of_held it it.site.held refl here))) (λ here. inr (inr (of_lock it here))) (Contains-append_cases bar locks a rest))
         (Contains-append_cases (life ∷ []) (bar ++ locks) a h)
 
@@ -132,7 +132,7 @@ module _ (s : Schedule) (part : Part) where
   life_there a life =
       let it = life.it in
       let x = column c it.place.id in
-      let same : shape.Line ink.Life x (y it.turn) x (end it.turn) ≡ a = ap (λ e. shape.Line ink.Life x (y it.turn) x e) (ends (row_after c part it.turn.earlier) (height it.turn.now)) ∙ sym life.is in
+      let same : shape.Line ink.Life x (y it.turn) x (end it.turn) ≡ a = ap (λ e. shape.Line ink.Life x (y it.turn) x e) (ends (row_after c part it.turn.earlier) (height c it.turn.now)) ∙ sym life.is in
       site_there it a (subst (Contains (bars_of it.turn it.place.id (look_of (Some it.site)))) same (in_first (shape.Line ink.Life x (y it.turn) x (end it.turn)) _))
 
   pub bar_there : (a : Shape) → IsBar s part a → Contains (of ms).bars a
@@ -144,7 +144,7 @@ module _ (s : Schedule) (part : Part) where
       let bars = option_to_list (bar_in x (y it.turn) (end it.turn) (held_id it.site.held)) in
       let same : bars ≡ a ∷ [] =
       ap (λ held. option_to_list (bar_in x (y it.turn) (end it.turn) (held_id held))) bar.held
-      ∙ ap (λ a. a ∷ []) (ap (λ h. shape.Bar (colour bar.view.id) (x - 4) (y it.turn) 8 h) (high (row_after c part it.turn.earlier) (height it.turn.now)) ∙ sym bar.is) in
+      ∙ ap (λ a. a ∷ []) (ap (λ h. shape.Bar (colour bar.view.id) (x - 4) (y it.turn) 8 h) (high (row_after c part it.turn.earlier) (height c it.turn.now)) ∙ sym bar.is) in
       site_there it a (Contains-append_right (life ∷ []) (bars ++ locks) a (Contains-append_left bars locks a (subst (λ (l : List Shape). Contains l a) (sym same) (in_first a []))))
 
   pub lock_there : (a : Shape) → IsLock s part a → Contains (of ms).bars a
@@ -155,7 +155,7 @@ module _ (s : Schedule) (part : Part) where
       let one = lock_of c (y it.turn) (end it.turn) it.place.id in
       let locks = map one (refreshing it.site) in
       let bars = option_to_list (bar_in x (y it.turn) (end it.turn) (held_id it.site.held)) in
-      let same : one lock.refreshing.rec ≡ a = ap (λ h. shape.Bar 12 (x - 8 - 4 * (lock.refreshing.rec % 8)) (y it.turn) 3 h) (high (row_after c part it.turn.earlier) (height it.turn.now)) ∙ sym lock.is in
+      let same : one lock.refreshing.rec ≡ a = ap (λ h. shape.Bar 12 (x - 8 - 4 * (lock.refreshing.rec % 8)) (y it.turn) 3 h) (high (row_after c part it.turn.earlier) (height c it.turn.now)) ∙ sym lock.is in
       site_there it a
       (Contains-append_right (life ∷ []) (bars ++ locks) a
       (Contains-append_right bars locks a (subst (Contains locks) same (map_in one (refreshing it.site) lock.refreshing.rec (map_in (λ (r : Refreshing). r.rec) it.site.refresh lock.refreshing lock.listed)))))

@@ -15,3 +15,4 @@ pub mod Texts
 pub mod Whole
 pub mod Ending
 pub mod Numbers
+pub mod Counting

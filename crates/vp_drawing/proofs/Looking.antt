@@ -5,14 +5,15 @@ use Rattle.std.specs.List.{position, slice_index_or, slice_set}
 use Rattle.std.proofs.lemmas.Bool.Decides.{nat_tests}
 use Rattle.std.proofs.lemmas.List.{map-append, take_all, take_more}
 use Rattle.vp_lists.proofs.Found.{changed_some}
-use Rattle.vp_model.specs.Types.{View, ViewId}
+use Rattle.vp_model.specs.Types.{ViewId}
 use Rattle.vp_model.specs.Words.{same_view}
 use Rattle.vp_model.specs.Catalogue.{Catalogue, sites_of}
 use Rattle.vp_model.specs.Site.{SiteState}
 use Rattle.vp_model.specs.Step.{start}
 use Rattle.vp_model.specs.World.{Place, change_place, place_of, start_place, start_world}
+use Rattle.vp_pictures.specs.declared.sheet.Held.{Held}
 use Rattle.vp_pictures.specs.declared.sheet.Look.{Look}
-use Rattle.vp_drawing.specs.Looks.{first_look, held_id, newly_joined, look_of, looks_after, looks_in, looks_of}
+use Rattle.vp_drawing.specs.Looks.{first_look, noted, look_of, looks_after, looks_in, looks_of}
 
 -- ---- a place that changes
 
@@ -49,10 +50,10 @@ same_number n = grind (arith, nat_tests)
 pub same_self : (v : ViewId) → same_view v v ≡ true
 same_self v = rw (same_number v.number, same_number v.site) refl
 
--- whoever goes on to hold what it held joins nothing
-pub joined_none : (held : Option View) → newly_joined (held_id held) held ≡ None
-joined_none None = refl
-joined_none (Some v) = rw (same_self v.id) refl
+-- nothing is noted of whoever goes on to hold what it held
+pub noted_none : (held : Option Held) → noted held held ≡ None
+noted_none None = refl
+noted_none (Some held) = rw (same_self held.view.id, same_number held.usable, same_number held.asked) refl
 
 -- ---- the beginning
 

@@ -2,7 +2,7 @@
 use Rattle.std.proofs.Common.{◌≡◌, ◌∙◌, ℕ, ◌+◌, ◌<◌, ◌≤◌, List, length, refl, sym, ap, arith}
 use Rattle.std.specs.Prelude.{◌≢◌, nat_lt, if◌then◌else◌, Option, Some, None, IfSome, Result, Ok, Err}
 use Rattle.std.proofs.lemmas.Bool.Decides.{nat_tests}
-use Rattle.vp_model.specs.Types.{Counted, Effects, Event, Input, Line, View}
+use Rattle.vp_model.specs.Types.{Counted, Effects, Event, Input, Line}
 use Rattle.vp_model.specs.Types.counted
 use Rattle.vp_model.specs.Catalogue.{Catalogue}
 use Rattle.vp_model.specs.Limits.{exceeded, refused, world_limits}
@@ -10,6 +10,7 @@ use Rattle.vp_model.specs.Site.{SiteState, Stepped}
 use Rattle.vp_model.specs.Step.{step}
 use Rattle.vp_model.specs.World.{WorldState, Moment, moment, next}
 use Rattle.vp_pictures.specs.Steps.{draw_line}
+use Rattle.vp_pictures.specs.declared.sheet.Held.{Held}
 use Rattle.vp_pictures.specs.declared.sheet.Look.{Look}
 use Rattle.vp_pictures.specs.declared.sheet.Sheet.{Sheet}
 use Rattle.vp_world.specs.Asked.{Asked}
@@ -21,7 +22,7 @@ use Rattle.vp_world.specs.declared.end.WorldEnd.TheVariants as world_end
 use Rattle.vp_drawing.specs.Drawings.{DrawsMoment, IsDrawing, WithinMessages}
 use Rattle.vp_drawing.specs.Limits.{end_of, picture_limits}
 use Rattle.vp_drawing.specs.Looks.{looks_of}
-use Rattle.vp_drawing.specs.Moments.{joined_in}
+use Rattle.vp_drawing.specs.Moments.{noted_in}
 use Rattle.vp_drawing.specs.Watching.{MayWatch, Watched, Watches, watch_step}
 use Rattle.vp_drawing.specs.declared.drawing.Drawing.{Drawing}
 use Rattle.vp_drawing.specs.declared.end.DrawingEnd.{DrawingEnd}
@@ -51,9 +52,9 @@ not_many steps count few less = grind (arith, nat_tests, few, less)
 one_more : (steps : ℕ) → steps ≤ 2000 → steps ≢ 2000 → steps + 1 ≤ 2000
 one_more steps few room = omega (arith, few, room)
 
-pub drawn_same : (n : ℕ) (catalogue catalogue' : Catalogue) (line line' : Line) (looks looks' : List (ℕ × Look)) (joined joined' : Option View) (sheet : Sheet) → catalogue ≡ catalogue' → line ≡ line' → looks ≡ looks' → joined ≡ joined'
-    → draw_line catalogue n line looks joined sheet ≡ draw_line catalogue' n line' looks' joined' sheet
-drawn_same n catalogue catalogue' line line' looks looks' joined joined' sheet c l k j = rw (c, l, k, j) refl
+pub drawn_same : (n : ℕ) (catalogue catalogue' : Catalogue) (line line' : Line) (looks looks' : List (ℕ × Look)) (noted noted' : Option Held) (sheet : Sheet) → catalogue ≡ catalogue' → line ≡ line' → looks ≡ looks' → noted ≡ noted'
+    → draw_line catalogue n line looks noted sheet ≡ draw_line catalogue' n line' looks' noted' sheet
+drawn_same n catalogue catalogue' line line' looks looks' noted noted' sheet c l k j = rw (c, l, k, j) refl
 
 module _ (catalogue : Catalogue) (n : ℕ) (e : Event) (w : WorldState) (old : Drawing) (is : IsDrawing (record { catalogue = catalogue; world = w }) old) where
   abbrev now : Moment
@@ -76,7 +77,7 @@ module _ (catalogue : Catalogue) (n : ℕ) (e : Event) (w : WorldState) (old : D
     world_ends A (world_end.Limit what limit) new h = limits_nest (next catalogue e w).world.steps (length (next catalogue e w).world.sent) what few_steps h.0
 
     -- the step is done and drawn, and there may be too many messages now
-    pub step_ends : (new : Drawing) → new.steps ≡ old.steps + 1 → new.watch.catalogue ≡ catalogue → new.watch.looks ≡ looks_of (next catalogue e w).world → new.sheet ≡ draw_line catalogue n now.line (looks_of (next catalogue e w).world) (joined_in now) old.sheet
+    pub step_ends : (new : Drawing) → new.steps ≡ old.steps + 1 → new.watch.catalogue ≡ catalogue → new.watch.looks ≡ looks_of (next catalogue e w).world → new.sheet ≡ draw_line catalogue n now.line (looks_of (next catalogue e w).world) (noted_in catalogue now) old.sheet
         → (known : Known) → known ≡ record { catalogue = catalogue; world = (next catalogue e w).world } → (result : Result Known DrawingEnd) → WithinMessages known result → DrawsMoment catalogue now result old new
     step_ends new steps same looks sheet known k (Ok kept) within =
         let few : length (next catalogue e w).world.sent ≤ 20000 = rw k at within.1 in
@@ -92,8 +93,8 @@ module _ (catalogue : Catalogue) (n : ℕ) (e : Event) (w : WorldState) (old : D
     step_ends new steps same looks sheet known k (Err end.NoMemory) within = absurd within
 
 -- what is awaited before a step
-pub awaits : (catalogue : Catalogue) (e : Event) (w : WorldState) (site : Option ℕ) (old waiting : Watched) → old.catalogue ≡ catalogue → old.looks ≡ looks_of w → site ≡ taker_now e w → waiting ≡ record old { taker = site; joined = None } → Awaits catalogue (taker_now e w) w waiting
-awaits catalogue e w site old waiting same looks taken is = record { catalogue_is = rw is same; taker_is = rw is taken; looks_are = rw is looks; joined_is = rw is refl }
+pub awaits : (catalogue : Catalogue) (e : Event) (w : WorldState) (site : Option ℕ) (old waiting : Watched) → old.catalogue ≡ catalogue → old.looks ≡ looks_of w → site ≡ taker_now e w → waiting ≡ record old { taker = site; noted = None } → Awaits catalogue (taker_now e w) w waiting
+awaits catalogue e w site old waiting same looks taken is = record { catalogue_is = rw is same; taker_is = rw is taken; looks_are = rw is looks; noted_is = rw is refl }
 
 -- what is watched of a site's own step
 pub step_watched : (old new : Watched) (e : Event) (site : SiteState) (given : Input) (after : SiteState) (effects : Effects) (catalogue : Catalogue) → catalogue ≡ old.catalogue → record { site = after; effects = effects } ≡ step catalogue site given

@@ -5,7 +5,7 @@ use Rattle.std.specs.Fmt.{decimal}
 use Rattle.std.specs.List.{Contains}
 use Rattle.std.specs.Option.{option_map_or}
 use Rattle.std.proofs.lemmas.List.{length-map}
-use Rattle.vp_model.specs.Types.{Commit, Event, Reply, Sent, Shown, View}
+use Rattle.vp_model.specs.Types.{Commit, Event, Reply, Sent, Shown}
 use Rattle.vp_model.specs.Types.event
 use Rattle.vp_model.specs.Types.shown
 use Rattle.vp_model.specs.Catalogue.{Catalogue}
@@ -25,7 +25,7 @@ use Rattle.vp_pictures.specs.declared.sheet.Mark.{Mark}
 use Rattle.vp_pictures.specs.declared.sheet.Part.{Part}
 use Rattle.vp_pictures.specs.declared.sheet.Sheet.{Sheet}
 use Rattle.vp_drawing.specs.Claims.{Falls, HasRows}
-use Rattle.vp_drawing.specs.Moments.{draw_moment, draw_moments, joined_in}
+use Rattle.vp_drawing.specs.Moments.{draw_moment, draw_moments, noted_in}
 use Rattle.vp_drawing.specs.Rows.{Sending, Turn, base, effects, height, height_in, row_after}
 use Rattle.vp_drawing.proofs.Adding.{Said, commit_said, effects_count, message_count, message_said, one, reply_said, rows, said_count, said_in, shown_said, texts_in, turned, view_said, x_in}
 use Rattle.vp_drawing.proofs.Layers.{layer}
@@ -96,10 +96,10 @@ falls_rows r (t ∷ l) =
     falls_text t.kind t.x (base r) (base (r + length (t ∷ l))) t.words (rows (r + 1) l)
     (subst (λ y. Falls y (base (r + length (t ∷ l))) (rows (r + 1) l)) (omega arith) (subst (λ end. Falls (base (r + 1)) (base end) (rows (r + 1) l)) (omega arith) (falls_rows (r + 1) l)))
 
-falls_in : (catalogue : Catalogue) (m : Moment) (s : Sheet) → Falls (base s.lines) (base (s.lines + height_in s.part m)) (texts_in catalogue m s)
+falls_in : (catalogue : Catalogue) (m : Moment) (s : Sheet) → Falls (base s.lines) (base (s.lines + height_in catalogue s.part m)) (texts_in catalogue m s)
 falls_in catalogue m s = go (is_drawn s.part m.number)
   where
-    go : (b : Bool) → Falls (base s.lines) (base (s.lines + (if b then height m else 0))) (if b then shape.Text ink.Faint 4 (top s.lines + 13) (decimal m.number) ∷ rows s.lines (said_in catalogue m s) else [])
+    go : (b : Bool) → Falls (base s.lines) (base (s.lines + (if b then height catalogue m else 0))) (if b then shape.Text ink.Faint 4 (top s.lines + 13) (decimal m.number) ∷ rows s.lines (said_in catalogue m s) else [])
     go true = subst (λ n. Falls (base s.lines) (base (s.lines + n)) (rows s.lines (said_in catalogue m s))) (said_count catalogue m s) (falls_rows s.lines (said_in catalogue m s))
     go false = omega arith
 
@@ -216,7 +216,7 @@ module _ (s : Schedule) (part : Part) where
     shown_in = shown_said c (x_in c t.now before) (length before.marks) t.now.line.shown
 
     abbrev view_in : List Said
-    view_in = view_said c (x_in c t.now before) (joined_in t.now)
+    view_in = view_said c (x_in c t.now before) (noted_in c t.now)
 
     below : (j : ℕ) (it : Said) → slice_get (shown_in ++ view_in) j ≡ Some it → (r : ℕ) → row + 1 + j ≡ r → There r it.kind it.words
     below j it e r same = said_there (suc j) it e r (omega (arith, same))
@@ -228,11 +228,11 @@ module _ (s : Schedule) (part : Part) where
         let n = length before.marks in
         below 0 (one x (idle_kind what) (idle_words what)) (get_left shown_in view_in 0 (one x (idle_kind what) (idle_words what)) (reason_at c x n what none)) (row + 1) (omega arith)
 
-    pub view_there : (view : View) → joined_in t.now ≡ Some view → There (row + 1 + effects t.now.line.shown) ink.View (view_words c view)
+    pub view_there : (held : Held) → noted_in c t.now ≡ Some held → There (row + 1 + effects t.now.line.shown) ink.View (view_words c held)
     view_there view e =
-        let it = one (x_in c t.now before) ink.View (view_words c view) in
+        let it = one (x_in c t.now before) ink.View (view_words c held) in
         let count = effects_count c (x_in c t.now before) (length before.marks) t.now.line.shown in
-        below (effects t.now.line.shown) it (get_right shown_in view_in 0 (effects t.now.line.shown) (omega (arith, count)) ∙ ap (λ joined. slice_get (view_said c (x_in c t.now before) joined) 0) e)
+        below (effects t.now.line.shown) it (get_right shown_in view_in 0 (effects t.now.line.shown) (omega (arith, count)) ∙ ap (λ noted. slice_get (view_said c (x_in c t.now before) noted) 0) e)
         (row + 1 + effects t.now.line.shown) refl
 
     module _ (commits : List Commit) (first : ℕ) (messages : List Sent) (replies : List Reply) (did : t.now.line.shown ≡ shown.Step commits first messages replies) where

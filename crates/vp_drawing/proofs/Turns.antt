@@ -63,12 +63,12 @@ module _ (catalogue : Catalogue) where
   part_stays [] s = refl
   part_stays (m ∷ ms) s = part_stays ms (draw_moment catalogue m s) ∙ (turned catalogue m s).part_is
 
-  pub lines_more : (ms : List Moment) (s : Sheet) → (draws ms s).lines ≡ s.lines + sum_by (height_in s.part) ms
+  pub lines_more : (ms : List Moment) (s : Sheet) → (draws ms s).lines ≡ s.lines + sum_by (height_in catalogue s.part) ms
   lines_more [] s = omega arith
   lines_more (m ∷ ms) s =
       let one = (turned catalogue m s).lines_are in
-      let more = lines_more ms (draw_moment catalogue m s) ∙ ap (λ p. (draw_moment catalogue m s).lines + sum_by (height_in p) ms) (turned catalogue m s).part_is in
-      let sum = sum_by-cons (height_in s.part) m ms in
+      let more = lines_more ms (draw_moment catalogue m s) ∙ ap (λ p. (draw_moment catalogue m s).lines + sum_by (height_in catalogue p) ms) (turned catalogue m s).part_is in
+      let sum = sum_by-cons (height_in catalogue s.part) m ms in
       omega (arith, one, more, sum)
 
 -- ---- the head
@@ -176,7 +176,7 @@ module _ (catalogue : Catalogue) where
     pub lines_so : (ms : List Moment) → (draw_moments catalogue ms top_sheet).lines ≡ row_after catalogue part ms
     lines_so ms =
         let rows = top_tops.lines_are in
-        let all = lines_more catalogue ms top_sheet ∙ ap (λ p. top_sheet.lines + sum_by (height_in p) ms) top_part in
+        let all = lines_more catalogue ms top_sheet ∙ ap (λ p. top_sheet.lines + sum_by (height_in catalogue p) ms) top_part in
         omega (arith, rows, all)
 
     pub part_so : (ms : List Moment) → (draw_moments catalogue ms top_sheet).part ≡ part

@@ -1,11 +1,15 @@
 -- What there is in the picture of a schedule, by its moments.
-use Rattle.std.specs.Prelude.{◌≡◌, ◌≤◌, ◌↔◌, ℕ, ◌+◌, ◌-◌, ◌*◌, ◌%◌, ◌==◌, Bool, true, false, ◌&&◌, ◌||◌, not, if◌then◌else◌, is_some, List, [], ◌∷◌, ◌++◌, slice_get, length, Some}
+use Rattle.std.specs.Prelude.{◌≡◌, ◌≤◌, ◌<◌, ◌↔◌, ℕ, ◌+◌, ◌-◌, ◌*◌, ◌%◌, ◌==◌, Bool, true, false, ◌&&◌, ◌||◌, not, if◌then◌else◌, is_some, List, [], ◌∷◌, ◌++◌, slice_get, length, Some}
 use Rattle.std.specs.Fmt.{decimal}
 use Rattle.std.specs.List.{Contains}
-use Rattle.vp_model.specs.Types.{Commit, Refreshing, Reply, Sent, View}
+use Rattle.vp_model.specs.Types.{Commit, Live, Pending, Refreshing, Reply, Sent, TxnId, View}
+use Rattle.vp_model.specs.Types.answer
+use Rattle.vp_model.specs.Types.call
 use Rattle.vp_model.specs.Types.event
 use Rattle.vp_model.specs.Types.shown
-use Rattle.vp_model.specs.Site.{SiteState}
+use Rattle.vp_model.specs.Calls.{new_call, read}
+use Rattle.vp_model.specs.Catalogue.{Catalogue, find_record}
+use Rattle.vp_model.specs.Site.{Lent, SiteState, lent_reply}
 use Rattle.vp_model.specs.World.{Moment, Place, Schedule, WorldState, is_cut, moments_of, site_of}
 use Rattle.vp_model.specs.Texts.Answers.{answer_text}
 use Rattle.vp_model.specs.Texts.Calls.{event_text}
@@ -20,8 +24,10 @@ use Rattle.vp_pictures.specs.declared.shape.Ink.{Ink}
 use Rattle.vp_pictures.specs.declared.shape.Ink.TheVariants as ink
 use Rattle.vp_pictures.specs.declared.shape.Shape.{Shape}
 use Rattle.vp_pictures.specs.declared.shape.Shape.TheVariants as shape
+use Rattle.vp_pictures.specs.declared.sheet.Held.{Held}
 use Rattle.vp_pictures.specs.declared.sheet.Part.{Part}
-use Rattle.vp_drawing.specs.Moments.{blank, joined_in, sheet_of}
+use Rattle.vp_drawing.specs.Counts.{held_of, is_asked, is_refreshed, is_usable}
+use Rattle.vp_drawing.specs.Moments.{blank, noted_in, sheet_of}
 use Rattle.vp_drawing.specs.Rows.{Sending, Turn, base, effects, height, middle, row_after, row_sent}
 
 -- the shape is in the picture
@@ -111,7 +117,7 @@ module _ (s : Schedule) (part : Part) where
   begins it = top (row_after s.catalogue part it.turn.earlier)
 
   abbrev pub high : Up → ℕ
-  high it = 18 * height it.turn.now
+  high it = 18 * height s.catalogue it.turn.now
 
   -- Its lifeline.
   pub record IsLife (life : Shape) : Type 0 where
@@ -166,7 +172,7 @@ module _ (s : Schedule) (part : Part) where
           → Says row ink.Event (arrival_words k (message_text s.catalogue x.sent.message))
       pub reason_is : (idle_words turn.now.line.shown ≡ [] → ⊥) → Says (row + 1) (idle_kind turn.now.line.shown) (idle_words turn.now.line.shown)
 
-    -- Below it each commit, each message and each reply of its step, in this order, and last the view that is joined.
+    -- Below it each commit, each message and each reply of its step, in this order, and last the view that is held from there on.
     module _ (commits : List Commit) (first : ℕ) (messages : List Sent) (replies : List Reply) where
       pub record HasOutcomes : Type 0 where
         pub commits_are : (i : ℕ) (commit : Commit) → slice_get commits i ≡ Some commit → Says (row + 1 + i) ink.Commit (commit_words commit)
@@ -175,8 +181,8 @@ module _ (s : Schedule) (part : Part) where
         pub replies_are : (i : ℕ) (reply : Reply) → slice_get replies i ≡ Some reply
             → Says (row + 1 + length commits + length messages + i) (if refuses reply.answer then ink.Refusal else ink.Reply) (answer_text reply.answer)
 
-    abbrev pub HasView : View → Type 0
-    HasView view = Says (row + 1 + effects turn.now.line.shown) ink.View (view_words s.catalogue view)
+    abbrev pub HasView : Held → Type 0
+    HasView held = Says (row + 1 + effects turn.now.line.shown) ink.View (view_words s.catalogue held)
 
 -- This holds of each moment of a schedule in the part that is drawn.
 pub record OutcomesAreDrawn : Type 0 where
@@ -185,7 +191,7 @@ pub record OutcomesAreDrawn : Type 0 where
       → (commits : List Commit) (first : ℕ) (messages : List Sent) (replies : List Reply) → turn.now.line.shown ≡ shown.Step commits first messages replies
       → HasOutcomes s part turn commits first messages replies
   pub views : (s : Schedule) (part : Part) (turn : Turn (moments_of s)) → is_drawn part turn.now.number ≡ true
-      → (view : View) → joined_in turn.now ≡ Some view → HasView s part turn view
+      → (held : Held) → noted_in s.catalogue turn.now ≡ Some held → HasView s part turn held
 
 -- From this height on to that one each text is at least a row below the one before it; the number of an event is beside its text.
 abbrev pub Falls : ℕ → ℕ → List Shape → Type 0
@@ -203,3 +209,35 @@ pub record HasRows (s : Schedule) (part : Part) : Type 0 where
 
 abbrev pub TextsAreApart : Type 0
 TextsAreApart = (s : Schedule) (part : Part) → HasRows s part
+
+-- ---- records
+
+-- this view and its numbers are those of the site that holds it after the moment
+pub record HasHeld (catalogue : Catalogue) (m : Moment) (held : Held) : Type 0 where
+  pub id : ℕ
+  pub site : SiteState
+  pub is_up : site_of m.after id ≡ Some site
+  pub is_held : held_of catalogue site ≡ Some held
+
+abbrev pub is_counted : Catalogue → SiteState → ℕ → Bool
+is_counted catalogue site rec = is_usable catalogue site rec || is_asked catalogue site rec
+
+-- A new read of a record by a transaction that has calls left is done at the site, or is answered `inaccessible` there, with two weights.
+module _ (catalogue : Catalogue) (site : SiteState) (rec : ℕ) (txn : TxnId) (name : List ℕ) (t : Live) (p : Pending) (l : Lent) where
+  abbrev pub read_of : Lent
+  read_of = new_call catalogue site.id site.held t p (call.Read txn p.number name) l
+
+  abbrev pub IsDone : Type 0
+  IsDone = read_of ≡ read catalogue site.id site.held t p name rec l
+
+  abbrev pub IsInaccessible : Type 0
+  IsInaccessible = (inside : ℕ) × (total : ℕ) × (read_of ≡ lent_reply (answer.Inaccessible t.txn p.number name inside total) p.port l)
+
+-- The numbers of a view that is noted are those of its site. A record whose copy isn't under refresh there is counted exactly where a read
+-- of it is not answered `inaccessible` for weights.
+pub record RecordsAreCounted : Type 0 where
+  pub numbers : (s : Schedule) (turn : Turn (moments_of s)) (held : Held) → noted_in s.catalogue turn.now ≡ Some held → HasHeld s.catalogue turn.now held
+  pub reads : (catalogue : Catalogue) (site : SiteState) (rec : ℕ) → is_refreshed site rec ≡ false
+      → (txn : TxnId) (name : List ℕ) → find_record catalogue name ≡ Some rec
+      → (t : Live) → length t.answers < 64 → (p : Pending) (l : Lent) → l.here ≡ site.here
+      → if is_counted catalogue site rec then IsDone catalogue site rec txn name t p l else IsInaccessible catalogue site rec txn name t p l

@@ -1,3 +1,4 @@
+pub mod Counts
 pub mod Looks
 pub mod Watching
 pub mod Moments

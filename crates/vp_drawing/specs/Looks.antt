@@ -1,10 +1,12 @@
 -- How the sites of a world look: up or down, which view each holds, and which of its copies are under refresh.
 use Rattle.std.specs.Prelude.{ℕ, ◌==◌, true, false, if◌then◌else◌, List, [], Option, Some, None, map, option_map}
 use Rattle.vp_model.specs.Types.{Refreshing, View, ViewId}
-use Rattle.vp_model.specs.Words.{change_first, opening, same_view}
+use Rattle.vp_model.specs.Words.{change_first, opening}
 use Rattle.vp_model.specs.Site.{SiteState}
 use Rattle.vp_model.specs.World.{Place, WorldState}
+use Rattle.vp_pictures.specs.declared.sheet.Held.{Held}
 use Rattle.vp_pictures.specs.declared.sheet.Look.{Look}
+use Rattle.vp_drawing.specs.Counts.{same_held}
 
 abbrev pub held_id : Option View → Option ViewId
 held_id held = option_map (λ (view : View). view.id) held
@@ -28,11 +30,11 @@ looks_of w = looks_in w.places
 abbrev pub first_look : Look
 first_look = record { up = true; held = Some opening; refreshing = [] }
 
--- the view that is held now, if another one or none was held before
-abbrev pub newly_joined : Option ViewId → Option View → Option View
-newly_joined before None = None
-newly_joined None (Some view) = Some view
-newly_joined (Some old) (Some view) = if same_view old view.id then None else Some view
+-- the view that is held now, if another one or none was held before, or other numbers of records could be used in it
+abbrev pub noted : Option Held → Option Held → Option Held
+noted before None = None
+noted None (Some held) = Some held
+noted (Some old) (Some held) = if same_held old held then None else Some held
 
 -- ---- what changes
 

@@ -8,7 +8,7 @@ use Rattle.vp_model.specs.World.{Moment}
 use Rattle.vp_pictures.specs.Places.{top}
 use Rattle.vp_pictures.specs.Steps.{is_drawn}
 use Rattle.vp_pictures.specs.declared.sheet.Part.{Part}
-use Rattle.vp_drawing.specs.Moments.{joined_in}
+use Rattle.vp_drawing.specs.Moments.{noted_in}
 
 -- one of these moments, between those before it and those after it
 pub record Turn (moments : List Moment) : Type 0 where
@@ -36,16 +36,16 @@ effects (shown.Step commits first messages replies) = length commits + length me
 effects shown.Nothing = 0
 effects _ = 1
 
--- the rows of a moment: for its event, for what it did, and for the view that is joined by it
-abbrev pub height : Moment → ℕ
-height m = 1 + effects m.line.shown + (if is_some (joined_in m) then 1 else 0)
+-- the rows of a moment: for its event, for what it did, and for the view that its site holds from there on
+abbrev pub height : Catalogue → Moment → ℕ
+height catalogue m = 1 + effects m.line.shown + (if is_some (noted_in catalogue m) then 1 else 0)
 
-abbrev pub height_in : Part → Moment → ℕ
-height_in part m = if is_drawn part m.number then height m else 0
+abbrev pub height_in : Catalogue → Part → Moment → ℕ
+height_in catalogue part m = if is_drawn part m.number then height catalogue m else 0
 
 -- the first row below the head and these moments: the head has a row for the sites, one for each record, and two more
 abbrev pub row_after : Catalogue → Part → List Moment → ℕ
-row_after catalogue part moments = length catalogue.records + 3 + sum_by (height_in part) moments
+row_after catalogue part moments = length catalogue.records + 3 + sum_by (height_in catalogue part) moments
 
 -- the row of a message where it is sent: below the event and the commits, in its order; if that isn't drawn, the next row
 abbrev pub row_sent : {moments : List Moment} {k : ℕ} → Catalogue → Part → Sending moments k → ℕ

@@ -1,19 +1,20 @@
 -- What is kept of the sites by whoever does their steps.
 use Rattle.std.specs.Prelude.{◌≡◌, ℕ, List, Option, Some, None}
-use Rattle.vp_model.specs.Types.{View}
 use Rattle.vp_model.specs.Catalogue.{Catalogue}
 use Rattle.vp_model.specs.Site.{SiteState}
 use Rattle.vp_model.specs.Step.{step}
+use Rattle.vp_pictures.specs.declared.sheet.Held.{Held}
 use Rattle.vp_pictures.specs.declared.sheet.Look.{Look}
 use Rattle.vp_world.specs.Asked.{Asked}
-use Rattle.vp_drawing.specs.Looks.{held_id, newly_joined, look_of, looks_after, looked_at}
+use Rattle.vp_drawing.specs.Counts.{held_of}
+use Rattle.vp_drawing.specs.Looks.{noted, look_of, looks_after, looked_at}
 
--- the sites of this catalogue, the site whose step comes next, how each looks, and the view that the site of the last step joined
+-- the sites of this catalogue, the site whose step comes next, how each looks, and the view that the site of the last step holds from there on
 pub record Watched : Type 0 where
   pub catalogue : Catalogue
   pub taker : Option ℕ
   pub looks : List (ℕ × Look)
-  pub joined : Option View
+  pub noted : Option Held
 
 -- it watches the sites of its own catalogue
 abbrev pub MayWatch : Catalogue → Asked → Watched → Type 0
@@ -21,7 +22,7 @@ MayWatch catalogue asked w = catalogue ≡ w.catalogue
 
 abbrev pub watch_step : SiteState → SiteState → Watched → Watched
 watch_step before after w =
-    record w { looks = looked_at w.taker (look_of (Some after)) w.looks; joined = newly_joined (held_id before.held) after.held }
+    record w { looks = looked_at w.taker (look_of (Some after)) w.looks; noted = noted (held_of w.catalogue before) (held_of w.catalogue after) }
 
 abbrev pub watch_asked : Asked → Watched → Watched
 watch_asked (Asked.steps e site given) w = watch_step site (step w.catalogue site given).site w

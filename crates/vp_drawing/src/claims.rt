@@ -1,6 +1,6 @@
 //! What holds of the pictures that the definitions draw, as the contracts of functions that do nothing.
 
-ghost use Rattle.vp_drawing.specs.Claims.{ArrowsAreDrawn, BarsAreDrawn, OutcomesAreDrawn, ShapesAreWritten, StubsAreDrawn, TextsAreApart};
+ghost use Rattle.vp_drawing.specs.Claims.{ArrowsAreDrawn, BarsAreDrawn, OutcomesAreDrawn, RecordsAreCounted, ShapesAreWritten, StubsAreDrawn, TextsAreApart};
 ghost use Rattle.vp_drawing.specs.Worked.{PictureIsWorked};
 
 /// Each shape of a picture is written in its text.
@@ -27,6 +27,12 @@ pub fn bars_are_drawn()
 /// to row, in this order.
 pub fn outcomes_are_drawn()
     ensures { OutcomesAreDrawn }
+{}
+
+/// The numbers of records that are written with a view are those of the site that holds it: a record whose copy isn't under refresh is
+/// counted there exactly where a read of it is not answered `inaccessible` for weights.
+pub fn records_are_counted()
+    ensures { RecordsAreCounted }
 {}
 
 /// Each text is on a row below that of the text before it, but for those of the head and the numbers at the left.

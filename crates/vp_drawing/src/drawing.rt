@@ -54,13 +54,13 @@ impl Drawing {
         self.watch.await_step(world.taker(event)?);
         let step = world.next_by(event, &mut self.watch)?;
         let looks = self.watch.looks();
-        let joined = self.watch.joined();
+        let noted = self.watch.noted();
         let line = LentLine {
             event,
             shown: step.shown(),
         };
         self.sheet
-            .draw(step.catalog(), number, &line, looks, joined)?;
+            .draw(step.catalog(), number, &line, looks, noted)?;
         self.steps += 1;
         within_messages(step.into_world()?)
     }

@@ -2,6 +2,7 @@
 #![tactic(auto)]
 
 mod claims;
+mod counts;
 mod drawing;
 mod end;
 mod picture;
@@ -10,7 +11,7 @@ mod watch;
 mod words;
 
 pub use claims::{
-    a_picture_is_worked, arrows_are_drawn, bars_are_drawn, outcomes_are_drawn, shapes_are_written,
-    stubs_are_drawn, texts_are_apart,
+    a_picture_is_worked, arrows_are_drawn, bars_are_drawn, outcomes_are_drawn, records_are_counted,
+    shapes_are_written, stubs_are_drawn, texts_are_apart,
 };
 pub use program::run;

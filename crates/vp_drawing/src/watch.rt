@@ -1,26 +1,27 @@
 //! Who does the steps of the sites of a world, and keeps how each site looks.
 
-ghost use Rattle.std.specs.Prelude.{◌≡◌, ◌==◌, ◌<◌, IfOk, IfSome, Some, length, option_copied};
+ghost use Rattle.std.specs.Prelude.{◌≡◌, ◌==◌, ◌<◌, IfOk, IfSome, Some, length};
 ghost use Rattle.std.specs.List.{position};
 ghost use Rattle.vp_model.specs.World.{start_world};
-ghost use Rattle.vp_drawing.specs.Looks.{first_look, held_id, newly_joined, look_of, looks_after, looked_at, looks_of, refreshing};
+ghost use Rattle.vp_drawing.specs.Looks.{first_look, held_id, look_of, looks_after, looked_at, looks_of, refreshing};
 
+use crate::counts::{held_of, noted};
 use std::alloc::Global;
 use std::marker::Model;
-use vp_base::{CopyOf, Effects, Event, NoMemory, OPENING, RecId, Seq, SiteId, View, ViewId};
+use vp_base::{Effects, Event, NoMemory, OPENING, RecId, Seq, SiteId, ViewId};
 use vp_catalog::Catalog;
-use vp_pictures::Look;
+use vp_pictures::{Held, Look};
 use vp_records::Durable;
 use vp_site::{Site, StartFault};
 use vp_world::{LentInput, PlainStepper, Stepper};
 
-/// How each site of a catalogue looks, and the view that the site of the last step joined by it.
+/// How each site of a catalogue looks, and the view that the site of the last step holds from there on, if that is to be said.
 #[derive(Drop)]
 pub struct Watch {
     catalog: Catalog,
     taker: Option<SiteId>,
     looks: Vec<(SiteId, Look)>,
-    joined: Option<View>,
+    noted: Option<Held>,
 }
 
 impl Model for Watch {
@@ -28,7 +29,7 @@ impl Model for Watch {
 
     ghost Value = { Watched };
 
-    ghost view = { λ w. record { catalogue = w.catalog; taker = w.taker; looks = w.looks.items; joined = w.joined } };
+    ghost view = { λ w. record { catalogue = w.catalog; taker = w.taker; looks = w.looks.items; noted = w.noted } };
 }
 
 /// How a site looks that begins its first life: it holds the opening view.
@@ -86,19 +87,6 @@ fn look_of(alloc: Global, site: &Site) -> Result<Look, NoMemory>
     })
 }
 
-/// The view that is held now, if another one or none was held before.
-fn newly_joined(before: Option<ViewId>, held: Option<&View>) -> Result<Option<View>, NoMemory>
-    ensures { IfOk result (λ view. view ≡ newly_joined before (option_copied held.entry)) }
-{
-    let Some(view) = held else {
-        return Ok(None);
-    };
-    if before == Some(view.id) {
-        return Ok(None);
-    }
-    Ok(Some(view.copy_of()?))
-}
-
 fn place_of(looks: &[(SiteId, Look)], site: SiteId) -> Option<usize>
     ensures place { result ≡ position (λ pair. pair.0 == site) looks.now }
     ensures within { IfSome result (λ i. i < length looks.now) }
@@ -120,14 +108,14 @@ fn set_look(looks: &mut [(SiteId, Look)], site: SiteId, look: Look)
 impl Watch {
     /// Watches the sites of a catalogue, which begin their first lives.
     pub fn begin(catalog: Catalog) -> Result<Watch, NoMemory>
-        ensures { IfOk result (λ w. w ≡ record { catalogue = catalog; taker = None; looks = looks_of (start_world catalog); joined = None }) }
+        ensures { IfOk result (λ w. w ≡ record { catalogue = catalog; taker = None; looks = looks_of (start_world catalog); noted = None }) }
     {
         let looks = first_looks(catalog.sites().allocator(), &catalog)?;
         Ok(Watch {
             catalog,
             taker: None,
             looks,
-            joined: None,
+            noted: None,
         })
     }
 
@@ -137,10 +125,10 @@ impl Watch {
 
     /// Waits for an event that is a step of this site, or of none.
     pub fn await_step(&mut self, taker: Option<SiteId>)
-        ensures { self.new ≡ record self.old { taker = taker; joined = None } }
+        ensures { self.new ≡ record self.old { taker = taker; noted = None } }
     {
         self.taker = taker;
-        self.joined = None;
+        self.noted = None;
     }
 
     /// How each site looks now.
@@ -150,11 +138,11 @@ impl Watch {
         &self.looks
     }
 
-    /// The view that the site of the last step joined by it.
-    pub fn joined(&self) -> &Option<View>
-        ensures { result.now ≡ self.now.joined }
+    /// The view that the site of the last step holds from there on; `None` where it held the same before.
+    pub fn noted(&self) -> &Option<Held>
+        ensures { result.now ≡ self.now.noted }
     {
-        &self.joined
+        &self.noted
     }
 
     /// Looks at the site whose step was awaited.
@@ -182,9 +170,9 @@ impl Stepper for Watch {
         site: Site,
         input: &LentInput,
     ) -> Result<(Site, Effects), NoMemory> {
-        let before = held_id(&site);
+        let before = held_of(catalog, &site)?;
         let (site, effects) = PlainStepper.step(catalog, event, site, input)?;
-        self.joined = newly_joined(before, site.held())?;
+        self.noted = noted(before, held_of(catalog, &site)?);
         let look = look_of(self.allocator(), &site)?;
         self.look_at_taker(look);
         Ok((site, effects))

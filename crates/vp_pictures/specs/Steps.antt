@@ -2,7 +2,7 @@
 use Rattle.std.specs.Prelude.{ℕ, ◌+◌, ◌-◌, ◌*◌, ◌%◌, Bool, true, false, ◌&&◌, ◌||◌, nat_le, if◌then◌else◌, List, [], ◌∷◌, ◌++◌, length, Option, Some, None, option_to_list}
 use Rattle.std.specs.Fmt.{decimal}
 use Rattle.std.specs.Option.{option_map_or}
-use Rattle.vp_model.specs.Types.{Answer, Commit, Event, Line, Reply, Sent, Shown, View, ViewId}
+use Rattle.vp_model.specs.Types.{Answer, Commit, Event, Line, Reply, Sent, Shown, ViewId}
 use Rattle.vp_model.specs.Types.answer
 use Rattle.vp_model.specs.Types.event
 use Rattle.vp_model.specs.Types.shown
@@ -18,6 +18,7 @@ use Rattle.vp_pictures.specs.declared.shape.Ink.{Ink}
 use Rattle.vp_pictures.specs.declared.shape.Ink.TheVariants as ink
 use Rattle.vp_pictures.specs.declared.shape.Shape.{Shape}
 use Rattle.vp_pictures.specs.declared.shape.Shape.TheVariants as shape
+use Rattle.vp_pictures.specs.declared.sheet.Held.{Held}
 use Rattle.vp_pictures.specs.declared.sheet.Look.{Look}
 use Rattle.vp_pictures.specs.declared.sheet.Mark.{Mark}
 use Rattle.vp_pictures.specs.declared.sheet.Part.{Part}
@@ -147,9 +148,9 @@ say_shown catalogue x shown.Nothing s = s
 say_shown catalogue x what s = say_idle x what s
 
 -- the view that the site of the step holds from here on
-unfoldable pub say_view : Catalogue → ℕ → Option View → Sheet → Sheet
+unfoldable pub say_view : Catalogue → ℕ → Option Held → Sheet → Sheet
 say_view catalogue x None s = s
-say_view catalogue x (Some view) s = add_text_line x ink.View (view_words catalogue view) s
+say_view catalogue x (Some held) s = add_text_line x ink.View (view_words catalogue held) s
 
 -- ---- the step
 
@@ -173,14 +174,14 @@ abbrev pub with_cut : Option Shape → Sheet → Sheet
 with_cut cut s = record s { arrows = s.arrows ++ option_to_list cut }
 
 -- a step that is drawn: each site as it is after it, from its first line to its last one
-unfoldable pub draw_step : Catalogue → ℕ → Line → List (ℕ × Look) → Option View → Sheet → Sheet
-draw_step catalogue number line looks joined s =
+unfoldable pub draw_step : Catalogue → ℕ → Line → List (ℕ × Look) → Option Held → Sheet → Sheet
+draw_step catalogue number line looks noted s =
     let x = event_x catalogue line.event s in
     s
     |> with_cut (cut_of catalogue (top s.lines + 18) line.event)
     |> say_event x number line.event
     |> say_shown catalogue x line.shown
-    |> say_view catalogue x joined
+    |> say_view catalogue x noted
     |> with_looks catalogue (top s.lines) looks
 
 -- a step that isn't drawn: its messages may come later
@@ -194,7 +195,7 @@ hide_messages catalogue _ s = s
 abbrev pub is_drawn : Part → ℕ → Bool
 is_drawn part number = nat_le part.from number && nat_le number part.to
 
-unfoldable pub draw_line : Catalogue → ℕ → Line → List (ℕ × Look) → Option View → Sheet → Sheet
-draw_line catalogue number line looks joined s =
+unfoldable pub draw_line : Catalogue → ℕ → Line → List (ℕ × Look) → Option Held → Sheet → Sheet
+draw_line catalogue number line looks noted s =
     let arrived = with_arrow catalogue (is_drawn s.part number) line.event line.shown s in
-    if is_drawn s.part number then draw_step catalogue number line looks joined arrived else hide_messages catalogue line.shown arrived
+    if is_drawn s.part number then draw_step catalogue number line looks noted arrived else hide_messages catalogue line.shown arrived

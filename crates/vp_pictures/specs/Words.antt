@@ -1,11 +1,12 @@
 -- The texts of a picture.
-use Rattle.std.specs.Prelude.{ℕ, zero, suc, ◌+◌, if◌then◌else◌, List, [], ◌∷◌, ◌++◌, length, sum_by, codes}
+use Rattle.std.specs.Prelude.{ℕ, ◌==◌, if◌then◌else◌, List, [], ◌∷◌, ◌++◌, length, sum_by, codes}
 use Rattle.std.specs.Fmt.{decimal}
 use Rattle.std.specs.List.{flat_map}
-use Rattle.vp_model.specs.Types.{Commit, Shown, View}
+use Rattle.vp_model.specs.Types.{Commit, Shown}
 use Rattle.vp_model.specs.Types.shown
-use Rattle.vp_model.specs.Catalogue.{Catalogue, RecordEntry, accessible}
+use Rattle.vp_model.specs.Catalogue.{Catalogue, RecordEntry}
 use Rattle.vp_model.specs.Texts.Fields.{view_text, txn_text}
+use Rattle.vp_pictures.specs.declared.sheet.Held.{Held}
 
 -- a message that comes, and one that is sent: its number, and its text
 abbrev pub arrival_words : ℕ → List ℕ → List ℕ
@@ -30,22 +31,19 @@ idle_words _ = []
 abbrev pub member_words : ℕ → List ℕ
 member_words site = 32 ∷ decimal site
 
--- how many of the first n records may be used in a view
-abbrev pub usable_below : Catalogue → List ℕ → ℕ → ℕ
-usable_below catalogue members zero = 0
-usable_below catalogue members (suc n) = usable_below catalogue members n + (if accessible catalogue n members then 1 else 0)
+-- of how many records the site asks others for their copies, if there are any
+abbrev pub asked_words : ℕ → List ℕ
+asked_words asked = if asked == 0 then [] else codes ", asks for " ++ decimal asked
 
-abbrev pub usable : Catalogue → View → ℕ
-usable catalogue view = usable_below catalogue view.members (length catalogue.records)
-
--- a view, with its members and how many records may be used in it
-abbrev pub view_words : Catalogue → View → List ℕ
-view_words catalogue view =
+-- a view that is held, with its members and how many records may be used in it
+abbrev pub view_words : Catalogue → Held → List ℕ
+view_words catalogue held =
     codes "view "
-    ++ (view_text view.id
+    ++ (view_text held.view.id
     ++ (codes ", members"
-    ++ (flat_map member_words view.members
-    ++ (codes ": may use " ++ (decimal (usable catalogue view) ++ (codes " of " ++ (decimal (length catalogue.records) ++ codes " records")))))))
+    ++ (flat_map member_words held.view.members
+    ++ (codes ": may use "
+    ++ (decimal held.usable ++ (codes " of " ++ (decimal (length catalogue.records) ++ (codes " records" ++ asked_words held.asked))))))))
 
 -- what the bars and the stubs of a picture are
 abbrev pub legend : List ℕ

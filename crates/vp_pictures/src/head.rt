@@ -12,7 +12,7 @@ ghost use Rattle.vp_pictures.specs.Pictures.{picture_text, size_text, stub, stub
 
 use crate::places::{column, edge, stub_end, top};
 use crate::shape::{Ink, Shape, print_attribute, print_shape, print_shapes};
-use crate::sheet::{Mark, Sheet};
+use crate::sheet::{Held, Mark, Sheet};
 use crate::words::{copied, numbered, view_words, weight_words};
 use vp_base::{CopyOf, NoMemory, SiteId, View, ViewId};
 use vp_catalog::{Catalog, CatalogRecord};
@@ -154,7 +154,12 @@ impl Sheet {
             id: OPENING,
             members: catalog.sites().copy_of()?,
         };
-        let text = view_words(self.texts.allocator(), catalog, &view)?;
+        let held = Held {
+            view,
+            usable: catalog.count() as u16,
+            asked: 0,
+        };
+        let text = view_words(self.texts.allocator(), catalog, &held)?;
         self.say(76, Ink::View, text)
     }
 

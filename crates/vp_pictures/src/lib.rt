@@ -11,4 +11,4 @@ mod step;
 mod words;
 
 pub use shape::{Ink, Shape};
-pub use sheet::{Look, Mark, Part, Sheet};
+pub use sheet::{Held, Look, Mark, Part, Sheet};

@@ -6,7 +6,7 @@ ghost use Rattle.vp_pictures.specs.Sheets.{mark_at, next_line, add_text_line, si
 use crate::places::top;
 use crate::shape::{Ink, Shape};
 use std::alloc::Global;
-use vp_base::{Event, NoMemory, RecId, Seq, SiteId, ViewId, Word};
+use vp_base::{Event, NoMemory, RecId, Seq, SiteId, View, ViewId, Word};
 
 /// The most bytes of a text.
 const MOST_BYTES: usize = 1_000_000;
@@ -24,6 +24,14 @@ pub struct Look {
     pub up: bool,
     pub held: Option<ViewId>,
     pub refreshing: Seq<RecId>,
+}
+
+/// A view that a site holds: how many records the site may use in it by its own copies, and for how many it asks other members.
+#[derive(Drop)]
+pub struct Held {
+    pub view: View,
+    pub usable: u16,
+    pub asked: u16,
 }
 
 /// A message that was sent: its number, the line on which it is drawn (or the next line, if it isn't drawn), from where to where it goes,

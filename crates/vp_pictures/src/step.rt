@@ -9,14 +9,14 @@ ghost use Rattle.vp_pictures.specs.Steps.{arrow_kind, arrow_of, bar_of, colour, 
 
 use crate::places::{column, edge, top};
 use crate::shape::{Ink, Shape};
-use crate::sheet::{Look, Mark, Sheet};
+use crate::sheet::{Held, Look, Mark, Sheet};
 use crate::words::{
     answer_words, arrival_words, commit_words, event_words, idle_words, message_words, numbered,
     sent_words, view_words,
 };
 use std::alloc::Global;
 use vp_base::{
-    Answer, Commit, Event, NoMemory, RecId, Reply, Sent, Shown, SiteId, View, ViewId, Word,
+    Answer, Commit, Event, NoMemory, RecId, Reply, Sent, Shown, SiteId, ViewId, Word,
 };
 use vp_catalog::Catalog;
 use vp_trace::LentLine;
@@ -167,8 +167,8 @@ impl Sheet {
         self.part.from <= number && number <= self.part.to
     }
 
-    /// Draws a step: the number of its event line, its line, how each site is after it, and the view that its site joins by it. Of a step
-    /// outside the part that is drawn only the messages are kept.
+    /// Draws a step: the number of its event line, its line, how each site is after it, and the view that its site holds from there on, if
+    /// that is to be said. Of a step outside the part that is drawn only the messages are kept.
     #[tactic(auto, unfolding(crate::specs::Steps::draw_line))]
     pub fn draw(
         &mut self,
@@ -176,14 +176,14 @@ impl Sheet {
         number: u32,
         line: &LentLine,
         looks: &[(SiteId, Look)],
-        joined: &Option<View>,
+        noted: &Option<Held>,
     ) -> Result<(), NoMemory>
-        ensures { OnOk result (self.new ≡ draw_line catalog.now number (line_of line.now) looks.now joined.now self.old) }
+        ensures { OnOk result (self.new ≡ draw_line catalog.now number (line_of line.now) looks.now noted.now self.old) }
     {
         let is_drawn = self.is_drawn(number);
         self.draw_delivery(catalog, is_drawn, line)?;
         if is_drawn {
-            self.draw_step(catalog, number, line, looks, joined)
+            self.draw_step(catalog, number, line, looks, noted)
         } else {
             self.hide(catalog, line.shown)
         }
@@ -263,16 +263,16 @@ impl Sheet {
         number: u32,
         line: &LentLine,
         looks: &[(SiteId, Look)],
-        joined: &Option<View>,
+        noted: &Option<Held>,
     ) -> Result<(), NoMemory>
-        ensures { OnOk result (self.new ≡ draw_step catalog.now number (line_of line.now) looks.now joined.now self.old) }
+        ensures { OnOk result (self.new ≡ draw_step catalog.now number (line_of line.now) looks.now noted.now self.old) }
     {
         let y = top(self.lines);
         let x = self.event_x(catalog, line.event);
         self.draw_arrow(cut_of(catalog, y + 18, line.event))?;
         self.say_event(x, number, line.event)?;
         self.say_shown(catalog, x, line.shown)?;
-        self.say_view(catalog, x, joined)?;
+        self.say_view(catalog, x, noted)?;
         self.draw_looks(catalog, y, looks)
     }
 
@@ -413,14 +413,14 @@ impl Sheet {
 
     /// Writes the view that a site holds from here on.
     #[tactic(auto, unfolding(crate::specs::Steps::say_view))]
-    fn say_view(&mut self, catalog: &Catalog, x: u64, joined: &Option<View>) -> Result<(), NoMemory>
+    fn say_view(&mut self, catalog: &Catalog, x: u64, noted: &Option<Held>) -> Result<(), NoMemory>
         requires { x ≤ 4300 }
-        ensures { OnOk result (self.new ≡ say_view catalog.now x joined.now self.old) }
+        ensures { OnOk result (self.new ≡ say_view catalog.now x noted.now self.old) }
     {
-        match joined {
+        match noted {
             None => Ok(()),
-            Some(view) => {
-                let text = view_words(self.alloc(), catalog, view)?;
+            Some(held) => {
+                let text = view_words(self.alloc(), catalog, held)?;
                 self.say(x, Ink::View, text)
             }
         }

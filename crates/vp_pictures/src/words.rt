@@ -6,10 +6,11 @@ ghost use Rattle.std.specs.List.{flat_map};
 ghost use Rattle.vp_model.specs.Texts.Answers.{answer_text};
 ghost use Rattle.vp_model.specs.Texts.Calls.{event_text};
 ghost use Rattle.vp_model.specs.Texts.Messages.{message_text};
-ghost use Rattle.vp_pictures.specs.Words.{arrival_words, commit_words, idle_words, member_words, sent_words, usable, view_words, weight_words};
+ghost use Rattle.vp_pictures.specs.Words.{arrival_words, commit_words, idle_words, asked_words, member_words, sent_words, view_words, weight_words};
 
+use crate::sheet::Held;
 use std::alloc::Global;
-use vp_base::{Answer, Commit, Event, Message, NoMemory, RecId, Shown, SiteId, View, Word};
+use vp_base::{Answer, Commit, Event, Message, NoMemory, Shown, SiteId, Word};
 use vp_catalog::{Catalog, CatalogRecord};
 use vp_text::print_number;
 use vp_trace::{print_answer, print_event, print_message};
@@ -126,33 +127,32 @@ fn print_member(site: SiteId, out: &mut Vec<u8>) -> Result<(), NoMemory>
     site.print(out)
 }
 
-/// Counts the records that may be used in a view.
-fn usable(catalog: &Catalog, view: &View) -> u16
-    ensures { result ≡ usable catalog.now view.now }
+/// Prints of how many records others are asked for their copies, if there are any.
+fn print_asked(asked: u16, out: &mut Vec<u8>) -> Result<(), NoMemory>
+    ensures { OnOk result (out.new.items ≡ out.old.items ++ asked_words asked) }
 {
-    let mut count = 0;
-    let records = catalog.count() as u16;
-    for place in 0..records {
-        if catalog.accessible(RecId::new(place as u8), &view.members) {
-            count += 1;
-        }
+    if asked == 0 {
+        return Ok(());
     }
-    count
+    out.extend_from_slice(b", asks for ")?;
+    print_number(out, u64::from(asked))?;
+    Ok(())
 }
 
-/// Prints a view: its members, and how many records may be used in it.
-pub fn view_words(alloc: Global, catalog: &Catalog, view: &View) -> Result<Word, NoMemory>
-    ensures { IfOk result (λ w. w ≡ view_words catalog.now view.now) }
+/// Prints a view that is held: its members, and how many records may be used in it.
+pub fn view_words(alloc: Global, catalog: &Catalog, held: &Held) -> Result<Word, NoMemory>
+    ensures { IfOk result (λ w. w ≡ view_words catalog.now held.now) }
 {
     let mut text = Vec::from_slice(alloc, b"view ")?;
-    view.id.print(&mut text)?;
+    held.view.id.print(&mut text)?;
     text.extend_from_slice(b", members")?;
-    print_members(view.members.as_slice(), &mut text)?;
+    print_members(held.view.members.as_slice(), &mut text)?;
     text.extend_from_slice(b": may use ")?;
-    print_number(&mut text, u64::from(usable(catalog, view)))?;
+    print_number(&mut text, u64::from(held.usable))?;
     text.extend_from_slice(b" of ")?;
     print_number(&mut text, catalog.count() as u64)?;
     text.extend_from_slice(b" records")?;
+    print_asked(held.asked, &mut text)?;
     Ok(Word::from_vec(text))
 }
 

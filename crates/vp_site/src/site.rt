@@ -10,12 +10,14 @@ use crate::fault::StartFault;
 use crate::messages::on_input;
 use crate::stepped::Stepped;
 use std::marker::Model;
-use vp_base::{CopyOf, Effects, Input, LogRecord, Newest, NoMemory, OPENING, SiteId, View, ViewId};
+use vp_base::{
+    Bars, CopyOf, Effects, Input, LogRecord, Newest, NoMemory, OPENING, SiteId, View, ViewId,
+};
 use vp_catalog::Catalog;
 use vp_coordinator::Coordinator;
 use vp_locks::Locks;
 use vp_participant::Participant;
-use vp_records::Durable;
+use vp_records::{Durable, SiteCopies};
 use vp_refresh::{Refresh, RefreshEntry};
 use vp_views::Views;
 
@@ -123,6 +125,20 @@ impl Site {
         ensures { result.now ≡ self.now.refresh }
     {
         self.state().refresh.as_slice()
+    }
+
+    /// The copies here.
+    pub fn copies(&self) -> &SiteCopies
+        ensures { result.now ≡ self.now.copies }
+    {
+        &self.state().coordinator.here.copies
+    }
+
+    /// The records that are barred here in the held view.
+    pub fn bars(&self) -> &Bars
+        ensures { result.now ≡ self.now.bars }
+    {
+        &self.state().coordinator.here.bars
     }
 
     /// The newest live transaction that began here, if there is one.

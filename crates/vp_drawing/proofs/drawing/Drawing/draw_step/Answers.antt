@@ -33,6 +33,6 @@ returns c =
     let stepped = c.in_ok-step.ensures.world in
     let new : Drawing = record { watch = c.next_by.new.stepper; sheet = c.draw.new.self; steps = old.steps + 1 } in
     let sheet =
-    c.in_ok-draw.ensures ∙ drawn_same c.args.number _ _ _ _ _ _ _ _ old.sheet (c.catalog.ensures ∙ ap (λ (k : Known). k.catalogue) stepped) (ap (λ (s : Shown). record { event = e; shown = s }) (c.shown.ensures ∙ c.in_ok-step.ensures.shown)) (c.looks-looks.ensures ∙ seen.looks_are) (c.joined-joined.ensures ∙ seen.joined_is) in
+    c.in_ok-draw.ensures ∙ drawn_same c.args.number _ _ _ _ _ _ _ _ old.sheet (c.catalog.ensures ∙ ap (λ (k : Known). k.catalogue) stepped) (ap (λ (s : Shown). record { event = e; shown = s }) (c.shown.ensures ∙ c.in_ok-step.ensures.shown)) (c.looks-looks.ensures ∙ seen.looks_are) (c.noted-noted.ensures ∙ seen.noted_is) in
     step_ends catalogue c.args.number e w old c.requires c.if-self-eq-MOST_STEPS.false new refl seen.catalogue_is seen.looks_are sheet
     c.in_ok-into_world.field-0 (c.in_ok-into_world.ensures ∙ stepped) c.within_messages.result c.within_messages.ensures
