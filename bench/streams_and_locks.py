@@ -79,9 +79,12 @@ def refused(vpdb, name, made):
     wrong = []
     for words in ("node 1 odd 100", "audit 1 odd"):
         made()
-        ended = run(vpdb, words, "site 1 7311\nrecord x 10 1:1\n", "")
-        if (ended.returncode, ended.stdout) != (7, "disk fault\n"):
-            wrong.append(f"{words} with {name}: status {ended.returncode}, {ended.stdout!r}")
+        try:
+            ended = run(vpdb, words, "site 1 7311\nrecord x 10 1:1\n", "")
+            if (ended.returncode, ended.stdout) != (7, "disk fault\n"):
+                wrong.append(f"{words} with {name}: status {ended.returncode}, {ended.stdout!r}")
+        except subprocess.TimeoutExpired:
+            wrong.append(f"{words} with {name}: it goes on")
         for half in ("odd.0", "odd.1"):
             if os.path.lexists(half):
                 os.remove(half)

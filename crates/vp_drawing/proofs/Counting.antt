@@ -1,5 +1,5 @@
 -- The numbers of records that are written with a view.
-use Rattle.std.proofs.Common.{◌≡◌, ◌<◌, ℕ, Bool, true, false, List, length, refl, sym, subst, arith}
+use Rattle.std.proofs.Common.{◌≡◌, ◌∙◌, ◌<◌, ℕ, Bool, true, false, List, length, refl, sym, arith}
 use Rattle.std.specs.Prelude.{not, ◌&&◌, ◌||◌, nat_le, if◌then◌else◌, is_some, Option, Some, None, option_and_then}
 use Rattle.std.specs.Option.{option_map_or}
 use Rattle.std.proofs.lemmas.Bool.Decides.{nat_tests}
@@ -14,7 +14,7 @@ use Rattle.vp_model.specs.Transactions.{Deed}
 use Rattle.vp_model.specs.Justified.{site_named}
 use Rattle.vp_model.specs.World.{Moment, moments_of, site_of}
 use Rattle.vp_pictures.specs.declared.sheet.Held.{Held}
-use Rattle.vp_drawing.specs.Claims.{HasHeld, IsDone, IsInaccessible, RecordsAreCounted, is_counted, read_of}
+use Rattle.vp_drawing.specs.Claims.{HasHeld, IsAsCounted, IsDone, IsInaccessible, RecordsAreCounted, read_of}
 use Rattle.vp_drawing.specs.Counts.{held_of, is_in_majority, is_refreshed, same_held}
 use Rattle.vp_drawing.specs.Looks.{noted}
 use Rattle.vp_drawing.specs.Moments.{held_at, noted_in}
@@ -59,17 +59,24 @@ module _ (catalogue : Catalogue) (site : SiteState) (rec : ℕ) (fresh : is_refr
     unfolding new_call with_record
     read_is = rw (found, few, here) refl
 
-    so_answered : (o : Option (ℕ × ℕ))
+    is_done : (o : Option (ℕ × ℕ)) → not (is_some o) ≡ true
         → read_of catalogue site rec txn name t p l
         ≡ option_map_or (λ (weights : ℕ × ℕ). lent_reply (answer.Inaccessible t.txn p.number name weights.0 weights.1) p.port l) o (read catalogue site.id site.held t p name rec l)
-        → if not (is_some o) then IsDone catalogue site rec txn name t p l else IsInaccessible catalogue site rec txn name t p l
-    so_answered None e = e
-    so_answered (Some weights) e = (weights.0, weights.1, e)
+        → IsDone catalogue site rec txn name t p l
+    is_done None h e = e
+    is_done (Some weights) h e = cc
 
-    read_counted : if is_counted catalogue site rec then IsDone catalogue site rec txn name t p l else IsInaccessible catalogue site rec txn name t p l
+    is_inaccessible : (o : Option (ℕ × ℕ)) → not (is_some o) ≡ false
+        → read_of catalogue site rec txn name t p l
+        ≡ option_map_or (λ (weights : ℕ × ℕ). lent_reply (answer.Inaccessible t.txn p.number name weights.0 weights.1) p.port l) o (read catalogue site.id site.held t p name rec l)
+        → IsInaccessible catalogue site rec txn name t p l
+    is_inaccessible None h e = let no : ⊥ = cc in absurd no
+    is_inaccessible (Some weights) h e = (weights.0, weights.1, e)
+
+    read_counted : IsAsCounted catalogue site rec txn name t p l
     read_counted =
-        subst (λ (b : Bool). if b then IsDone catalogue site rec txn name t p l else IsInaccessible catalogue site rec txn name t p l)
-        (sym (counted_unless refusal (value_at rec site.copies))) (so_answered refusal read_is)
+        let unless = sym (counted_unless refusal (value_at rec site.copies)) in
+        record { counted = λ h. is_done refusal (unless ∙ h) read_is; not_counted = λ h. is_inaccessible refusal (unless ∙ h) read_is }
 
 few_answers : (n : ℕ) → n < 64 → nat_le 64 n ≡ false
 few_answers n lt = grind (arith, nat_tests, lt)

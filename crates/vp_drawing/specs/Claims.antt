@@ -222,7 +222,7 @@ pub record HasHeld (catalogue : Catalogue) (m : Moment) (held : Held) : Type 0 w
 abbrev pub is_counted : Catalogue → SiteState → ℕ → Bool
 is_counted catalogue site rec = is_usable catalogue site rec || is_asked catalogue site rec
 
--- A new read of a record by a transaction that has calls left is done at the site, or is answered `inaccessible` there, with two weights.
+-- A new read of a record is done at the site, or is answered `inaccessible` there, with two weights.
 module _ (catalogue : Catalogue) (site : SiteState) (rec : ℕ) (txn : TxnId) (name : List ℕ) (t : Live) (p : Pending) (l : Lent) where
   abbrev pub read_of : Lent
   read_of = new_call catalogue site.id site.held t p (call.Read txn p.number name) l
@@ -233,11 +233,15 @@ module _ (catalogue : Catalogue) (site : SiteState) (rec : ℕ) (txn : TxnId) (n
   abbrev pub IsInaccessible : Type 0
   IsInaccessible = (inside : ℕ) × (total : ℕ) × (read_of ≡ lent_reply (answer.Inaccessible t.txn p.number name inside total) p.port l)
 
+  pub record IsAsCounted : Type 0 where
+    pub counted : is_counted catalogue site rec ≡ true → IsDone
+    pub not_counted : is_counted catalogue site rec ≡ false → IsInaccessible
+
 -- The numbers of a view that is noted are those of its site. A record whose copy isn't under refresh there is counted exactly where a read
--- of it is not answered `inaccessible` for weights.
+-- of it, by a transaction that has calls left, is not answered `inaccessible` for weights.
 pub record RecordsAreCounted : Type 0 where
   pub numbers : (s : Schedule) (turn : Turn (moments_of s)) (held : Held) → noted_in s.catalogue turn.now ≡ Some held → HasHeld s.catalogue turn.now held
   pub reads : (catalogue : Catalogue) (site : SiteState) (rec : ℕ) → is_refreshed site rec ≡ false
       → (txn : TxnId) (name : List ℕ) → find_record catalogue name ≡ Some rec
       → (t : Live) → length t.answers < 64 → (p : Pending) (l : Lent) → l.here ≡ site.here
-      → if is_counted catalogue site rec then IsDone catalogue site rec txn name t p l else IsInaccessible catalogue site rec txn name t p l
+      → IsAsCounted catalogue site rec txn name t p l
